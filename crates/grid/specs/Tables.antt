@@ -1,0 +1,45 @@
+-- The pair tables: the place of a pair, what a standing byte says, the cell of a pair, and when the tables are in order.
+use mathlib.Core.Bool.{Bool, true, _&&_, _||_, not, cond}
+use mathlib.Core.List.{List, [], _∷_}
+use Prim.Native.Nat.{ℕ, _+_, _*_}
+use lib.Dec.{eqb, ltb}
+use lib.IntN.{ℤ}
+use lib.ListN.{getD}
+use Rattle.std.specs.declared.option.Option.{Option}
+use Rattle.std.specs.declared.option.Option.the-variants.{Some, None}
+use Rattle.cost.specs.Columns.{within}
+
+-- the place of the pair of left block l and right block r
+abbrev pub placeOf : ℕ → ℕ → ℕ → ℕ
+placeOf n l r = l * n + r
+
+-- a standing byte says that its pair stands: 1 stands, 0 is absent
+abbrev pub saysStands : ℕ → Bool
+saysStands byte = eqb byte 1
+
+-- a standing byte says neither that its pair stands nor that it is absent
+abbrev pub saysDisturbed : ℕ → Bool
+saysDisturbed byte = ltb 1 byte
+
+-- the standing byte of a pair
+abbrev pub byteOf : ℕ → List ℕ → ℕ → ℕ → ℕ
+byteOf n standing l r = getD standing (placeOf n l r) 0
+
+-- the cell of a pair: its cost where it stands, nothing where it does not
+abbrev pub cell : {K : Type 0} → K → ℕ → List K → List ℕ → ℕ → ℕ → Option K
+cell nought n costs standing l r = cond (saysStands (byteOf n standing l r)) (Some (getD costs (placeOf n l r) nought)) None
+
+-- a place of the tables is in order: its byte is 0 or 1, and where it stands its cost is within 10^9 in each column
+abbrev pub placeOrderly : List ℤ → ℕ → Bool
+placeOrderly columns byte = not (saysDisturbed byte) && (not (saysStands byte) || within 1000000000 columns)
+
+-- the tables are in order, at every place that both have
+abbrev pub orderly : {K : Type 0} → (K → List ℤ) → List K → List ℕ → Bool
+orderly meaning [] bytes = true
+orderly meaning (cost ∷ costs) [] = true
+orderly meaning (cost ∷ costs) (byte ∷ bytes) = placeOrderly (meaning cost) byte && orderly meaning costs bytes
+
+-- how many pairs stand
+abbrev pub standingPairs : List ℕ → ℕ
+standingPairs [] = 0
+standingPairs (byte ∷ bytes) = cond (saysStands byte) 1 0 + standingPairs bytes

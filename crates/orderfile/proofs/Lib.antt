@@ -1,0 +1,12 @@
+pub mod Buffer
+pub mod Bytes
+pub mod Cells
+pub mod Ends
+pub mod Entering
+pub mod Fields
+pub mod Fronts
+pub mod Handed
+pub mod Listed
+pub mod Reading
+pub mod Saves
+pub mod Verdicts

@@ -1,0 +1,5 @@
+pub mod Format
+pub mod Faults
+pub mod Records
+pub mod Loading
+pub mod Saving
