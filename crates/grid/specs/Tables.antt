@@ -4,7 +4,7 @@ use mathlib.Core.List.{List, [], _∷_}
 use Prim.Native.Nat.{ℕ, _+_, _*_}
 use lib.Dec.{eqb, ltb}
 use lib.IntN.{ℤ}
-use lib.ListN.{getD}
+use lib.ListN.{getD, set, replicate}
 use Rattle.std.specs.declared.option.Option.{Option}
 use Rattle.std.specs.declared.option.Option.the-variants.{Some, None}
 use Rattle.cost.specs.Columns.{within}
@@ -28,6 +28,27 @@ byteOf n standing l r = getD standing (placeOf n l r) 0
 -- the cell of a pair: its cost where it stands, nothing where it does not
 abbrev pub cell : {K : Type 0} → K → ℕ → List K → List ℕ → ℕ → ℕ → Option K
 cell nought n costs standing l r = cond (saysStands (byteOf n standing l r)) (Some (getD costs (placeOf n l r) nought)) None
+
+-- the tables of a sheet of n blocks that was just opened: every pair is absent, at cost zero
+abbrev pub costsOpened : {K : Type 0} → K → ℕ → List K
+costsOpened nought n = replicate (n * n) nought
+
+abbrev pub standingOpened : ℕ → List ℕ
+standingOpened n = replicate (n * n) 0
+
+-- the tables after a pair was entered at a cost
+abbrev pub costsEntered : {K : Type 0} → ℕ → ℕ → ℕ → K → List K → List K
+costsEntered n l r cost costs = set costs (placeOf n l r) cost
+
+abbrev pub standingEntered : ℕ → ℕ → ℕ → List ℕ → List ℕ
+standingEntered n l r standing = set standing (placeOf n l r) 1
+
+-- the tables after a pair was struck
+abbrev pub costsStruck : {K : Type 0} → K → ℕ → ℕ → ℕ → List K → List K
+costsStruck nought n l r costs = set costs (placeOf n l r) nought
+
+abbrev pub standingStruck : ℕ → ℕ → ℕ → List ℕ → List ℕ
+standingStruck n l r standing = set standing (placeOf n l r) 0
 
 -- a place of the tables is in order: its byte is 0 or 1, and where it stands its cost is within 10^9 in each column
 abbrev pub placeOrderly : List ℤ → ℕ → Bool

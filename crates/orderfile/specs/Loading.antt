@@ -6,14 +6,14 @@ use mathlib.Core.List.{List, [], _∷_}
 use Prim.Native.Nat.{ℕ, _*_, _<_}
 use lib.Dec.{eqb}
 use lib.IntN.{ℤ, pos}
-use lib.ListN.{length, set, replicate}
+use lib.ListN.{length}
 use Rattle.std.specs.Options.{mapped}
 use Rattle.std.specs.declared.option.Option.{Option}
 use Rattle.std.specs.declared.option.Option.the-variants.{Some, None}
 use Rattle.std.specs.declared.result.Result.{Result}
 use Rattle.std.specs.declared.result.Result.the-variants.{Ok, Err}
 use Rattle.cost.specs.declared.plain_kind.Plain.{Plain}
-use Rattle.grid.specs.Tables.{placeOf, cell}
+use Rattle.grid.specs.Tables.{cell, costsOpened, standingOpened, costsEntered, standingEntered}
 use Rattle.sheet.specs.Opening.{sizes}
 use Rattle.sheet.specs.Refusals.{fault}
 use Rattle.sheet.specs.declared.fault.Cause.the-variants.{TableLength}
@@ -40,11 +40,11 @@ plain z = record { 0 = z }
 -- the tables of a sheet of n blocks after pairs were entered in turn
 abbrev pub costsAfter : ℕ → List StatedPair → List Plain → List Plain
 costsAfter n [] costs = costs
-costsAfter n (p ∷ ps) costs = costsAfter n ps (set costs (placeOf n (p .left) (p .right)) (plain (p .cost)))
+costsAfter n (p ∷ ps) costs = costsAfter n ps (costsEntered n (p .left) (p .right) (plain (p .cost)) costs)
 
 abbrev pub standingAfter : ℕ → List StatedPair → List ℕ → List ℕ
 standingAfter n [] standing = standing
-standingAfter n (p ∷ ps) standing = standingAfter n ps (set standing (placeOf n (p .left) (p .right)) 1)
+standingAfter n (p ∷ ps) standing = standingAfter n ps (standingEntered n (p .left) (p .right) standing)
 
 -- what pairs state of left block l and right block r: a later one replaces an earlier one
 abbrev pub orElse : {X : Type 0} → Option X → Option X → Option X
@@ -71,8 +71,8 @@ pub record Refused (f : Fault) (costs : List Plain) (standing : List ℕ) (r : R
 pub record Accepted (order : Order) (r : Result OpenSheet Fault) (costs′ : List Plain) (standing′ : List ℕ) : Type 0 where
   pub answers : sizes r ≡ Ok (order .size)
   -- exactly the tables that opening a sheet and entering the pairs in turn leave
-  pub enters-costs : costs′ ≡ costsAfter (order .size) (order .pairs) (replicate (order .size * order .size) (plain (pos 0)))
-  pub enters-standing : standing′ ≡ standingAfter (order .size) (order .pairs) (replicate (order .size * order .size) 0)
+  pub enters-costs : costs′ ≡ costsAfter (order .size) (order .pairs) (costsOpened (plain (pos 0)) (order .size))
+  pub enters-standing : standing′ ≡ standingAfter (order .size) (order .pairs) (standingOpened (order .size))
   -- which is the sheet that the file states
   pub shows : Shows order costs′ standing′
 

@@ -4,10 +4,11 @@ use mathlib.Core.Bool.{_||_}
 use mathlib.Core.List.{List, [], _∷_}
 use Prim.Native.Nat.{ℕ, _*_}
 use lib.Dec.{eqb, ltb}
-use lib.ListN.{length, replicate}
+use lib.ListN.{length}
 use Rattle.std.specs.declared.option.Option.{Option}
 use Rattle.std.specs.declared.result.Result.{Result}
 use Rattle.std.specs.declared.result.Result.the-variants.{Ok, Err}
+use Rattle.grid.specs.Tables.{costsOpened, standingOpened}
 use Rattle.sheet.specs.Refusals.{fault, firstOf, unlike, answer, after}
 use Rattle.sheet.specs.declared.fault.Fault.{Fault}
 use Rattle.sheet.specs.declared.fault.Cause.the-variants.{Size, TableLength}
@@ -27,5 +28,5 @@ sizes (Err f) = Err f
 pub record Opened {K : Type 0} (nought : K) (n : ℕ) (costs : List K) (standing : List ℕ)
     (r : Result OpenSheet Fault) (costs′ : List K) (standing′ : List ℕ) : Type 0 where
   pub answers : sizes r ≡ answer (openRefusal n (length costs) (length standing)) n
-  pub blanks : costs′ ≡ after (openRefusal n (length costs) (length standing)) costs (replicate (n * n) nought)
-  pub clears : standing′ ≡ after (openRefusal n (length costs) (length standing)) standing (replicate (n * n) 0)
+  pub blanks : costs′ ≡ after (openRefusal n (length costs) (length standing)) costs (costsOpened nought n)
+  pub clears : standing′ ≡ after (openRefusal n (length costs) (length standing)) standing (standingOpened n)

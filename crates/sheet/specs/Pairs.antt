@@ -4,11 +4,11 @@ use mathlib.Core.Bool.{Bool, not, _||_}
 use mathlib.Core.List.{List, [], _∷_, _++_}
 use Prim.Native.Nat.{ℕ, _*_}
 use lib.Dec.{leb}
-use lib.ListN.{length, getD, set}
+use lib.ListN.{length, getD}
 use Rattle.std.specs.declared.option.Option.{Option}
 use Rattle.std.specs.declared.result.Result.{Result}
 use Rattle.sheet.specs.Refusals.{fault, firstOf, unlike, answer, after}
-use Rattle.grid.specs.Tables.{placeOf, saysStands, saysDisturbed, byteOf}
+use Rattle.grid.specs.Tables.{placeOf, saysStands, saysDisturbed, byteOf, costsEntered, standingEntered, costsStruck, standingStruck}
 use Rattle.sheet.specs.declared.fault.Fault.{Fault}
 use Rattle.sheet.specs.declared.fault.Cause.the-variants.{TableLength, Block, CostRange, Absent, Inconsistent}
 
@@ -26,8 +26,8 @@ enterRefusal n costs bytes l r fits = firstOf (misplaced n costs bytes l r ++ to
 pub record Entered {K : Type 0} (n : ℕ) (costs : List K) (standing : List ℕ) (l r : ℕ) (cost : K) (fits : Bool)
     (a : Result (Unit {0}) Fault) (costs′ : List K) (standing′ : List ℕ) : Type 0 where
   pub answers : a ≡ answer (enterRefusal n (length costs) (length standing) l r fits) tt
-  pub stores : costs′ ≡ after (enterRefusal n (length costs) (length standing) l r fits) costs (set costs (placeOf n l r) cost)
-  pub raises : standing′ ≡ after (enterRefusal n (length costs) (length standing) l r fits) standing (set standing (placeOf n l r) 1)
+  pub stores : costs′ ≡ after (enterRefusal n (length costs) (length standing) l r fits) costs (costsEntered n l r cost costs)
+  pub raises : standing′ ≡ after (enterRefusal n (length costs) (length standing) l r fits) standing (standingEntered n l r standing)
 
 -- byte is the pair's standing byte
 abbrev pub notStanding : ℕ → List (Bool × Fault)
@@ -39,8 +39,8 @@ strikeRefusal n costs bytes l r byte = firstOf (misplaced n costs bytes l r ++ n
 pub record Struck {K : Type 0} (nought : K) (n : ℕ) (costs : List K) (standing : List ℕ) (l r : ℕ)
     (a : Result (Unit {0}) Fault) (costs′ : List K) (standing′ : List ℕ) : Type 0 where
   pub answers : a ≡ answer (strikeRefusal n (length costs) (length standing) l r (byteOf n standing l r)) tt
-  pub clears : costs′ ≡ after (strikeRefusal n (length costs) (length standing) l r (byteOf n standing l r)) costs (set costs (placeOf n l r) nought)
-  pub lowers : standing′ ≡ after (strikeRefusal n (length costs) (length standing) l r (byteOf n standing l r)) standing (set standing (placeOf n l r) 0)
+  pub clears : costs′ ≡ after (strikeRefusal n (length costs) (length standing) l r (byteOf n standing l r)) costs (costsStruck nought n l r costs)
+  pub lowers : standing′ ≡ after (strikeRefusal n (length costs) (length standing) l r (byteOf n standing l r)) standing (standingStruck n l r standing)
 
 -- reading is refused as striking is
 pub record Answered {K : Type 0} (nought : K) (n : ℕ) (costs : List K) (standing : List ℕ) (l r : ℕ) (a : Result K Fault) : Type 0 where
