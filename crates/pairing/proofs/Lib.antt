@@ -1,0 +1,13 @@
+pub mod Sums
+pub mod Counting
+pub mod Weighing
+pub mod Duality
+pub mod Attained
+pub mod Listing
+pub mod Members
+pub mod Closures
+pub mod Filling
+pub mod Crowds
+pub mod Sending
+pub mod Tests
+pub mod Shown
