@@ -1,16 +1,21 @@
 -- What a field without a fault states, and how far the file is read behind it.
+use mathlib.Core.Path.{_≡_}
 use mathlib.Core.Bool.{cond}
 use mathlib.Core.List.{List, [], _∷_}
-use Prim.Native.Nat.{ℕ}
+use Prim.Native.Nat.{ℕ, _+_}
 use lib.Dec.{eqb}
-use lib.ListN.{getD}
+use lib.ListN.{getD, drop}
 use Rattle.std.specs.declared.option.Option.{Option}
 use Rattle.std.specs.declared.option.Option.the-variants.{Some, None}
+use Rattle.std.specs.declared.result.Result.{Result}
+use Rattle.sheet.specs.Refusals.{answer, after}
+use Rattle.sheet.specs.declared.fault.Fault.{Fault}
 use Rattle.orderfile.specs.declared.record.Record.{Record}
 use Rattle.orderfile.specs.declared.record.Record.the-variants.{Size, Pair, End}
 use Rattle.orderfile.specs.declared.record.Stage.{Stage}
 use Rattle.orderfile.specs.declared.record.Stage.the-variants.{Start, Sized, Ended}
 use Rattle.orderfile.specs.declared.record.StatedPair.{StatedPair}
+use Rattle.orderfile.specs.Faults.{fieldFault}
 use Rattle.orderfile.specs.Format.{tagOf, valueOf, extent, pairIn}
 
 abbrev pub sizeIn : List ℕ → ℕ
@@ -51,3 +56,11 @@ abbrev pub passed : Stage → List ℕ → ℕ
 passed Start rest = extent rest
 passed (Sized n) rest = extent rest
 passed (Ended n) rest = 0
+
+-- one step of a record reader that stands at a stage, with `rest` left from the offset `at` on: it answers the fault of the next field and stays,
+-- or else answers its record and stands behind it
+pub record Steps (stage : Stage) (rest : List ℕ) (at : ℕ) (r : Result (Option Record) Fault) (stage′ : Stage) (rest′ : List ℕ) (at′ : ℕ) : Type 0 where
+  pub answers : r ≡ answer (fieldFault stage rest at) (recordNext stage rest)
+  pub stages : stage′ ≡ after (fieldFault stage rest at) stage (stageNext stage rest)
+  pub passes : rest′ ≡ after (fieldFault stage rest at) rest (drop (passed stage rest) rest)
+  pub moves : at′ ≡ after (fieldFault stage rest at) at (at + passed stage rest)

@@ -1,12 +1,11 @@
 //! Records: what each field states, with the rules for its tag, its length and its value.
 
 ghost use mathlib.Core.Path.{_≡_};
-ghost use Prim.Native.Nat.{_+_};
-ghost use lib.ListN.{length, drop};
-ghost use Rattle.sheet.specs.Refusals.{firstOf, answer, after};
-ghost use Rattle.orderfile.specs.Faults.{sizeChecks, pairChecks, endChecks, recordFault, fieldFault};
+ghost use lib.ListN.{length};
+ghost use Rattle.sheet.specs.Refusals.{firstOf, answer};
+ghost use Rattle.orderfile.specs.Faults.{sizeChecks, pairChecks, endChecks, recordFault};
 ghost use Rattle.orderfile.specs.Format.{pairIn};
-ghost use Rattle.orderfile.specs.Records.{sizeIn, recordIn, recordNext, stageAfter, stageNext, passed};
+ghost use Rattle.orderfile.specs.Records.{sizeIn, recordIn, stageAfter, Steps};
 ghost use Rattle.orderfile.specs.declared.record.Record.the-variants.{End as EndRecord};
 ghost use Rattle.orderfile.specs.declared.record.Stage.the-variants.{Start as AtStart};
 use crate::field::Field;
@@ -41,10 +40,7 @@ impl<'a> RecordReader<'a> {
 
     /// The next record, or none where the file is at its end; a fault leaves the reader before it.
     pub fn next(&mut self) -> Result<Option<Record>, Fault>
-        ensures answers { λ r. ⌜ r ≡ answer (fieldFault (now (self .entry) .stage) (now (now (self .entry) .fields .rest)) (now (self .entry) .fields .at)) (recordNext (now (self .entry) .stage) (now (now (self .entry) .fields .rest))) ⌝ }
-        ensures stages { λ _. ⌜ now (self .exit) .stage ≡ after (fieldFault (now (self .entry) .stage) (now (now (self .entry) .fields .rest)) (now (self .entry) .fields .at)) (now (self .entry) .stage) (stageNext (now (self .entry) .stage) (now (now (self .entry) .fields .rest))) ⌝ }
-        ensures passes { λ _. ⌜ now (now (self .exit) .fields .rest) ≡ after (fieldFault (now (self .entry) .stage) (now (now (self .entry) .fields .rest)) (now (self .entry) .fields .at)) (now (now (self .entry) .fields .rest)) (drop (passed (now (self .entry) .stage) (now (now (self .entry) .fields .rest))) (now (now (self .entry) .fields .rest))) ⌝ }
-        ensures moves { λ _. ⌜ now (self .exit) .fields .at ≡ after (fieldFault (now (self .entry) .stage) (now (now (self .entry) .fields .rest)) (now (self .entry) .fields .at)) (now (self .entry) .fields .at) (now (self .entry) .fields .at + passed (now (self .entry) .stage) (now (now (self .entry) .fields .rest))) ⌝ }
+        ensures { λ r. ⌜ Steps (now (self .entry) .stage) (now (now (self .entry) .fields .rest)) (now (self .entry) .fields .at) r (now (self .exit) .stage) (now (now (self .exit) .fields .rest)) (now (self .exit) .fields .at) ⌝ }
     {
         if let Stage::Ended(_) = self.stage {
             return if self.fields.is_done() {
