@@ -1,6 +1,6 @@
 -- Where the rail is not reached, sums and differences are exact.
 -- Idea: column by column, the size of a sum or difference is at most the sizes together, and a number on the rail is its own nearest one.
-use mathlib.Core.Path.{_≡_, refl, ap}
+use mathlib.Core.Path.{_≡_, refl, ap, _∙_}
 use mathlib.Core.Bool.{true}
 use mathlib.Core.List.{List, [], _∷_}
 use Prim.Native.Nat.{ℕ, zero, suc, _+_, _≤_}
@@ -20,9 +20,13 @@ railed-same (pos n) h = ap pos (omega arith)
 railed-same (negsuc n) h = ap negsuc (omega arith)
 
 -- what lies on the rail is not moved again
-pub railed-twice : (z : ℤ) → railed (railed z) ≡ railed z
+railed-twice : (z : ℤ) → railed (railed z) ≡ railed z
 railed-twice (pos n) = ap pos (omega arith)
 railed-twice (negsuc n) = ap negsuc (omega arith)
+
+-- so a number that was bounded means itself
+pub bounded-means : (x z : ℤ) → x ≡ railed z → _≡_ {A = List ℤ} (railed x ∷ []) (railed z ∷ [])
+bounded-means x z e = ap (λ t. railed t ∷ []) e ∙ ap (λ t. t ∷ []) (railed-twice z)
 
 abs-plus : (x y : ℤ) → natAbs (x +ℤ y) ≤ natAbs x + natAbs y
 abs-plus x y = omega (arith, ints)

@@ -21,6 +21,10 @@ saysStands byte = eqb byte 1
 abbrev pub saysDisturbed : ℕ → Bool
 saysDisturbed byte = ltb 1 byte
 
+-- pair tables of these lengths fit n left and n right blocks
+abbrev pub fitting : ℕ → ℕ → ℕ → Bool
+fitting n costs bytes = eqb costs (n * n) && eqb bytes (n * n)
+
 -- the standing byte of a pair
 abbrev pub byteOf : ℕ → List ℕ → ℕ → ℕ → ℕ
 byteOf n standing l r = getD standing (placeOf n l r) 0

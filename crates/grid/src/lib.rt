@@ -3,7 +3,7 @@
 ghost use mathlib.Core.Path.{_≡_};
 ghost use Prim.Native.Nat.{_*_, _≤_};
 ghost use lib.ListN.{length};
-ghost use Rattle.grid.specs.Tables.{placeOf, saysStands, saysDisturbed, placeOrderly, orderly, standingPairs};
+ghost use Rattle.grid.specs.Tables.{placeOf, fitting, saysStands, saysDisturbed, placeOrderly, orderly, standingPairs};
 use cost::Cost;
 
 /// The largest number of blocks of a plane.
@@ -17,6 +17,13 @@ pub fn pairs_of(n: u16) -> usize
     ensures { λ r. ⌜ r ≡ n * n ⌝ }
 {
     n as usize * n as usize
+}
+
+/// Whether pair tables of these lengths fit n left and n right blocks.
+pub fn fits(n: u16, costs: usize, standing: usize) -> bool
+    ensures { λ r. ⌜ r ≡ fitting n costs standing ⌝ }
+{
+    costs == pairs_of(n) && standing == pairs_of(n)
 }
 
 /// The place of the pair of left block `left` and right block `right` in the pair tables.

@@ -2,7 +2,7 @@
 -- Idea: the file states an order, so loading shows in each cell what the pairs state. A pair of blocks that stands is named once, at its
 -- cost, and one that is absent is not named, so that is what the cell held.
 use mathlib.Core.Path.{_≡_, refl, sym, ap, subst, _∙_}
-use mathlib.Core.Bool.{Bool, true, false, cond, not, _&&_, _||_}
+use mathlib.Core.Bool.{Bool, true, false, cond, not, _&&_}
 use mathlib.Core.List.{List, [], _∷_, _++_, append-assoc}
 use mathlib.Core.Logic.{_⊎_, inl, inr, ⊎-elim}
 use Prim.Native.Nat.{ℕ, zero, suc, _+_, _*_, _≤_, _<_}
@@ -13,7 +13,6 @@ use lib.ListN.{length, getD, take, drop}
 use Rattle.std.proofs.shelf.Elements.{all-weaker}
 use Rattle.std.proofs.shelf.Lists.{length-append, take-at, drop-drop}
 use Rattle.std.proofs.shelf.Tests.{cases-bool, cond-true, cond-false, and-parts, eqb-true, lt-ltb, le-ltb}
-use Rattle.std.proofs.shelf.Ways.{tells}
 use Rattle.std.specs.Options.{mapped}
 use Rattle.std.specs.shelf.Lists.{All, joined}
 use Rattle.std.specs.declared.option.Option.{Option}
@@ -21,10 +20,10 @@ use Rattle.std.specs.declared.option.Option.the-variants.{Some, None}
 use Rattle.std.specs.declared.result.Result.{Result}
 use Rattle.std.specs.declared.result.Result.the-variants.{Ok, Err}
 use Rattle.cost.specs.declared.plain_kind.Plain.{Plain}
-use Rattle.grid.specs.Tables.{saysStands, byteOf, cell, standingPairs}
+use Rattle.grid.specs.Tables.{fitting, saysStands, byteOf, cell, standingPairs}
 use Rattle.sheet.specs.declared.fault.Cause.the-variants.{TableLength, Inconsistent, ShortBuffer}
 use Rattle.sheet.specs.declared.fault.Fault.{Fault}
-use Rattle.sheet.specs.Refusals.{fault, unlike}
+use Rattle.sheet.specs.Refusals.{fault}
 use Rattle.sheet.proofs.Refused.{refused, accepted}
 use Rattle.orderfile.specs.declared.record.StatedPair.{StatedPair}
 use Rattle.orderfile.specs.Format.{Order, Sound, SoundPair, States, pairField, endField, sizeField, fileOf}
@@ -103,32 +102,22 @@ module _ (n : ℕ) (some : 1 ≤ n) (few : n ≤ 64) (costs : List Plain) (stand
 
 -- when saving is refused
 module _ (n : ℕ) (costs : List Plain) (standing : List ℕ) (room : ℕ) where
-  lengths : Bool
-  lengths = unlike (length costs) (n * n) || unlike (length standing) (n * n)
+  pub save-misfits : fitting n (length costs) (length standing) ≡ false → saveRefusal n costs standing room ≡ Some (fault TableLength 0)
+  unfolding saveRefusal
+  save-misfits wrong = cond-true _ _ _ (ap not wrong)
 
-  lengths-right : length costs ≡ n * n → length standing ≡ n * n → lengths ≡ false
-  unfolding lengths
-  lengths-right ec eb = grind (arith, tells)
-
-  pub save-misfits : ((length costs ≡ n * n) × (length standing ≡ n * n) → ⊥) → saveRefusal n costs standing room ≡ Some (fault TableLength 0)
-  unfolding saveRefusal lengths
-  save-misfits unfit =
-      ⊎-elim (λ wrong. cond-true _ _ _ wrong)
-      (λ right. let a : length costs ≡ n * n = grind (arith, tells, right) in let b : length standing ≡ n * n = grind (arith, tells, right) in absurd (unfit (a, b)))
-      (cases-bool lengths)
-
-  module _ (ec : length costs ≡ n * n) (eb : length standing ≡ n * n) where
+  module _ (fit : fitting n (length costs) (length standing) ≡ true) where
     pub save-disturbed : plainOrderly costs standing ≡ false → saveRefusal n costs standing room ≡ Some (fault Inconsistent 0)
-    unfolding saveRefusal lengths
-    save-disturbed e = cond-false _ _ _ (lengths-right ec eb) ∙ cond-true _ _ _ (ap not e)
+    unfolding saveRefusal
+    save-disturbed e = cond-false _ _ _ (ap not fit) ∙ cond-true _ _ _ (ap not e)
 
     pub save-short : plainOrderly costs standing ≡ true → room < savedLength standing → saveRefusal n costs standing room ≡ Some (fault ShortBuffer 0)
-    unfolding saveRefusal lengths
-    save-short e h = cond-false _ _ _ (lengths-right ec eb) ∙ cond-false _ _ _ (ap not e) ∙ cond-true _ _ _ (lt-ltb room (savedLength standing) h)
+    unfolding saveRefusal
+    save-short e h = cond-false _ _ _ (ap not fit) ∙ cond-false _ _ _ (ap not e) ∙ cond-true _ _ _ (lt-ltb room (savedLength standing) h)
 
     pub save-accepts : plainOrderly costs standing ≡ true → savedLength standing ≤ room → saveRefusal n costs standing room ≡ None
-    unfolding saveRefusal lengths
-    save-accepts e h = cond-false _ _ _ (lengths-right ec eb) ∙ cond-false _ _ _ (ap not e) ∙ cond-false _ _ _ (le-ltb room (savedLength standing) h)
+    unfolding saveRefusal
+    save-accepts e h = cond-false _ _ _ (ap not fit) ∙ cond-false _ _ _ (ap not e) ∙ cond-false _ _ _ (le-ltb room (savedLength standing) h)
 
 -- the bytes of the listed pairs, by their number
 pub listed-length : (n : ℕ) → 1 ≤ n → (costs : List Plain) (standing : List ℕ) → length standing ≡ n * n → 4 + length (joined pairField (listed n costs standing 0 (n * n))) + 3 ≡ savedLength standing

@@ -1,6 +1,6 @@
 -- What `save` answers, and what it leaves in the buffer, at every input.
 use mathlib.Core.Path.{_≡_}
-use mathlib.Core.Bool.{Bool, cond, not, _&&_, _||_}
+use mathlib.Core.Bool.{Bool, cond, not, _&&_}
 use mathlib.Core.List.{List, [], _∷_, _++_}
 use Prim.Native.Nat.{ℕ, zero, suc, _+_, _*_, _/_, _%_, _<_}
 use lib.Dec.{eqb, ltb}
@@ -13,9 +13,9 @@ use Rattle.std.specs.declared.result.Result.{Result}
 use Rattle.std.specs.declared.result.Result.the-variants.{Ok}
 use Rattle.cost.specs.Columns.{railed}
 use Rattle.cost.specs.declared.plain_kind.Plain.{Plain}
-use Rattle.grid.specs.Tables.{saysStands, byteOf, cell, orderly, standingPairs}
+use Rattle.grid.specs.Tables.{fitting, saysStands, byteOf, cell, orderly, standingPairs}
 use Rattle.sheet.specs.Opening.{sizes}
-use Rattle.sheet.specs.Refusals.{fault, firstOf, unlike, answer}
+use Rattle.sheet.specs.Refusals.{fault, firstOf, answer}
 use Rattle.sheet.specs.declared.fault.Cause.the-variants.{TableLength, Inconsistent, ShortBuffer}
 use Rattle.sheet.specs.declared.fault.Fault.{Fault}
 use Rattle.sheet.specs.declared.state.OpenSheet.{OpenSheet}
@@ -34,7 +34,7 @@ plainOrderly costs standing = orderly (λ p. railed (p .0) ∷ []) costs standin
 -- room is the length of the buffer
 unfoldable pub saveRefusal : ℕ → List Plain → List ℕ → ℕ → Option Fault
 saveRefusal n costs standing room = firstOf (
-    (unlike (length costs) (n * n) || unlike (length standing) (n * n), fault TableLength 0) ∷
+    (not (fitting n (length costs) (length standing)), fault TableLength 0) ∷
     (not (plainOrderly costs standing), fault Inconsistent 0) ∷
     (ltb room (savedLength standing), fault ShortBuffer 0) ∷ [])
 

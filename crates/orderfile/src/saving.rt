@@ -10,8 +10,8 @@ ghost use Rattle.orderfile.specs.Saving.{savedLength, pairAt, listed, Saved};
 use crate::record::StatedPair;
 use cost::Plain;
 use cost::PlainCost;
+use grid::fits;
 use grid::in_order;
-use grid::pairs_of;
 use grid::standing_pairs;
 use grid::stands;
 use sheet::fault::Cause;
@@ -39,7 +39,7 @@ pub fn save(
     ensures { λ r. ⌜ Saved (now (sheet .entry) .n) (now (costs .entry)) (now (standing .entry)) (now (out .entry)) r (now (out .exit)) ⌝ }
 {
     let n = sheet.size();
-    if costs.len() != pairs_of(n) || standing.len() != pairs_of(n) {
+    if !fits(n, costs.len(), standing.len()) {
         return Err(Cause::TableLength.at(0));
     }
     if !in_order(costs, standing) {

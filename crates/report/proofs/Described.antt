@@ -8,10 +8,13 @@ use native.Mathlib.Omega.{arith}
 use lib.Chars.{codes}
 use lib.IntN.{ℤ}
 use lib.ListN.{length}
+use Rattle.std.proofs.shelf.Results.{made-weaker}
 use Rattle.std.specs.Options.{mapped}
+use Rattle.std.specs.Vec.{made}
 use Rattle.std.specs.Written.{decimal}
 use Rattle.std.specs.declared.option.Option.{Option}
 use Rattle.std.specs.declared.option.Option.the-variants.{Some, None}
+use Rattle.std.specs.declared.result.Result.{Result}
 use Rattle.std.specs.declared.result.Result.the-variants.{Ok, Err}
 use Rattle.cost.specs.declared.plain_kind.Plain.{Plain}
 use Rattle.sheet.specs.declared.fault.Fault.{Fault}
@@ -38,6 +41,10 @@ module _ (file text : List ℕ) where
     states = λ o t. absurd (not-both file o f t s);
     faulty = λ g t. e ∙ ap refusal (one-fault file f g s t);
   }
+
+-- the line of a fault describes the file that has it first, if there was memory for the line
+pub line-describes : {X Y : Type 0} (bytes : X → List ℕ) (line : Result X Y) (file : List ℕ) (f : Fault) → FirstFault file f → made line (λ text. bytes text ≡ refusal f) → made line (λ text. Describes file (bytes text))
+line-describes bytes line file f s h = made-weaker line (λ text. bytes text ≡ refusal f) (λ text. Describes file (bytes text)) (λ text e. describes-fault file (bytes text) f s e) h
 
 -- what loading into tables that fit tells
 module _ (file : List ℕ) (costs : List Plain) (standing : List ℕ) (fits : (order : Order) → States file order → Fitting (order .size) costs standing) (costs′ : List Plain) (standing′ : List ℕ) where

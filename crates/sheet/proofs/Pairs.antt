@@ -18,6 +18,10 @@ use Rattle.sheet.specs.Refusals.{fault, firstOf, answer}
 use Rattle.sheet.specs.Pairs.{misplaced, tooLarge, notStanding, enterRefusal, strikeRefusal}
 use Rattle.sheet.proofs.Refused.{first-refuses, first-passes, from-err, from-ok, cleared}
 
+-- blocks that exist in tables of the right length pass the shared checks
+pub misplaced-not : (n costs bytes l r : ℕ) → costs ≡ n * n → bytes ≡ n * n → l < n → r < n → firstOf (misplaced n costs bytes l r) ≡ None
+misplaced-not n costs bytes l r hc hb hl hr = grind (arith, tells)
+
 module _ (n costs bytes l r : ℕ) where
   pub enter-misplaced : (fits : Bool) (f : Fault) → firstOf (misplaced n costs bytes l r) ≡ Some f → enterRefusal n costs bytes l r fits ≡ Some f
   unfolding enterRefusal
@@ -36,8 +40,7 @@ module _ (n costs bytes l r : ℕ) where
   strike-goes-on byte e = first-passes (misplaced n costs bytes l r) (notStanding byte) e
 
 pub enter-accepts : (n costs bytes l r : ℕ) (fits : Bool) → costs ≡ n * n → bytes ≡ n * n → l < n → r < n → fits ≡ true → enterRefusal n costs bytes l r fits ≡ None
-unfolding enterRefusal
-enter-accepts n costs bytes l r fits hc hb hl hr hf = grind (arith, tells)
+enter-accepts n costs bytes l r fits hc hb hl hr hf = enter-goes-on n costs bytes l r fits (misplaced-not n costs bytes l r hc hb hl hr) ∙ ap (λ b. firstOf (tooLarge b)) hf
 
 pub not-standing : (byte : ℕ) (d s : Bool) → saysDisturbed byte ≡ d → saysStands byte ≡ s → firstOf (notStanding byte) ≡ cond d (Some (fault Inconsistent 0)) (cond (not s) (Some (fault Absent 0)) None)
 not-standing byte d s h k =
@@ -46,10 +49,6 @@ not-standing byte d s h k =
 
 pub too-large : (fits b : Bool) → b ≡ fits → firstOf (tooLarge fits) ≡ cond (not b) (Some (fault CostRange 0)) None
 too-large fits b h = ap (λ t. cond (not t) (Some (fault CostRange 0)) None) (sym h)
-
--- blocks that exist in tables of the right length pass the shared checks
-misplaced-not : (n costs bytes l r : ℕ) → costs ≡ n * n → bytes ≡ n * n → l < n → r < n → firstOf (misplaced n costs bytes l r) ≡ None
-misplaced-not n costs bytes l r hc hb hl hr = grind (arith, tells)
 
 -- there, reading answers exactly where the pair stands
 module _ (n costs bytes l r : ℕ) (hc : costs ≡ n * n) (hb : bytes ≡ n * n) (hl : l < n) (hr : r < n) (byte : ℕ) where

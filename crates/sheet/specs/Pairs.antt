@@ -2,19 +2,19 @@
 use mathlib.Core.Path.{_≡_}
 use mathlib.Core.Bool.{Bool, not, _||_}
 use mathlib.Core.List.{List, [], _∷_, _++_}
-use Prim.Native.Nat.{ℕ, _*_}
+use Prim.Native.Nat.{ℕ}
 use lib.Dec.{leb}
 use lib.ListN.{length, getD}
 use Rattle.std.specs.declared.option.Option.{Option}
 use Rattle.std.specs.declared.result.Result.{Result}
-use Rattle.sheet.specs.Refusals.{fault, firstOf, unlike, answer, after}
-use Rattle.grid.specs.Tables.{placeOf, saysStands, saysDisturbed, byteOf, costsEntered, standingEntered, costsStruck, standingStruck}
+use Rattle.sheet.specs.Refusals.{fault, firstOf, answer, after}
+use Rattle.grid.specs.Tables.{placeOf, fitting, saysStands, saysDisturbed, byteOf, costsEntered, standingEntered, costsStruck, standingStruck}
 use Rattle.sheet.specs.declared.fault.Fault.{Fault}
 use Rattle.sheet.specs.declared.fault.Cause.the-variants.{TableLength, Block, CostRange, Absent, Inconsistent}
 
 -- the tables have the wrong length, or a block does not exist; costs and bytes are the lengths of the two pair tables
 abbrev pub misplaced : (n costs bytes l r : ℕ) → List (Bool × Fault)
-misplaced n costs bytes l r = (unlike costs (n * n) || unlike bytes (n * n), fault TableLength 0) ∷ (leb n l || leb n r, fault Block 0) ∷ []
+misplaced n costs bytes l r = (not (fitting n costs bytes), fault TableLength 0) ∷ (leb n l || leb n r, fault Block 0) ∷ []
 
 -- fits says that the cost is within 10^9 in each column
 abbrev pub tooLarge : Bool → List (Bool × Fault)

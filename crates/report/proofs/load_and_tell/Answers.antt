@@ -4,8 +4,8 @@ use Prim.Native.Nat.{ℕ, _*_}
 use Rattle.std.proofs.shelf.Results.{made-weaker}
 use Rattle.std.specs.Of.String.{string-bytes}
 use Rattle.report.specs.Describing.{Describes}
-use Rattle.report.specs.Text.{sheetText, refusal}
-use Rattle.report.proofs.Described.{describes-order, describes-fault, loads-order, loads-fault, told}
+use Rattle.report.specs.Text.{sheetText}
+use Rattle.report.proofs.Described.{describes-order, line-describes, loads-order, loads-fault, told}
 use Rattle.report.proofs.load_and_tell.Needs as need
 
 pub tell-requires : need.tell-requires
@@ -26,6 +26,5 @@ returns-in-Ok c =
 
 pub returns-in-Err : need.returns-in-Err
 returns-in-Err c =
-    let f = loads-fault _ _ _ (c .pre) _ _ (c .in-Err .fault) (c .in-Err .ensures tt) in
-    made-weaker (c .refusal-line .result) (λ text. string-bytes text ≡ refusal (c .in-Err .fault)) (λ text. Describes (c .args .file .now) (string-bytes text))
-    (λ text e. describes-fault (c .args .file .now) (string-bytes text) (c .in-Err .fault) f e) (c .refusal-line .ensures)
+    let f = c .in-Err .fault in
+    line-describes string-bytes (c .refusal-line .result) (c .args .file .now) f (loads-fault _ _ _ (c .pre) _ _ f (c .in-Err .ensures tt)) (c .refusal-line .ensures)

@@ -16,7 +16,7 @@ use cost::Cost;
 use grid::COST_LIMIT;
 use grid::MOST_BLOCKS;
 use grid::disturbed;
-use grid::pairs_of;
+use grid::fits;
 use grid::place;
 use grid::stands;
 
@@ -30,7 +30,7 @@ pub fn open<K: Cost>(n: u16, costs: &mut [K], standing: &mut [u8]) -> Result<Ope
     if n == 0 || n > MOST_BLOCKS {
         return Err(Cause::Size.at(0));
     }
-    if costs.len() != pairs_of(n) || standing.len() != pairs_of(n) {
+    if !fits(n, costs.len(), standing.len()) {
         return Err(Cause::TableLength.at(0));
     }
     fill(costs, K::zero());
@@ -116,7 +116,7 @@ impl OpenSheet {
         ensures answers { λ r. ⌜ r ≡ answer (firstOf (misplaced (now (self .entry) .n) costs standing left right)) (placeOf (now (self .entry) .n) left right) ⌝ }
         ensures inside { λ r. ⌜ made r (λ at. (at < costs) × (at < standing)) ⌝ }
     {
-        if costs != pairs_of(self.n) || standing != pairs_of(self.n) {
+        if !fits(self.n, costs, standing) {
             return Err(Cause::TableLength.at(0));
         }
         if left >= self.n || right >= self.n {

@@ -1,15 +1,14 @@
 -- The returned number lies on the rail, so that it means itself.
-use mathlib.Core.Path.{_≡_, ap, _∙_}
-use mathlib.Core.List.{[], _∷_}
+use mathlib.Core.Path.{_≡_}
 use borrow.Author.Needs.{needs}
 use lib.IntN.{_-ℤ_}
 use mir.Syntax.{w64}
 use mir.Val.{toZ, ofZ}
 use Rattle.cost.specs.Columns.{railed}
-use Rattle.cost.proofs.Exact.{railed-twice}
+use Rattle.cost.proofs.Exact.{bounded-means}
 use Rattle.cost.proofs.plain_kind.PlainCost.take_away.Needs as need
 
 pub returns : need.returns
 returns c =
     let e : toZ w64 (ofZ w64 (c .on-rail-3 .result)) ≡ railed (railed (c .args .self .0) -ℤ railed (c .args .other .0)) = search needs in
-    record { means = ap (λ t. railed t ∷ []) e ∙ ap (λ t. t ∷ []) (railed-twice _); bounded = e }
+    record { means = bounded-means _ _ e; bounded = e }
