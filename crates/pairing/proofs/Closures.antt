@@ -10,8 +10,10 @@ use native.Mathlib.Omega.{arith}
 use lib.Dec.{eqb}
 use Rattle.std.proofs.shelf.Ways.{tells}
 use Rattle.std.proofs.shelf.Tests.{cases-eq, cases-bool, or-cases, or-left, or-right, and-parts, and-from, eqb-true, eq-eqb, ne-eqb, both-ways, not-true, not-from-false, not-from-true, cond-true, cond-false}
-use Rattle.pairing.specs.Largest.{members, some-below}
-use Rattle.pairing.proofs.Members.{some-tells, members-with}
+use Rattle.blockset.specs.Sets.{members}
+use Rattle.blockset.proofs.Members.{members-with}
+use Rattle.pairing.specs.Largest.{some-below}
+use Rattle.pairing.proofs.Members.{some-tells}
 
 module _ (n : ℕ) (start : ℕ → Bool) (edge : ℕ → ℕ → Bool) where
   -- y is of the start, or one step behind an x of smaller rank

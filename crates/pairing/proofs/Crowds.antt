@@ -15,11 +15,13 @@ use Rattle.std.specs.Orderings.{Decides}
 use Rattle.std.proofs.shelf.Lists.{length-replicate}
 use Rattle.std.proofs.shelf.Ways.{decides-like, same-from-decides}
 use Rattle.std.proofs.shelf.Tests.{cases-bool, or-left, or-right, and-parts, and-from, eqb-true, eq-eqb, ne-eqb, both-ways, true≢false, not-true, not-from-false, leb-true, leb-false, le-leb}
+use Rattle.blockset.specs.Sets.{members}
+use Rattle.blockset.proofs.Members.{members-like, members-with, members-without, members-split, members-none, members-no, inject-le}
 use Rattle.pairing.specs.Grid.{at, Perfect}
-use Rattle.pairing.specs.Largest.{members, some-below, Partial, Largest, Crowd, Crowd-set, around}
+use Rattle.pairing.specs.Largest.{some-below, Partial, Largest, Crowd, Crowd-set, around}
 use Rattle.pairing.specs.Chains.{Reached, free, onward, Held, Stuck, Shut}
 use Rattle.pairing.specs.Theorems.{Leaves-out, Hall, Largest-if-stuck, Crowd-if-reached, Short-by}
-use Rattle.pairing.proofs.Members.{some-tells, members-like, members-with, members-without, members-split, members-none, members-no, inject-le, pairs-and-out}
+use Rattle.pairing.proofs.Members.{some-tells, pairs-and-out}
 use Rattle.pairing.proofs.Closures.{Closure, closure, reached-all}
 use Rattle.pairing.proofs.Filling.{fill}
 

@@ -17,9 +17,7 @@ use Rattle.pairing.specs.Grid.{at}
 use Rattle.pairing.specs.Largest.{Partial}
 
 -- E: left blocks that the chain may end at; F: those that are left out while it is exchanged; D: those that are reached
-module _ (n : ℕ) (stands : ℕ → ℕ → Bool) (p : List ℕ) (E F D : ℕ → Bool) (rank : ℕ → ℕ) (top : ℕ)
-    (back : (x : ℕ) → x < n → D x ≡ true → rank x < top
-    → (E x ≡ true) ⊎ ((F x ≡ false) × ((m : ℕ) × (m < n) × (D m ≡ true) × (stands m (at p x) ≡ true) × (rank m < rank x)))) where
+module _ (n : ℕ) (stands : ℕ → ℕ → Bool) (p : List ℕ) (E F D : ℕ → Bool) (rank : ℕ → ℕ) (top : ℕ) where
   -- in q no left block has right block r, which left block m is to take; blocks of smaller rank have what p gives them
   pub record Hole (q : List ℕ) (r m : ℕ) : Type 0 where
     pub part : Partial n stands q F
@@ -39,7 +37,7 @@ module _ (n : ℕ) (stands : ℕ → ℕ → Bool) (p : List ℕ) (E F D : ℕ �
     at-other x ne = getD-set-other q m x r 0 ne
 
     -- m takes the right block, whether or not it was left out
-    took : (G : ℕ → Bool) → ((x : ℕ) → G x ≡ false → (x ≡ m → ⊥) → F x ≡ false) → Partial n stands (set q m r) G
+    pub took : (G : ℕ → Bool) → ((x : ℕ) → G x ≡ false → (x ≡ m → ⊥) → F x ≡ false) → Partial n stands (set q m r) G
     took G g = record {
       len = length-set q m r ∙ h .part .len;
       below = λ x j f. elim (cases-eq x m) [ inl e ↦ rw (e, at-m) (h .inside) | inr ne ↦ rw (at-other x ne) (h .part .below x j (g x f ne)) ];
@@ -57,7 +55,7 @@ module _ (n : ℕ) (stands : ℕ → ℕ → Bool) (p : List ℕ) (E F D : ℕ �
     }
 
     -- m had a right block, which is free now, and m′ is to take it
-    next : F m ≡ false → (m′ : ℕ) → m′ < n → D m′ ≡ true → stands m′ (at p m) ≡ true → rank m′ < rank m → Hole (set q m r) (at q m) m′
+    pub next : F m ≡ false → (m′ : ℕ) → m′ < n → D m′ ≡ true → stands m′ (at p m) ≡ true → rank m′ < rank m → Hole (set q m r) (at q m) m′
     next held m′ i d w less = record {
       part = took F (λ x f ne. f);
       inside = h .part .below m (h .taker) held;
@@ -72,9 +70,11 @@ module _ (n : ℕ) (stands : ℕ → ℕ → Bool) (p : List ℕ) (E F D : ℕ �
       ahead = λ x j le. at-other x (λ e. omega (arith, ap rank e)) ∙ h .ahead x j (omega arith);
     }
 
-  pub fill : (b : ℕ) (q : List ℕ) (r m : ℕ) → Hole q r m → rank m < b → (q′ : List ℕ) × (f : ℕ) × (f < n) × (E f ≡ true) × Partial n stands q′ (λ x. F x && not (eqb x f))
-  fill zero q r m h low = absurd (omega arith)
-  fill (suc b) q r m h low = elim (back m (h .taker) (h .member) (h .under)) [
-    | inl e ↦ (set q m r, m, h .taker, e, took q r m h (λ x. F x && not (eqb x m)) (λ x f ne. grind (arith, tells)))
-    | inr w ↦ let v = w .1 in fill b (set q m r) (at q m) (v .0) (next q r m h (w .0) (v .0) (v .1) (v .2) (v .3) (v .4)) (omega (arith, v .4))
-  ]
+  module _ (back : (x : ℕ) → x < n → D x ≡ true → rank x < top
+      → (E x ≡ true) ⊎ ((F x ≡ false) × ((m : ℕ) × (m < n) × (D m ≡ true) × (stands m (at p x) ≡ true) × (rank m < rank x)))) where
+    pub fill : (b : ℕ) (q : List ℕ) (r m : ℕ) → Hole q r m → rank m < b → (q′ : List ℕ) × (f : ℕ) × (f < n) × (E f ≡ true) × Partial n stands q′ (λ x. F x && not (eqb x f))
+    fill zero q r m h low = absurd (omega arith)
+    fill (suc b) q r m h low = elim (back m (h .taker) (h .member) (h .under)) [
+      | inl e ↦ (set q m r, m, h .taker, e, took q r m h (λ x. F x && not (eqb x m)) (λ x f ne. grind (arith, tells)))
+      | inr w ↦ let v = w .1 in fill b (set q m r) (at q m) (v .0) (next q r m h (w .0) (v .0) (v .1) (v .2) (v .3) (v .4)) (omega (arith, v .4))
+    ]

@@ -196,8 +196,11 @@ ascending-lists : (n k : ℕ) → Ascending (lists n k)
 ascending-lists n zero = (tt, tt)
 ascending-lists n (suc k) = ascending-heads (λ _. lists n k) (λ _. ascending-lists n k) n 0
 
+pub perfects-ascend : (n : ℕ) (stands : ℕ → ℕ → Bool) → Ascending (perfects n stands)
+perfects-ascend n stands = ascending-kept (fits n stands) (lists n n) (ascending-lists n n)
+
 pub optima-ascend : (g : Grid) → Ascending (optima g)
-optima-ascend g = ascending-kept _ (perfects (g .size) (g .stands)) (ascending-kept (fits (g .size) (g .stands)) (lists (g .size) (g .size)) (ascending-lists (g .size) (g .size)))
+optima-ascend g = ascending-kept _ (perfects (g .size) (g .stands)) (perfects-ascend (g .size) (g .stands))
 
 pub before-irrefl : (p : List ℕ) → Before p p → ⊥
 before-irrefl [] h = h
@@ -308,7 +311,7 @@ optima-are b g = record {
 }
 
 -- ---- the pairs
-has-tells : (l r : ℕ) (ps : List (List ℕ)) → Decides (has-pair l r ps) ((p : List ℕ) × In p ps × (at p l ≡ r))
+pub has-tells : (l r : ℕ) (ps : List (List ℕ)) → Decides (has-pair l r ps) ((p : List ℕ) × In p ps × (at p l ≡ r))
 has-tells l r [] = (λ e. absurd (true≢false (sym e)), λ w. absurd (w .1))
 has-tells l r (p ∷ ps) =
     let ih = has-tells l r ps in (

@@ -10,17 +10,14 @@ use lib.Dec.{eqb}
 use Rattle.std.specs.Orderings.{Decides}
 use Rattle.std.proofs.shelf.Ways.{tells}
 use Rattle.std.proofs.shelf.Tests.{true≢false, both-ways, eqb-false}
+use Rattle.blockset.specs.Sets.{bit, members}
+use Rattle.blockset.proofs.Bits.{bit-zero}
 use Rattle.pairing.specs.Grid.{at}
-use Rattle.pairing.specs.Largest.{Partial, Crowd, Crowd-set, bit, members, Unpaired}
+use Rattle.pairing.specs.Largest.{Partial, Crowd, Crowd-set, Unpaired}
 use Rattle.pairing.specs.Chains.{Reached, free, onward, Stuck}
 use Rattle.pairing.specs.Examples.{Crowded, Bare}
 use Rattle.pairing.proofs.Listing.{in-perfects}
 use Rattle.pairing.proofs.Crowds.{stuck-largest, reached-crowd}
-
-bit-zero : (l : ℕ) → bit 0 l ≡ false
-unfolding bit
-bit-zero zero = refl
-bit-zero (suc l) = bit-zero l
 
 -- the crowd set as a number, where a largest pairing reaches just the left blocks of its bits, and no bit is set past n
 module _ (n : ℕ) (stands : ℕ → ℕ → Bool) (p : List ℕ) (out : ℕ → Bool) (part : Partial n stands p out) (stuck : Stuck n stands p out) where

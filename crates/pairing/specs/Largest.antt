@@ -1,17 +1,12 @@
 -- Pairings that leave blocks out, the largest of them, the crowd set and its shortage.
 use mathlib.Core.Path.{_≡_}
-use mathlib.Core.Bool.{Bool, true, false, _&&_, _||_, not, cond}
+use mathlib.Core.Bool.{Bool, true, false, _&&_, _||_, not}
 use mathlib.Core.List.{List}
-use Prim.Native.Nat.{ℕ, zero, suc, _+_, _-_, _/_, _%_, _≤_, _<_}
-use lib.Dec.{eqb}
+use Prim.Native.Nat.{ℕ, zero, suc, _-_, _≤_, _<_}
 use lib.ListN.{length}
 use Rattle.std.specs.Orderings.{Decides}
+use Rattle.blockset.specs.Sets.{members, bit}
 use Rattle.pairing.specs.Grid.{at, Perfect}
-
--- how many of the numbers below n are in a set
-unfoldable pub members : ℕ → (ℕ → Bool) → ℕ
-members zero C = 0
-members (suc n) C = cond (C 0) 1 0 + members n (λ x. C (suc x))
 
 -- the test passes at some number below n
 abbrev pub some-below : ℕ → (ℕ → Bool) → Bool
@@ -53,11 +48,6 @@ around n stands X r = some-below n (λ l. X l && stands l r)
 -- how many more left blocks a set has than right blocks stand with any of them
 abbrev pub shortage : ℕ → (ℕ → ℕ → Bool) → (ℕ → Bool) → ℕ
 shortage n stands X = members n X - members n (around n stands X)
-
--- bit l of a number, the lowest first: a set of left blocks as one number
-unfoldable pub bit : ℕ → ℕ → Bool
-bit m zero = eqb (m % 2) 1
-bit m (suc l) = bit (m / 2) l
 
 -- no pairing is perfect; these are the crowd set, as one number, and its shortage
 pub record Unpaired (n : ℕ) (stands : ℕ → ℕ → Bool) (crowd short : ℕ) : Type 0 where

@@ -10,7 +10,8 @@ use Rattle.std.specs.declared.cmp.Ordering.{Ordering}
 use Rattle.cost.specs.Columns.{minus, lex}
 use Rattle.pairing.specs.Grid.{Grid, Sane, at, Perfect, Perfect-in, total, Optimum}
 use Rattle.pairing.specs.Prices.{Valid, Tight, Greatest}
-use Rattle.pairing.specs.Largest.{members, Partial, pairs, Largest, Crowd, Crowd-set, around, shortage}
+use Rattle.blockset.specs.Sets.{members}
+use Rattle.pairing.specs.Largest.{Partial, pairs, Largest, Crowd, Crowd-set, around, shortage}
 use Rattle.pairing.specs.Chains.{Reached, Stuck, Chain, Sends, Closed, Shut}
 use Rattle.pairing.specs.Optima.{In, Ascending, Distinct, optima, empty, Marked, marked}
 
