@@ -1,3 +1,4 @@
+-- One more place is filled; at the end all are.
 use mathlib.Core.Path.{_≡_, _∙_, ap, sym}
 use mathlib.Core.List.{[], _∷_, _++_}
 use Prim.Native.Nat.{_<_, _≤_}

@@ -1,3 +1,4 @@
+-- The places passed so far hold the value.
 use mathlib.Core.Path.{_≡_}
 use lib.ListN.{take, replicate}
 use Rattle.sheet.proofs.state.open_calls.fill.Given as given
