@@ -15,9 +15,9 @@ Lengths n costs standing partners left right = Sized n (length costs) (length st
 
 -- the three tables that are written, before and after
 pub record Same {K : Type 0} (partners : List ℕ) (left right : List K) (partners' : List ℕ) (left' right' : List K) : Type 0 where
-  pub partners-stay : partners' ≡ partners
-  pub left-stay : left' ≡ left
-  pub right-stay : right' ≡ right
+  pub partners_stay : partners' ≡ partners
+  pub left_stay : left' ≡ left
+  pub right_stay : right' ≡ right
 
 -- an optimum pairing of the grid, and the greatest valid prices with no right price above zero, all within 10^12
 pub record Solved {K : Type 0} (columns : ℕ) (meaning : K → List ℤ) (g : Grid) (partners : List ℕ) (left right : List K) : Type 0 where

@@ -3,6 +3,7 @@
 //! Each right block starts at the price of its cheapest pair, and every left block that some right block is cheapest with is paired at once. The others are paired one at a
 //! time, each along the cheapest alternating chain to a free right block (shortest augmenting paths). A last search finds the greatest prices. There are at most n + 1
 //! searches of at most n turns, and a turn looks at each right block at most twice: O(n³) steps, whatever the costs.
+#![tactic(auto)]
 
 ghost use Rattle.std.specs.Prelude.{◌≡◌, ℕ, ◌*◌, ◌≤◌, List, length, MatchOption};
 ghost use Rattle.grid.specs.Tables.{byte_of, saysStands};
@@ -57,7 +58,7 @@ pub fn optimum<K: Cost>(
     left: &mut [K],
     right: &mut [K],
 ) -> Result<Outcome, Unfit>
-    ensures { Assigned columns meaning n costs.now standing.now partners.old left.old right.old partners.new left.new right.new result }
+    ensures { Assigned K.columns K.meaning n costs.now standing.now partners.old left.old right.old partners.new left.new right.new result }
 {
     if n > MOST_BLOCKS {
         return Err(Unfit::Size);
@@ -112,12 +113,12 @@ fn settle<K: Cost>(
     left: &mut [K],
     right: &mut [K],
 )
-    requires lent { Lent meaning rows.now costs.now }
+    requires lent { Lent K.meaning rows.now costs.now }
     requires partnered { length partners.old ≡ length rows.now }
     requires lefts { length left.old ≡ length rows.now }
     requires rights { length right.old ≡ length rows.now }
     requires possible { (q : List ℕ) × Perfect (length rows.now) (holds rows.now) q }
-    ensures { Settles meaning rows.now costs.now partners.new left.new right.new }
+    ensures { Settles K.meaning rows.now costs.now partners.new left.new right.new }
 {
     let cheapest = price_cheapest(costs, rows, right);
     let owners = pair_cheapest(rows.len(), &cheapest, partners);

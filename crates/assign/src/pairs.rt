@@ -74,15 +74,15 @@ pub fn pair_row<K: Cost>(
     left: &mut [K],
     right: &mut [K],
 )
-    requires lent { Lent meaning rows.now costs.now }
+    requires lent { Lent K.meaning rows.now costs.now }
     requires partnered { length partners.old ≡ length rows.now }
     requires lefts { length left.old ≡ length rows.now }
     requires rights { length right.old ≡ length rows.now }
     requires room { k < length rows.now }
     requires unpaired { has out k ≡ true }
     requires possible { (q : List ℕ) × Perfect (length rows.now) (holds rows.now) q }
-    requires paired { Paired meaning rows.now costs.now (has out) partners.old owner.old right.old }
-    ensures { Paired meaning rows.now costs.now (λ l. has out l && not (l == k)) partners.new owner.new right.new }
+    requires paired { Paired K.meaning rows.now costs.now (has out) partners.old owner.old right.old }
+    ensures { Paired K.meaning rows.now costs.now (λ l. has out l && not (l == k)) partners.new owner.new right.new }
 {
     let n = rows.len();
     let row = rows[k];
@@ -112,14 +112,14 @@ pub fn pair_rest<K: Cost>(
     left: &mut [K],
     right: &mut [K],
 ) -> [u8; 64]
-    requires lent { Lent meaning rows.now costs.now }
+    requires lent { Lent K.meaning rows.now costs.now }
     requires partnered { length partners.old ≡ length rows.now }
     requires lefts { length left.old ≡ length rows.now }
     requires rights { length right.old ≡ length rows.now }
     requires inside { (l : ℕ) → has owners.out l ≡ true → l < length rows.now }
     requires possible { (q : List ℕ) × Perfect (length rows.now) (holds rows.now) q }
-    requires paired { Paired meaning rows.now costs.now (has owners.out) partners.old owners.owner right.old }
-    ensures { Paired meaning rows.now costs.now (λ _. false) partners.new result right.new }
+    requires paired { Paired K.meaning rows.now costs.now (has owners.out) partners.old owners.owner right.old }
+    ensures { Paired K.meaning rows.now costs.now (λ _. false) partners.new result right.new }
 {
     let Owners { mut out, mut owner } = owners;
     while let Some(k) = out.least() {

@@ -20,7 +20,7 @@ use cost::Cost;
 
 /// Writes zero everywhere.
 fn clear<K: Cost>(table: &mut [K])
-    ensures { table.new ≡ replicate (length table.old) nought }
+    ensures { table.new ≡ replicate (length table.old) K.nought }
 {
     for x in table.iter_mut() {
         *x = K::zero();
@@ -29,10 +29,10 @@ fn clear<K: Cost>(table: &mut [K])
 
 /// Makes the price of each right block the least cost that it stands at.
 pub fn price_cheapest<K: Cost>(costs: &[K], rows: &[BlockSet], right: &mut [K]) -> Cheapest
-    requires lent { Lent meaning rows.now costs.now }
+    requires lent { Lent K.meaning rows.now costs.now }
     requires rights { length right.old ≡ length rows.now }
-    ensures cheapest { CheapestOf (length rows.now) (length rows.now) (holds rows.now) (costWeight meaning (length rows.now) costs.now) (has result.priced) (at result.row) (weightAt meaning right.new) }
-    ensures bound { Bounded meaning 1000000000 (length rows.now) right.new }
+    ensures cheapest { CheapestOf (length rows.now) (length rows.now) (holds rows.now) (costWeight K.meaning (length rows.now) costs.now) (has result.priced) (at result.row) (weightAt K.meaning right.new) }
+    ensures bound { Bounded K.meaning 1000000000 (length rows.now) right.new }
 {
     clear(right);
     let n = rows.len();
@@ -59,13 +59,13 @@ pub fn lower<K: Cost>(goal: usize, tree: &Tree, dist: &[K], right: &mut [K])
     requires few { length dist.now ≤ 64 }
     requires sized { length right.old ≡ length dist.now }
     requires inside { goal < length dist.now }
-    requires far { (c : ℕ) → c < length dist.now → has tree.now.open c ≡ false → Within 200000000000 (columnsAt meaning dist.now c) }
+    requires far { (c : ℕ) → c < length dist.now → has tree.now.open c ≡ false → Within 200000000000 (columnsAt K.meaning dist.now c) }
     requires taken { has tree.now.open goal ≡ false }
-    requires unsold { Within 1000000000 (columnsAt meaning right.old goal) }
-    requires priced { Bounded meaning 500000000000 (length dist.now) right.old }
-    ensures lowered { Lowered (length dist.now) goal (weightAt meaning dist.now) (stageIn tree.now) (weightAt meaning right.old) (weightAt meaning right.new) }
-    ensures same { (c : ℕ) → c < length dist.now → has tree.now.open c ≡ true → columnsAt meaning right.new c ≡ columnsAt meaning right.old c }
-    ensures bound { Bounded meaning 500000000000 (length dist.now) right.new }
+    requires unsold { Within 1000000000 (columnsAt K.meaning right.old goal) }
+    requires priced { Bounded K.meaning 500000000000 (length dist.now) right.old }
+    ensures lowered { Lowered (length dist.now) goal (weightAt K.meaning dist.now) (stageIn tree.now) (weightAt K.meaning right.old) (weightAt K.meaning right.new) }
+    ensures same { (c : ℕ) → c < length dist.now → has tree.now.open c ≡ true → columnsAt K.meaning right.new c ≡ columnsAt K.meaning right.old c }
+    ensures bound { Bounded K.meaning 500000000000 (length dist.now) right.new }
 {
     let far = exact_difference(dist[goal], right[goal]);
     let mut rest = BlockSet::all(dist.len()).difference(tree.open);
@@ -83,14 +83,14 @@ fn price_rows<K: Cost>(
     left: &mut [K],
     right: &[K],
 )
-    requires lent { Lent meaning rows.now costs.now }
+    requires lent { Lent K.meaning rows.now costs.now }
     requires partnered { length partners.now ≡ length rows.now }
     requires lefts { length left.old ≡ length rows.now }
     requires rights { length right.now ≡ length rows.now }
     requires pairs { (l : ℕ) → l < length rows.now → holds rows.now l (at partners.now l) ≡ true }
-    requires far { Bounded meaning 200000000000 (length rows.now) right.now }
-    ensures tight { (l : ℕ) → l < length rows.now → weightAt meaning left.new l +ℤ weightAt meaning right.now (at partners.now l) ≡ costWeight meaning (length rows.now) costs.now l (at partners.now l) }
-    ensures bound { Bounded meaning 201000000000 (length rows.now) left.new }
+    requires far { Bounded K.meaning 200000000000 (length rows.now) right.now }
+    ensures tight { (l : ℕ) → l < length rows.now → weightAt K.meaning left.new l +ℤ weightAt K.meaning right.now (at partners.now l) ≡ costWeight K.meaning (length rows.now) costs.now l (at partners.now l) }
+    ensures bound { Bounded K.meaning 201000000000 (length rows.now) left.new }
 {
     let n = rows.len();
     for l in 0..n {
@@ -109,14 +109,14 @@ pub fn price_greatest<K: Cost>(
     left: &mut [K],
     right: &mut [K],
 )
-    requires lent { Lent meaning rows.now costs.now }
+    requires lent { Lent K.meaning rows.now costs.now }
     requires partnered { length partners.now ≡ length rows.now }
     requires lefts { length left.old ≡ length rows.now }
     requires rights { length right.old ≡ length rows.now }
-    requires paired { Paired meaning rows.now costs.now (λ _. false) partners.now owner.now right.old }
-    ensures topmost { Topmost meaning rows.now costs.now partners.now owner.now (weightAt meaning right.old) left.new right.new }
-    ensures lefts { Bounded meaning 1000000000000 (length rows.now) left.new }
-    ensures rights { Bounded meaning 1000000000000 (length rows.now) right.new }
+    requires paired { Paired K.meaning rows.now costs.now (λ _. false) partners.now owner.now right.old }
+    ensures topmost { Topmost K.meaning rows.now costs.now partners.now owner.now (weightAt K.meaning right.old) left.new right.new }
+    ensures lefts { Bounded K.meaning 1000000000000 (length rows.now) left.new }
+    ensures rights { Bounded K.meaning 1000000000000 (length rows.now) right.new }
 {
     let n = rows.len();
     clear(left);

@@ -33,10 +33,10 @@ pub fn offer<K: Cost>(
     requires sized { length dist.old ≡ length costs.now }
     requires block { from < 64 }
     requires inside { (c : ℕ) → has to c ≡ true → c < length costs.now }
-    requires modest { BoundedOn meaning 1000000000 (has to) costs.now }
-    requires near { Within 400000000000 (meaning shift) }
-    ensures offered { (c : ℕ) → Offered (weight (meaning shift)) (weightAt meaning costs.now) from (has to) (has reached) (weightAt meaning dist.old) (at via.old) (weightAt meaning dist.new) (at via.new) c }
-    ensures bound { (b c : ℕ) → Within b (meaning shift) → b ≤ 400000000000 → (has to c ≡ false → Within (b + 1000000000) (columnsAt meaning dist.old c)) → (has reached c ≡ true → Within (b + 1000000000) (columnsAt meaning dist.old c)) → Within (b + 1000000000) (columnsAt meaning dist.new c) }
+    requires modest { BoundedOn K.meaning 1000000000 (has to) costs.now }
+    requires near { Within 400000000000 (K.meaning shift) }
+    ensures offered { (c : ℕ) → Offered (weight (K.meaning shift)) (weightAt K.meaning costs.now) from (has to) (has reached) (weightAt K.meaning dist.old) (at via.old) (weightAt K.meaning dist.new) (at via.new) c }
+    ensures bound { (b c : ℕ) → Within b (K.meaning shift) → b ≤ 400000000000 → (has to c ≡ false → Within (b + 1000000000) (columnsAt K.meaning dist.old c)) → (has reached c ≡ true → Within (b + 1000000000) (columnsAt K.meaning dist.old c)) → Within (b + 1000000000) (columnsAt K.meaning dist.new c) }
 {
     let mut rest = to;
     while let Some(c) = rest.least() {
@@ -53,9 +53,9 @@ pub fn offer<K: Cost>(
 pub fn nearest<K: Cost>(set: BlockSet, dist: &[K], right: &[K]) -> Option<usize>
     requires sized { length right.now ≡ length dist.now }
     requires inside { (c : ℕ) → has set c ≡ true → c < length dist.now }
-    requires far { BoundedOn meaning 200000000000 (has set) dist.now }
-    requires priced { Bounded meaning 500000000000 (length dist.now) right.now }
-    ensures { MatchOption result ((c : ℕ) → has set c ≡ false) (λ a. (a < length dist.now) × Nearest (has set) (weightAt meaning right.now) (weightAt meaning dist.now) a) }
+    requires far { BoundedOn K.meaning 200000000000 (has set) dist.now }
+    requires priced { Bounded K.meaning 500000000000 (length dist.now) right.now }
+    ensures { MatchOption result ((c : ℕ) → has set c ≡ false) (λ a. (a < length dist.now) × Nearest (has set) (weightAt K.meaning right.now) (weightAt K.meaning dist.now) a) }
 {
     let mut best = set.least()?;
     let mut least = exact_difference(dist[best], right[best]);
@@ -82,15 +82,15 @@ pub fn grow<K: Cost>(
     mut via: [u8; 64],
     dist: &mut [K],
 ) -> Tree
-    requires lent { Lent meaning rows.now costs.now }
+    requires lent { Lent K.meaning rows.now costs.now }
     requires rights { length right.now ≡ length rows.now }
     requires dists { length dist.old ≡ length rows.now }
     requires begins { (c : ℕ) → has start c ≡ true → c < length rows.now }
     requires own { (c : ℕ) → c < length rows.now → at owner.now c < length rows.now → holds rows.now (at owner.now c) c ≡ true }
-    requires near { BoundedOn meaning 1000000000 (has start) dist.old }
-    requires priced { Bounded meaning 500000000000 (length rows.now) right.now }
-    ensures grown { Grows meaning rows.now costs.now owner.now right.now (has start) via dist.old dist.new result }
-    ensures bound { (c : ℕ) → c < length rows.now → has result.open c ≡ false → Within 200000000000 (columnsAt meaning dist.new c) }
+    requires near { BoundedOn K.meaning 1000000000 (has start) dist.old }
+    requires priced { Bounded K.meaning 500000000000 (length rows.now) right.now }
+    ensures grown { Grows K.meaning rows.now costs.now owner.now right.now (has start) via dist.old dist.new result }
+    ensures bound { (c : ℕ) → c < length rows.now → has result.open c ≡ false → Within 200000000000 (columnsAt K.meaning dist.new c) }
 {
     let n = rows.len();
     let mut open = BlockSet::all(n);

@@ -8,28 +8,28 @@ use cost::Cost;
 
 /// The exact sum of two values that are together within the rail.
 pub fn exact_sum<K: Cost>(a: K, b: K) -> K
-    requires first { Within 500000000000000 (meaning a) }
-    requires second { Within 500000000000000 (meaning b) }
-    ensures sum { weight (meaning result) ≡ weight (meaning a) +ℤ weight (meaning b) }
-    ensures bound { (x y : ℕ) → Within x (meaning a) → Within y (meaning b) → x + y ≤ 1000000000000000 → Within (x + y) (meaning result) }
+    requires first { Within 500000000000000 (K.meaning a) }
+    requires second { Within 500000000000000 (K.meaning b) }
+    ensures sum { weight (K.meaning result) ≡ weight (K.meaning a) +ℤ weight (K.meaning b) }
+    ensures bound { (x y : ℕ) → Within x (K.meaning a) → Within y (K.meaning b) → x + y ≤ 1000000000000000 → Within (x + y) (K.meaning result) }
 {
     a.add(b)
 }
 
 /// The exact difference of two values that are together within the rail.
 pub fn exact_difference<K: Cost>(a: K, b: K) -> K
-    requires first { Within 500000000000000 (meaning a) }
-    requires second { Within 500000000000000 (meaning b) }
-    ensures sum { weight (meaning result) ≡ weight (meaning a) -ℤ weight (meaning b) }
-    ensures bound { (x y : ℕ) → Within x (meaning a) → Within y (meaning b) → x + y ≤ 1000000000000000 → Within (x + y) (meaning result) }
+    requires first { Within 500000000000000 (K.meaning a) }
+    requires second { Within 500000000000000 (K.meaning b) }
+    ensures sum { weight (K.meaning result) ≡ weight (K.meaning a) -ℤ weight (K.meaning b) }
+    ensures bound { (x y : ℕ) → Within x (K.meaning a) → Within y (K.meaning b) → x + y ≤ 1000000000000000 → Within (x + y) (K.meaning result) }
 {
     a.take_away(b)
 }
 
 /// Whether `a` is less than `b`.
 pub fn is_less<K: Cost>(a: K, b: K) -> bool
-    ensures less { result ≡ true → weight (meaning a) <ℤ weight (meaning b) }
-    ensures not_less { result ≡ false → weight (meaning b) ≤ℤ weight (meaning a) }
+    ensures less { result ≡ true → weight (K.meaning a) <ℤ weight (K.meaning b) }
+    ensures not_less { result ≡ false → weight (K.meaning b) ≤ℤ weight (K.meaning a) }
 {
     a.compare(b).is_lt()
 }

@@ -1,5 +1,6 @@
 //! Calls for C, for the benchmarks in bench/: the walk through the perfect pairings, where a row is a 64-bit number, bit r for right block r, and what settling a sheet of
 //! plain costs does, with as many blocks a plane as there are places for partners.
+#![tactic(auto)]
 
 ghost use Rattle.std.specs.Prelude.{◌≡◌, ◌⊎◌, ◌*◌, ◌≤◌, length};
 ghost use Rattle.matching.specs.declared.Step.{Step};

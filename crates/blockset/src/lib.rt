@@ -1,4 +1,5 @@
 //! Sets of blocks. A block is a number below 64, so that a set of them is one 64-bit number.
+#![tactic(auto)]
 
 ghost use Rattle.std.specs.Prelude.{◌≡◌, ℕ, ◌<◌, true, false, not, ◌&&◌, ◌||◌, Decides, MatchOption, ◌==◌, nat_lt};
 ghost use Rattle.blockset.specs.Sets.{members, bit};

@@ -29,7 +29,7 @@ denied f = (λ e. absurd (false≢true e), λ p. absurd (f p))
 pub in-order-tells : {K : Type 0} (meaning : K → List ℤ) (n : ℕ) (costs : List K) (standing : List ℕ) → n ≤ 64 → length costs ≡ n * n → length standing ≡ n * n
     → Decides (orderly meaning costs standing) (In-order meaning n costs standing)
 in-order-tells meaning n costs standing few whole bytes =
-    Decides-like (orderly meaning costs standing) (λ o. record { few = few; costs-fit = whole; standing-fit = bytes; ordered = o }) (λ i. i.ordered)
+    Decides-like (orderly meaning costs standing) (λ o. record { few = few; costs_fit = whole; standing_fit = bytes; ordered = o }) (λ i. i.ordered)
     (orderly-tells meaning costs standing (n * n) whole bytes)
 
 -- ---- A price against the limit
@@ -100,7 +100,7 @@ module _ {K : Type 0} (meaning : K → List ℤ) (n l : ℕ) (costs : List K) (s
 
 module _ {K : Type 0} (columns : ℕ) (meaning : K → List ℤ) (sized : (x : K) → length (meaning x) ≡ columns) (n : ℕ) (costs : List K) (standing : List ℕ) (left right : List K) where
   pub sane : In-order meaning n costs standing → Sane (gridOf columns meaning n costs standing)
-  sane i = sane-ordered meaning columns sized n costs standing i.few i.costs-fit i.ordered
+  sane i = sane-ordered meaning columns sized n costs standing i.few i.costs_fit i.ordered
 
   -- rows of tight pairs decide which pairings are tight
   pub tight-decided : (m : ℕ) → m ≡ n → (rows : List BlockSet) (b : Bool) (p : List ℕ) → length rows ≡ n → In-order meaning n costs standing
@@ -127,8 +127,8 @@ module _ {K : Type 0} (columns : ℕ) (meaning : K → List ℤ) (sized : (x : K
     together-from partners i under tight = record {
       in_order = i;
       perfect = tight.0;
-      left-priced = lefts;
-      right-priced = rights;
+      left_priced = lefts;
+      right_priced = rights;
       valid = record {
         lefts = value left lefts;
         rights = value right rights;

@@ -9,14 +9,14 @@ use Rattle.tables.specs.Said.{columnsAt, gridOf, Bounded, Ordered}
 -- pair tables of at most 64 blocks a plane, with a place for each pair, that are in order
 pub record In-order {K : Type 0} (meaning : K → List ℤ) (n : ℕ) (costs : List K) (standing : List ℕ) : Type 0 where
   pub few : n ≤ 64
-  pub costs-fit : length costs ≡ n * n
-  pub standing-fit : length standing ≡ n * n
+  pub costs_fit : length costs ≡ n * n
+  pub standing_fit : length standing ≡ n * n
   pub ordered : Ordered meaning (n * n) costs standing
 
 -- partners that are a perfect pairing over the standing pairs of at most 64 blocks a plane
 pub record Paired (n : ℕ) (standing partners : List ℕ) : Type 0 where
   pub few : n ≤ 64
-  pub standing-fit : length standing ≡ n * n
+  pub standing_fit : length standing ≡ n * n
   pub perfect : Perfect n (λ l r. saysStands (byte_of n standing l r)) partners
 
 -- a price for each of n blocks, within 10^12 in each column
@@ -40,6 +40,6 @@ Tight-pairing g left right p = Perfect-in g p × Tight g left right p
 pub record Together {K : Type 0} (columns : ℕ) (meaning : K → List ℤ) (n : ℕ) (costs : List K) (standing partners : List ℕ) (left right : List K) : Type 0 where
   pub in_order : In-order meaning n costs standing
   pub perfect : Perfect-in (gridOf columns meaning n costs standing) partners
-  pub left-priced : Priced meaning n left
-  pub right-priced : Priced meaning n right
+  pub left_priced : Priced meaning n left
+  pub right_priced : Priced meaning n right
   pub valid : Valid (gridOf columns meaning n costs standing) (columnsAt meaning left) (columnsAt meaning right) partners

@@ -1,4 +1,5 @@
 //! Cost kinds: what a pair of blocks can cost, and the arithmetic every kind has to offer.
+#![tactic(auto)]
 
 ghost use Rattle.std.specs.Prelude.{◌≡◌, ℕ, List, length, ℤ};
 ghost use Rattle.cost.specs.Columns.{Within, within, zeros, sums, differences, lex};

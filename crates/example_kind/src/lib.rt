@@ -1,4 +1,5 @@
 //! An example of a buyer's own cost kind, in a crate of its own: program time first, then wear.
+#![tactic(auto)]
 
 ghost use Rattle.std.specs.Prelude.{[], ◌∷◌, pos};
 ghost use Rattle.cost.specs.Columns.{railed};

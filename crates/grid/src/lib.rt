@@ -1,4 +1,5 @@
 //! The two pair tables that a caller lends: where a pair lies in them, and what they say of it.
+#![tactic(auto)]
 
 ghost use Rattle.std.specs.Prelude.{◌≡◌, ◌*◌, ◌≤◌, length};
 ghost use Rattle.grid.specs.Tables.{place_of, fitting, saysStands, saysDisturbed, placeOrderly, orderly, standingPairs};
@@ -48,7 +49,7 @@ pub fn disturbed(byte: u8) -> bool
 
 // Whether a place is in order.
 fn place_in_order<K: Cost>(cost: K, byte: u8) -> bool
-    ensures { result ≡ placeOrderly (meaning cost) byte }
+    ensures { result ≡ placeOrderly (K.meaning cost) byte }
 {
     !disturbed(byte) && (!stands(byte) || cost.within(COST_LIMIT))
 }
@@ -56,7 +57,7 @@ fn place_in_order<K: Cost>(cost: K, byte: u8) -> bool
 /// Whether no standing byte is disturbed and each standing pair's cost is within 10^9, over the
 /// places that both tables have.
 pub fn in_order<K: Cost>(costs: &[K], standing: &[u8]) -> bool
-    ensures { result ≡ orderly meaning costs.now standing.now }
+    ensures { result ≡ orderly K.meaning costs.now standing.now }
 {
     for k in 0..costs.len().min(standing.len()) {
         if !place_in_order(costs[k], standing[k]) {

@@ -1,4 +1,5 @@
 //! Prints what the order file on standard input states, or why it is refused.
+#![tactic(auto)]
 
 use report::describe;
 use std::io::Read;

@@ -103,7 +103,7 @@ module _ (n : ℕ) (p : List ℕ) (out reached : ℕ → Bool) (from rank : List
       pub exchange-done : out (at from block) ≡ true → Filled n p (set q (at from block) block) out reached from (at from block)
       exchange-done t = record {
         inside = x.hole.taker;
-        was-out = t;
+        was_out = t;
         part = λ out' less. took n (λ _ _. true) p out out passed height 66 q block (at from block) x.hole out' less;
         moved = λ m i. elim (cases_eq m (at from block)) [
           | inl e ↦ inr (taken m e)

@@ -99,15 +99,15 @@ module _ (rows : List BlockSet) (p : List ℕ) (few : length rows ≤ 64) (b : B
       -- so the crowd set and its shortage are known, where some left block is left out
       pub unpaired : (crowd short : ℕ) → ((l : ℕ) → bit crowd l ≡ X l) → short ≡ members 64 (has b.roots) → (((l : ℕ) → has b.roots l ≡ false) → ⊥) → Unpaired (length rows) (holds rows) crowd short
       unpaired crowd short bits counted some =
-          let crowd-set : Crowd-set (length rows) (holds rows) (bit crowd) = λ l.
+          let crowd_set : Crowd-set (length rows) (holds rows) (bit crowd) = λ l.
           let e = reached-crowd (length rows) (holds rows) p (has b.roots) most l in
           Decides-at (bit crowd l) (X l) (bits l) (Decides-like (X l) e.0 e.1 (crowd-reached l)) in
           let number : members (length rows) (has b.roots) ≡ short = sym (counted ∙ members-within 64 (length rows) (has b.roots) few inside) in
-          let s = short-by short (length rows) (holds rows) p (has b.roots) (bit crowd) most number crowd-set in
+          let s = short-by short (length rows) (holds rows) p (has b.roots) (bit crowd) most number crowd_set in
           record {
             none = λ q g.
                 let gone = members-none (length rows) (has b.roots) (number ∙ s.2.1 (q, g)) in
                 some (λ l. elim (cases_Bool (has b.roots l)) [ inl t ↦ absurd (both_ways (has b.roots l) (gone l (inside l t)) t) | inr f ↦ f ]);
-            crowd-set = crowd-set;
-            shortage-is = s.0;
+            crowd_set = crowd_set;
+            shortage_is = s.0;
           }

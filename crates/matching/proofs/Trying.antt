@@ -159,7 +159,7 @@ module _ (rows : List BlockSet) (p : List ℕ) (l : ℕ) (few : length rows ≤ 
       -- the search came to l's own right block, and the pairs along the chain were exchanged
       pub sent : (q : List ℕ) (paired : ℕ) → Filled (length rows) p q alone reached from paired → Pairs rows q × Agree l p q × (at q l ≡ r)
       sent q paired f =
-          let is-l : paired ≡ l = one-is alone l small-l is-alone paired f.was-out in
+          let is-l : paired ≡ l = one-is alone l small-l is-alone paired f.was_out in
           let whole : Apart (length rows) q (λ _. false) = f.part (λ _. false) (λ x _ ne. one-not alone l small-l is-alone x (λ e. ne (e ∙ sym is-l))) in
           let by : (c : ℕ) → reached c ≡ true → holds rows (at from c) c ≡ true = λ c x. (and_parts (holds rows (at from c) c) _ (w.by c x)).0 in
           let later : (c : ℕ) → reached c ≡ true → l ≤ at from c = λ c x. elim (w.back c x) [

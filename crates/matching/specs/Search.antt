@@ -56,7 +56,7 @@ pub record Ways (n : ℕ) (p : List ℕ) (out reached : ℕ → Bool) (from rank
 -- One more left block, `paired`, has a right block: each left block whose right block is another than before has one that is reached from it.
 pub record Filled (n : ℕ) (before after : List ℕ) (out reached : ℕ → Bool) (from : List ℕ) (paired : ℕ) : Type 0 where
   pub inside : paired < n
-  pub was-out : out paired ≡ true
+  pub was_out : out paired ≡ true
   pub part : (out' : ℕ → Bool) → ((l : ℕ) → out' l ≡ false → (l ≢ paired) → out l ≡ false) → Apart n after out'
   pub moved : (l : ℕ) → l < n → ((l ≢ paired) × (at after l ≡ at before l)) ⊎ ((reached (at after l) ≡ true) × (at from (at after l) ≡ l))
   pub kept : (l : ℕ) → l < n → out l ≡ true → (l ≢ paired) → at after l ≡ at before l

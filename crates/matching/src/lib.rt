@@ -7,6 +7,7 @@
 //! All of them search along alternating chains: from a left block to a right block of its row, on to the left block that has that
 //! right block, and so on. Exchanging the pairs along a chain makes another pairing. A search takes up each left block and
 //! each right block at most once, so it takes at most 2n steps of a few set operations each.
+#![tactic(auto)]
 
 ghost use Rattle.std.specs.Prelude.{◌≡◌, ℕ, ◌+◌, ◌*◌, ◌<◌, ◌≤◌, true, false, ◌&&◌, ◌||◌, length, if◌then◌else◌, Decides, MatchBool, MatchOption, MatchResult, ◌≢◌, nat_lt};
 ghost use Rattle.blockset.specs.Has.{has};

@@ -1,5 +1,6 @@
 //! Compares the calls of `matching` with plain enumeration, on every sheet of up to 3 blocks a side and on random ones of 4 to 6, and
 //! prints how many sheets and pairings there were and how many answers were wrong.
+#![tactic(auto)]
 
 ghost use Rattle.std.specs.Prelude.{◌≡◌, ◌<◌, ◌≤◌};
 

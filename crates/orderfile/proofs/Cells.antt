@@ -20,13 +20,13 @@ place-left n l r h = div-mul-add l n r h
 pub place-right : (n l r : ℕ) → r < n → place_of n l r % n ≡ r
 place-right n l r h = mod-mul-add l n r h
 
-module _ (n : ℕ) (p : StatedPair) (below : p.left < n) (right-below : p.right < n) (costs : List Plain) (standing : List ℕ) (fitting : Fitting n costs standing) (l r : ℕ) (hr : r < n) where
+module _ (n : ℕ) (p : StatedPair) (below : p.left < n) (right_below : p.right < n) (costs : List Plain) (standing : List ℕ) (fitting : Fitting n costs standing) (l r : ℕ) (hr : r < n) where
   spot : ℕ
   spot = place_of n p.left p.right
 
   within : spot < n * n
   unfolding spot
-  within = mul-add-lt p.left n p.right n below right-below
+  within = mul-add-lt p.left n p.right n below right_below
 
   here : Bool
   here = eqb p.left l && eqb p.right r
@@ -50,8 +50,8 @@ module _ (n : ℕ) (p : StatedPair) (below : p.left < n) (right-below : p.right 
   unfolding spot here after-costs after-standing
   entered-elsewhere e =
       let other : place_of n l r ≢ spot = λ same.
-      let el : p.left ≡ l = sym (place-left n p.left p.right right-below) ∙ ap (λ k. k / n) (sym same) ∙ place-left n l r hr in
-      let er : p.right ≡ r = sym (place-right n p.left p.right right-below) ∙ ap (λ k. k % n) (sym same) ∙ place-right n l r hr in
+      let el : p.left ≡ l = sym (place-left n p.left p.right right_below) ∙ ap (λ k. k / n) (sym same) ∙ place-left n l r hr in
+      let er : p.right ≡ r = sym (place-right n p.left p.right right_below) ∙ ap (λ k. k % n) (sym same) ∙ place-right n l r hr in
       let both = and_from (eqb p.left l) (eqb p.right r) (eq-eqb _ _ el) (eq-eqb _ _ er) in
       let z : ◌≡◌ {A = ℕ} 0 1 = cc in omega arith in
       ap (λ b. cond (saysStands b) (Some (get_or (set costs spot (plain p.cost)) (place_of n l r) (plain (pos 0)))) None) (get_or-set_other standing spot (place_of n l r) 1 0 other)
@@ -76,7 +76,7 @@ cells-after n (p ∷ ps) costs standing s fitting l r hr =
     let k = place_of n p.left p.right in
     let fits : Fitting n (set costs k (plain p.cost)) (set standing k 1) = (length-set costs k (plain p.cost) ∙ fitting.0, length-set standing k 1 ∙ fitting.1) in
     cells-after n ps (set costs k (plain p.cost)) (set standing k 1) s.1 fits l r hr
-    ∙ ap (or_else (option_map plain (stated ps l r))) (entered n p s.0.left_below s.0.right-below costs standing fitting l r hr)
+    ∙ ap (or_else (option_map plain (stated ps l r))) (entered n p s.0.left_below s.0.right_below costs standing fitting l r hr)
     ∙ or-else-mapped (stated ps l r) (cond (eqb p.left l && eqb p.right r) (Some p.cost) None) (cell (plain (pos 0)) n costs standing l r)
 
 -- in tables that were just opened, a cell is empty

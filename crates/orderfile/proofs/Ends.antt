@@ -35,7 +35,7 @@ module _ (file : List ℕ) (costs : List Plain) (standing : List ℕ) (r : Resul
   pub loaded-faulty : (f : Fault) → FirstFault file f → sizes r ≡ Err f → costs' ≡ costs → standing' ≡ standing → Loaded file costs standing r costs' standing'
   loaded-faulty f s e ec eb = record {
     verdict = inr (f, s);
-    faulty = λ g t. record { answers = e ∙ ap Err (one-fault file f g s t); costs-stay = ec; standing-stays = eb };
+    faulty = λ g t. record { answers = e ∙ ap Err (one-fault file f g s t); costs_stay = ec; standing_stays = eb };
     misfits = λ o t _. absurd (not-both file o f t s);
     loads = λ o t _. absurd (not-both file o f t s);
   }
@@ -44,7 +44,7 @@ module _ (file : List ℕ) (costs : List Plain) (standing : List ℕ) (r : Resul
   loaded-misfit order s unfit e ec eb = record {
     verdict = inl (order, s);
     faulty = λ g t. absurd (not-both file order g s t);
-    misfits = λ o t _. record { answers = e; costs-stay = ec; standing-stays = eb };
+    misfits = λ o t _. record { answers = e; costs_stay = ec; standing_stays = eb };
     loads = λ o t fit. absurd (unfit (subst (λ (x : Order). Fitting x.size costs standing) (one-order file o order t s) fit));
   }
 
@@ -55,9 +55,9 @@ module _ (file : List ℕ) (costs : List Plain) (standing : List ℕ) (r : Resul
   loaded order s fit e ec eb =
       let here : Accepted order r costs' standing' = record {
         answers = e;
-        enters-costs = ec;
-        enters-standing = eb;
-        shows = subst (λ (cs : List Plain). Shows order cs standing') (sym ec) (subst (λ (bs : List ℕ). Shows order (costsAfter order.size order.pairs (replicate (order.size * order.size) (plain (pos 0)))) bs) (sym eb) (shows-order order s.sound.pairs-sound));
+        enters_costs = ec;
+        enters_standing = eb;
+        shows = subst (λ (cs : List Plain). Shows order cs standing') (sym ec) (subst (λ (bs : List ℕ). Shows order (costsAfter order.size order.pairs (replicate (order.size * order.size) (plain (pos 0)))) bs) (sym eb) (shows-order order s.sound.pairs_sound));
       } in
       record {
         verdict = inl (order, s);

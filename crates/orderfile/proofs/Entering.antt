@@ -62,7 +62,7 @@ module _ (n : ℕ) (some : 1 ≤ n) (few : n ≤ 64) where
       → Taken (Sized m) (pairField p ++ (flat_map pairField todo ++ endField)) (p ∷ todo) next
   taken-pair m p todo next same s e =
       let tail : List ℕ = flat_map pairField todo ++ endField in
-      let is : Pair p ≡ next = let stated = pair-stated p tail s.cost-within in cc in
+      let is : Pair p ≡ next = let stated = pair-stated p tail s.cost_within in cc in
       (todo, ap (λ t. pairsOf t ++ todo) is, (same, refl))
 
   pub left-more : (stage : Stage) (rest : List ℕ) (todo : List StatedPair) (next : Record) → All (SoundPair n) todo → Left stage rest n todo → recordNext stage rest ≡ Some next → Taken stage rest todo next
@@ -91,7 +91,7 @@ abbrev pub Entering : List ℕ → ℕ → List Plain → List ℕ → Stage →
 Entering file n costs₀ standing₀ stage rest costs standing = (order : Order) → States file order → order.size ≡ n → Split order costs₀ standing₀ stage rest costs standing
 
 pub entering-start : (file : List ℕ) (n : ℕ) (costs : List Plain) (standing : List ℕ) → Entering file n costs standing Start file costs standing
-entering-start file n costs standing order s e = record { done = []; todo = order.pairs; all = refl; left = s.is-file; costs-are = refl; standing-are = refl }
+entering-start file n costs standing order s e = record { done = []; todo = order.pairs; all = refl; left = s.is_file; costs-are = refl; standing-are = refl }
 
 all-later : {X : Type 0} (P : X → Type 0) (xs ys : List X) → All P (xs ++ ys) → All P ys
 all-later P [] ys h = h
@@ -104,7 +104,7 @@ all-front P (x ∷ xs) ys h = (h.0, all-front P xs ys h.1)
 module _ (order : Order) (sound : Sound order) (costs₀ : List Plain) (standing₀ : List ℕ) (stage : Stage) (rest : List ℕ) (costs : List Plain) (standing : List ℕ)
     (split : Split order costs₀ standing₀ stage rest costs standing) where
   todo-sound : All (SoundPair order.size) split.todo
-  todo-sound = all-later (SoundPair order.size) split.done split.todo (subst (λ (ps : List StatedPair). All (SoundPair order.size) ps) split.all sound.pairs-sound)
+  todo-sound = all-later (SoundPair order.size) split.done split.todo (subst (λ (ps : List StatedPair). All (SoundPair order.size) ps) split.all sound.pairs_sound)
 
   pub split-sound : (at : ℕ) → fieldFault stage rest at ≡ None
   split-sound at = left-sound order.size sound.some sound.few stage rest at split.todo todo-sound split.left

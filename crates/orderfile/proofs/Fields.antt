@@ -44,9 +44,9 @@ pair-stated p more small =
 
 pub pair-sound : (n : ℕ) (p : StatedPair) (more : List ℕ) (at : ℕ) → SoundPair n p → fieldFault (Sized n) (pairField p ++ more) at ≡ None
 pair-sound n p more at s =
-    let e = pair-stated p more s.cost-within in
-    let blocks : (leb n (pairIn (value_of (pairField p ++ more))).left || leb n (pairIn (value_of (pairField p ++ more))).right) ≡ false = grind (arith, nat_tests, s.left_below, s.right-below) in
-    let cost : ltb 1000000000 (nat_abs (pairIn (value_of (pairField p ++ more))).cost) ≡ false = ap (λ q. ltb 1000000000 (nat_abs q.cost)) e ∙ grind (arith, nat_tests, s.cost-within) in
+    let e = pair-stated p more s.cost_within in
+    let blocks : (leb n (pairIn (value_of (pairField p ++ more))).left || leb n (pairIn (value_of (pairField p ++ more))).right) ≡ false = grind (arith, nat_tests, s.left_below, s.right_below) in
+    let cost : ltb 1000000000 (nat_abs (pairIn (value_of (pairField p ++ more))).cost) ≡ false = ap (λ q. ltb 1000000000 (nat_abs q.cost)) e ∙ grind (arith, nat_tests, s.cost_within) in
     let whole : overruns (pairField p ++ more) ≡ false = grind (arith, nat_tests) in
     cond-false _ _ _ whole ∙ cond-false _ _ _ blocks ∙ cond-false _ _ _ cost
 

@@ -65,7 +65,7 @@ pair-checked n rest at whole tag e =
       whole = whole;
       tag = tag;
       long = unlike-false _ _ long.0;
-      sound = record { left_below = grind (arith, nat_tests, below); right-below = grind (arith, nat_tests, below); cost-within = grind (arith, nat_tests, within) };
+      sound = record { left_below = grind (arith, nat_tests, below); right_below = grind (arith, nat_tests, below); cost_within = grind (arith, nat_tests, within) };
     }
 
 pub pair-or-end : (n : ℕ) (rest : List ℕ) (at : ℕ) → fieldFault (Sized n) rest at ≡ None → PairNext n rest ⊎ EndNext rest
@@ -90,7 +90,7 @@ grow-size pairs rest h =
     let e : stageNext Start rest ≡ Sized n = ap (λ t. stageAfter Start (recordIn t (value_of rest))) h.tag in
     let four : extent rest ≡ 4 = ap (λ k. 3 + k) (sym (value-length rest h.whole) ∙ h.long) in
     subst (λ (s : Stage). Grown Start pairs rest s) (sym e)
-    ([], size-bytes rest h.whole h.tag h.long ∙ ap (λ k. sizeField n ++ drop k rest) (sym four), record { some = h.some; few = h.few; pairs-sound = tt })
+    ([], size-bytes rest h.whole h.tag h.long ∙ ap (λ k. sizeField n ++ drop k rest) (sym four), record { some = h.some; few = h.few; pairs_sound = tt })
 
 grow-pair : (n : ℕ) (pairs : List StatedPair) (rest : List ℕ) → Bytes rest → Sound (record { size = n; pairs = pairs }) → PairNext n rest → Grown (Sized n) pairs rest (stageNext (Sized n) rest)
 grow-pair n pairs rest bytes s h =
@@ -102,7 +102,7 @@ grow-pair n pairs rest bytes s h =
       pairs ++ p ∷ [],
       ap (λ t. before ++ t) (pair-bytes rest h.whole bytes h.tag h.long) ∙ sym (append_assoc before (pairField p) (drop 13 rest))
           ∙ ap (λ t. t ++ drop 13 rest) (flat_map_more pairField (sizeField n) pairs p) ∙ ap (λ k. (sizeField n ++ flat_map pairField (pairs ++ p ∷ [])) ++ drop k rest) (sym thirteen),
-      record { some = s.some; few = s.few; pairs-sound = All-push (SoundPair n) pairs p s.pairs-sound h.sound },
+      record { some = s.some; few = s.few; pairs_sound = All-push (SoundPair n) pairs p s.pairs_sound h.sound },
     )
 
 grow-end : (n : ℕ) (pairs : List StatedPair) (rest : List ℕ) → Sound (record { size = n; pairs = pairs }) → EndNext rest → Grown (Sized n) pairs rest (stageNext (Sized n) rest)

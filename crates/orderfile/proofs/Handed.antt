@@ -15,10 +15,10 @@ Open stage = (n : ℕ) → stage ≡ Ended n → ⊥
 module _ (rest : List ℕ) (at tag : ℕ) (value : List ℕ) (place : ℕ) (h : Handed rest at tag value place) where
   same-fault : (stage : Stage) → recordFault stage (tag_of rest) (value_of rest) at ≡ recordFault stage tag value place
   same-fault stage =
-      ap (λ t. recordFault stage t (value_of rest) at) (sym h.tag_is) ∙ ap (λ v. recordFault stage tag v at) (sym h.value-is) ∙ ap (recordFault stage tag value) (sym h.place_is)
+      ap (λ t. recordFault stage t (value_of rest) at) (sym h.tag_is) ∙ ap (λ v. recordFault stage tag v at) (sym h.value_is) ∙ ap (recordFault stage tag value) (sym h.place_is)
 
   same-record : recordIn (tag_of rest) (value_of rest) ≡ recordIn tag value
-  same-record = ap (λ t. recordIn t (value_of rest)) (sym h.tag_is) ∙ ap (recordIn tag) (sym h.value-is)
+  same-record = ap (λ t. recordIn t (value_of rest)) (sym h.tag_is) ∙ ap (recordIn tag) (sym h.value_is)
 
   pub handed-fault : (stage : Stage) → Open stage → fieldFault stage rest at ≡ recordFault stage tag value place
   handed-fault Start o = cond-false _ _ _ h.whole ∙ same-fault Start

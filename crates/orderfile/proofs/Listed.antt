@@ -95,7 +95,7 @@ module _ (n : ℕ) (some : 1 ≤ n) (costs : List Plain) (standing : List ℕ) (
       let fine = orderly-at (λ p. railed p.0 ∷ []) costs standing (plain (pos 0)) k (omega arith) (omega arith) good in
       let cost : (leb (nat_abs (railed (get_or costs k (plain (pos 0))).0)) 1000000000 && true) ≡ true = orderly-cost (get_or standing k 0) (railed (get_or costs k (plain (pos 0))).0 ∷ []) fine stands in
       record {
-        sound = record { left_below = div_below k n n (omega arith) h; right-below = mod_below k n (omega arith); cost-within = small (get_or costs k (plain (pos 0))).0 cost };
+        sound = record { left_below = div_below k n n (omega arith) h; right_below = mod_below k n (omega arith); cost_within = small (get_or costs k (plain (pos 0))).0 cost };
         stands = ap (λ j. cond (saysStands (get_or standing j 0)) (Some (get_or costs j (plain (pos 0)))) None) placed ∙ cond-true _ _ _ stands;
       }
 

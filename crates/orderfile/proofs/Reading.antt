@@ -75,7 +75,7 @@ reading-done file (Sized n) rest at size h known e none = let z : ◌≡◌ {A =
 reading-done file (Ended n) rest at size h known e none =
     let empty : rest ≡ [] = nil_from_length rest (eqb-true _ _ (required (eqb (length rest) 0) _ None e).0) in (
       record { size = n; pairs = h.pairs },
-      record { is-file = h.splits ∙ ap (λ t. front (Ended n) h.pairs ++ t) empty ∙ append-nil _; sound = h.sound },
+      record { is_file = h.splits ∙ ap (λ t. front (Ended n) h.pairs ++ t) empty ∙ append-nil _; sound = h.sound },
       known,
     )
 

@@ -66,8 +66,8 @@ module _ (n : ℕ) (some : 1 ≤ n) (few : n ≤ 64) (costs : List Plain) (stand
   reloads out' w costs₀ standing₀ r costs' standing' fit h =
       let order : Order = record { size = n; pairs = w.pairs } in
       let states : States (take (savedLength standing) out') order = record {
-        is-file = ap (take (savedLength standing)) w.file ∙ take_at (fileOf order) (drop (savedLength standing) out) (savedLength standing) w.long;
-        sound = record { some = some; few = few; pairs-sound = All-weaker (Standing n costs standing) (SoundPair n) (λ p s. s.sound) w.pairs w.names.only };
+        is_file = ap (take (savedLength standing)) w.file ∙ take_at (fileOf order) (drop (savedLength standing) out) (savedLength standing) w.long;
+        sound = record { some = some; few = few; pairs_sound = All-weaker (Standing n costs standing) (SoundPair n) (λ p s. s.sound) w.pairs w.names.only };
       } in
       let accepts = h.loads order states fit in
       (accepts.answers, λ l m hl hm. accepts.shows l m hl hm ∙ names-stated n costs standing w.pairs w.names l m hl hm)

@@ -45,7 +45,7 @@ same-pairs n [] [] r s hp hq stop-r stop-s e = (refl, e)
 same-pairs n [] (q ∷ qs) r s hp hq stop-r stop-s e = absurd (stop-r q (flat_map pairField qs ++ s) hq.0 e)
 same-pairs n (p ∷ ps) [] r s hp hq stop-r stop-s e = absurd (stop-s p (flat_map pairField ps ++ r) hp.0 (sym e))
 same-pairs n (p ∷ ps) (q ∷ qs) r s hp hq stop-r stop-s e =
-    let first : p ≡ q = sym (pair-stated p (flat_map pairField ps ++ r) hp.0.cost-within) ∙ ap (λ t. pairIn (value_of t)) e ∙ pair-stated q (flat_map pairField qs ++ s) hq.0.cost-within in
+    let first : p ≡ q = sym (pair-stated p (flat_map pairField ps ++ r) hp.0.cost_within) ∙ ap (λ t. pairIn (value_of t)) e ∙ pair-stated q (flat_map pairField qs ++ s) hq.0.cost_within in
     let others = same-pairs n ps qs r s hp.1 hq.1 stop-r stop-s (ap (drop 13) e) in
     let tail : ps ≡ qs = others.0 in
     (cc, others.1)
@@ -67,29 +67,29 @@ one-reading (Ended n) Start ps qs r s hp hq stop-r stop-s e = absurd (stop-s n (
 one-reading (Sized n) (Sized m) ps qs r s hp hq stop-r stop-s e =
     let size = size-first n m _ _ e in
     let stop : NotPair n s = subst (λ (k : ℕ). NotPair k s) (sym size.0) stop-s.0 in
-    let sound : All (SoundPair n) qs = subst (λ (k : ℕ). All (SoundPair k) qs) (sym size.0) hq.pairs-sound in
-    let same = same-pairs n ps qs r s hp.pairs-sound sound stop-r.0 stop size.1 in
+    let sound : All (SoundPair n) qs = subst (λ (k : ℕ). All (SoundPair k) qs) (sym size.0) hq.pairs_sound in
+    let same = same-pairs n ps qs r s hp.pairs_sound sound stop-r.0 stop size.1 in
     (ap Sized size.0, same.0, same.1)
 one-reading (Sized n) (Ended m) ps qs r s hp hq stop-r stop-s e =
     let size = size-first n m _ _ e in
-    let sound : All (SoundPair n) qs = subst (λ (k : ℕ). All (SoundPair k) qs) (sym size.0) hq.pairs-sound in
-    let same = same-pairs n ps qs r (endField ++ s) hp.pairs-sound sound stop-r.0 (end-not-pair n s) (size.1 ∙ append_assoc (flat_map pairField qs) endField s) in
+    let sound : All (SoundPair n) qs = subst (λ (k : ℕ). All (SoundPair k) qs) (sym size.0) hq.pairs_sound in
+    let same = same-pairs n ps qs r (endField ++ s) hp.pairs_sound sound stop-r.0 (end-not-pair n s) (size.1 ∙ append_assoc (flat_map pairField qs) endField s) in
     absurd (stop-r.1 s same.1)
 one-reading (Ended n) (Sized m) ps qs r s hp hq stop-r stop-s e =
     let size = size-first n m _ _ e in
-    let sound : All (SoundPair m) ps = subst (λ (k : ℕ). All (SoundPair k) ps) size.0 hp.pairs-sound in
-    let same = same-pairs m ps qs (endField ++ r) s sound hq.pairs-sound (end-not-pair m r) stop-s.0 (sym (append_assoc (flat_map pairField ps) endField r) ∙ size.1) in
+    let sound : All (SoundPair m) ps = subst (λ (k : ℕ). All (SoundPair k) ps) size.0 hp.pairs_sound in
+    let same = same-pairs m ps qs (endField ++ r) s sound hq.pairs_sound (end-not-pair m r) stop-s.0 (sym (append_assoc (flat_map pairField ps) endField r) ∙ size.1) in
     absurd (stop-s.1 r (sym same.1))
 one-reading (Ended n) (Ended m) ps qs r s hp hq stop-r stop-s e =
     let size = size-first n m _ _ e in
-    let sound : All (SoundPair n) qs = subst (λ (k : ℕ). All (SoundPair k) qs) (sym size.0) hq.pairs-sound in
-    let same = same-pairs n ps qs (endField ++ r) (endField ++ s) hp.pairs-sound sound (end-not-pair n r) (end-not-pair n s)
+    let sound : All (SoundPair n) qs = subst (λ (k : ℕ). All (SoundPair k) qs) (sym size.0) hq.pairs_sound in
+    let same = same-pairs n ps qs (endField ++ r) (endField ++ s) hp.pairs_sound sound (end-not-pair n r) (end-not-pair n s)
     (sym (append_assoc (flat_map pairField ps) endField r) ∙ size.1 ∙ append_assoc (flat_map pairField qs) endField s) in
     (ap Ended size.0, same.0, ap (drop 3) same.1)
 
 module _ (file : List ℕ) where
   whole : (order : Order) → States file order → file ≡ front (Ended order.size) order.pairs ++ []
-  whole order s = s.is-file ∙ sym (append-nil _)
+  whole order s = s.is_file ∙ sym (append-nil _)
 
   pub one-order : (o p : Order) → States file o → States file p → o ≡ p
   unfolding Stuck

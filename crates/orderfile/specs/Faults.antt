@@ -13,13 +13,13 @@ use Rattle.orderfile.specs.Format.{Order, Sound, sizeField, pairField, endField,
 pub record Handed (rest : List ℕ) (at : ℕ) (tag : ℕ) (value : List ℕ) (place : ℕ) : Type 0 where
   pub whole : overruns rest ≡ false
   pub tag_is : tag ≡ tag_of rest
-  pub value-is : value ≡ value_of rest
+  pub value_is : value ≡ value_of rest
   pub place_is : place ≡ at
 
 -- that field runs past the end of the file
 pub record RunsPast (rest : List ℕ) (at : ℕ) (f : Fault) : Type 0 where
   pub past : overruns rest ≡ true
-  pub fault-is : f ≡ fault Overrun at
+  pub fault_is : f ≡ fault Overrun at
 
 -- the checks of each kind of field behind its tag; a pair field is checked in a file of size n
 abbrev pub sizeChecks : List ℕ → ℕ → List (Bool × Fault)

@@ -34,17 +34,17 @@ fileOf order = sizeField order.size ++ (flat_map pairField order.pairs ++ endFie
 -- a pair that a sheet of n blocks takes
 pub record SoundPair (n : ℕ) (p : StatedPair) : Type 0 where
   pub left_below : p.left < n
-  pub right-below : p.right < n
-  pub cost-within : unsigned_abs p.cost ≤ 1000000000
+  pub right_below : p.right < n
+  pub cost_within : unsigned_abs p.cost ≤ 1000000000
 
 pub record Sound (order : Order) : Type 0 where
   pub some : 1 ≤ order.size
   pub few : order.size ≤ 64
-  pub pairs-sound : All (SoundPair order.size) order.pairs
+  pub pairs_sound : All (SoundPair order.size) order.pairs
 
 -- a file states an order if it is the order's file, and a sheet takes all of it
 pub record States (file : List ℕ) (order : Order) : Type 0 where
-  pub is-file : file ≡ fileOf order
+  pub is_file : file ≡ fileOf order
   pub sound : Sound order
 
 -- the parts of the field that begins a list of bytes

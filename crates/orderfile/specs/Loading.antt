@@ -54,14 +54,14 @@ Shows order costs standing = (l r : ℕ) → l < order.size → r < order.size �
 
 pub record Refused (f : Fault) (costs : List Plain) (standing : List ℕ) (r : Result OpenSheet Fault) (costs' : List Plain) (standing' : List ℕ) : Type 0 where
   pub answers : sizes r ≡ Err f
-  pub costs-stay : costs' ≡ costs
-  pub standing-stays : standing' ≡ standing
+  pub costs_stay : costs' ≡ costs
+  pub standing_stays : standing' ≡ standing
 
 pub record Accepted (order : Order) (r : Result OpenSheet Fault) (costs' : List Plain) (standing' : List ℕ) : Type 0 where
   pub answers : sizes r ≡ Ok order.size
   -- exactly the tables that opening a sheet and entering the pairs in turn leave
-  pub enters-costs : costs' ≡ costsAfter order.size order.pairs (costsOpened (plain (pos 0)) order.size)
-  pub enters-standing : standing' ≡ standingAfter order.size order.pairs (standingOpened order.size)
+  pub enters_costs : costs' ≡ costsAfter order.size order.pairs (costsOpened (plain (pos 0)) order.size)
+  pub enters_standing : standing' ≡ standingAfter order.size order.pairs (standingOpened order.size)
   -- which is the sheet that the file states
   pub shows : Shows order costs' standing'
 

@@ -1,4 +1,5 @@
 //! Order files: a sheet of plain costs as bytes, read and written.
+#![tactic(auto)]
 
 pub mod field;
 pub mod loading;

@@ -1,6 +1,7 @@
 //! Describes many order files from standard input: each one comes behind its length, four bytes
 //! with the high byte first. The files and what has to be printed are made by
 //! tools/order_files.py, which knows the format on its own.
+#![tactic(auto)]
 
 use anyhow::anyhow;
 use report::describe;

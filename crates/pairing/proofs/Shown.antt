@@ -54,7 +54,7 @@ crowded-set (suc (suc l)) =
 
 pub crowded : Unpaired 2 Crowded.stands 3 1
 unfolding bit members
-crowded = record { none = λ p h. (in-perfects 2 Crowded.stands p).1 h; crowd-set = crowded-set; shortage-is = refl }
+crowded = record { none = λ p h. (in-perfects 2 Crowded.stands p).1 h; crowd_set = crowded-set; shortage_is = refl }
 
 -- ---- nothing stands: nothing is paired
 
@@ -72,4 +72,4 @@ bare_set (suc l) =
 
 pub bare : Unpaired 1 Bare.stands 1 1
 unfolding bit members
-bare = record { none = λ p h. (in-perfects 1 Bare.stands p).1 h; crowd-set = bare_set; shortage-is = refl }
+bare = record { none = λ p h. (in-perfects 1 Bare.stands p).1 h; crowd_set = bare_set; shortage_is = refl }

@@ -66,8 +66,8 @@ module _ (g : Grid) (left right : ℕ → List ℤ) (p : List ℕ) (rank : List 
   abbrev value : List ℤ → Bool
   value xs = eqb (length xs) g.columns && within 1000000000000000 xs
 
-  value-is : (xs : List ℤ) → value xs ≡ true → Value g.columns xs
-  value-is xs e =
+  value_is : (xs : List ℤ) → value xs ≡ true → Value g.columns xs
+  value_is xs e =
       let b = and_parts (eqb (length xs) g.columns) (within 1000000000000000 xs) e in
       record { sized = eqb-true (length xs) g.columns b.0; railed = (within-tells 1000000000000000 xs).0 b.1 }
 
@@ -105,8 +105,8 @@ module _ (g : Grid) (left right : ℕ → List ℤ) (p : List ℕ) (rank : List 
       let b₄ = λ (k : ℕ) (i : k < g.size). and_parts (level (plus (left k) (right (at p k))) (g.cost k (at p k))) _ (b₃ k i).1 in
       let b₅ = λ (k : ℕ) (i : k < g.size). and_parts (upto (right k) (zeros g.columns)) (attained-test k) (b₄ k i).1 in
       let v : Valid g left right p = record {
-        lefts = λ l i. value-is (left l) (b₁ l i).0;
-        rights = λ r j. value-is (right r) (b₂ r j).0;
+        lefts = λ l i. value_is (left l) (b₁ l i).0;
+        rights = λ r j. value_is (right r) (b₂ r j).0;
         under = λ l r i j t. (upto-tells (plus (left l) (right r)) (g.cost l r)).0 (implied (g.stands l r) _ (passes g.size (under-test l) (b₃ l i).0 r j) t);
         equal = λ l i. level-same (plus (left l) (right (at p l))) (g.cost l (at p l)) (b₄ l i).0;
       } in

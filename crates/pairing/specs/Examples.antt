@@ -89,18 +89,18 @@ pub record Priced (g : Grid) (pairings : List (List ℕ)) (sum : ℤ) (left righ
 pub record Examples (w : Worked) : Type 0 where
   pub s : Priced S w.s_optima w.s_total w.s_left w.s_right
   -- some optimum pairing has each standing pair but these
-  pub s-marked : (l r : ℕ) → l < 3 → r < 3 → S.stands l r ≡ true → Decides (not (among w.s_unmarked l r)) (Marked S l r)
-  pub free-kind : optima S-free ≡ w.free_optima
+  pub s_marked : (l r : ℕ) → l < 3 → r < 3 → S.stands l r ≡ true → Decides (not (among w.s_unmarked l r)) (Marked S l r)
+  pub free_kind : optima S-free ≡ w.free_optima
   pub two_steps : optima Two-step ≡ w.two_step_optima
-  pub two-step-total : All (λ p. total Two-step p ≡ w.two_step_total) w.two_step_optima
+  pub two_step_total : All (λ p. total Two-step p ≡ w.two_step_total) w.two_step_optima
   pub crowded : Unpaired Crowded.size Crowded.stands w.crowded_set w.crowded_short
   pub bare : Unpaired Bare.size Bare.stands w.bare_set w.bare_short
   pub corner : Priced Corner w.corner_optima (pos 0) w.corner_left w.corner_right
   -- a standing pair that costs just its prices and is in no optimum pairing
-  pub corner-stands : Corner.stands w.corner_pair.left w.corner_pair.right ≡ true
-  pub corner-tight : Tight-pair Corner (prices w.corner_left) (prices w.corner_right) w.corner_pair.left w.corner_pair.right
-  pub corner-unmarked : Marked Corner w.corner_pair.left w.corner_pair.right → ⊥
+  pub corner_stands : Corner.stands w.corner_pair.left w.corner_pair.right ≡ true
+  pub corner_tight : Tight-pair Corner (prices w.corner_left) (prices w.corner_right) w.corner_pair.left w.corner_pair.right
+  pub corner_unmarked : Marked Corner w.corner_pair.left w.corner_pair.right → ⊥
   pub cheap : Priced Cheap w.cheap_optima w.cheap_total w.cheap_left w.cheap_right
-  pub level-count : length (optima Level) ≡ w.level_count
-  pub level-first : get_or (optima Level) 0 [] ≡ w.level_first
-  pub level-last : get_or (optima Level) (w.level_count - 1) [] ≡ w.level_last
+  pub level_count : length (optima Level) ≡ w.level_count
+  pub level_first : get_or (optima Level) 0 [] ≡ w.level_first
+  pub level_last : get_or (optima Level) (w.level_count - 1) [] ≡ w.level_last

@@ -47,5 +47,5 @@ shortage n stands X = members n X - members n (around n stands X)
 -- no pairing is perfect; these are the crowd set, as one number, and its shortage
 pub record Unpaired (n : ℕ) (stands : ℕ → ℕ → Bool) (crowd short : ℕ) : Type 0 where
   pub none : (p : List ℕ) → Perfect n stands p → ⊥
-  pub crowd-set : Crowd-set n stands (bit crowd)
-  pub shortage-is : shortage n stands (bit crowd) ≡ short
+  pub crowd_set : Crowd-set n stands (bit crowd)
+  pub shortage_is : shortage n stands (bit crowd) ≡ short

@@ -1,5 +1,6 @@
 //! The mathematics of pairing: what the words mean stands in specs/, and each theorem is the
 //! contract of a function here. A theorem's function answers the witness that its statement names.
+#![tactic(auto)]
 
 ghost use Rattle.pairing.specs.Examples.{Examples};
 ghost use Rattle.pairing.specs.Theorems.{Proves-optimum, Optimum-if-tight, Tight-alike, Valid-alike, Greatest-alike, Given-alike, Leaves-out, Hall, Largest-if-stuck, Crowd-if-reached, Short-by, Sends-if-chain, Optima-are, Marks-are};

@@ -1,4 +1,5 @@
 //! Order files as text: what a file states, or why it is refused.
+#![tactic(auto)]
 
 ghost use Rattle.std.specs.Prelude.{◌≡◌, ◌<◌, true, ◌++◌, is_ok, IfOk, Some, string_bytes};
 ghost use Rattle.orderfile.specs.Format.{Order, States};

@@ -1,5 +1,6 @@
 //! Examples of the calls on an open sheet, of loading and of saving, with every refusal; a crate of
 //! their own, since a crate with tests is proved twice.
+#![tactic(auto)]
 
 #[cfg(test)]
 mod calls;

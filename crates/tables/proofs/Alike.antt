@@ -68,8 +68,8 @@ module _ (n : ℕ) (s t : ℕ → ℕ → Bool) (e : Alike n s t) where
   pub unpaired-like : (crowd short : ℕ) → Unpaired n s crowd short → Unpaired n t crowd short
   unpaired-like crowd short h = record {
     none = λ p k. h.none p (perfect-like n t s (alike-back n s t e) p k);
-    crowd-set = λ l. Decides-like (bit crowd l) (crowd-like n s t e l) (crowd-like n t s (alike-back n s t e) l) (h.crowd-set l);
-    shortage-is = sym (shortage-like n s t e (bit crowd)) ∙ h.shortage-is;
+    crowd_set = λ l. Decides-like (bit crowd l) (crowd-like n s t e l) (crowd-like n t s (alike-back n s t e) l) (h.crowd_set l);
+    shortage_is = sym (shortage-like n s t e (bit crowd)) ∙ h.shortage_is;
   }
 
 -- ---- The rows that were made from a table

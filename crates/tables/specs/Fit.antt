@@ -5,10 +5,10 @@ use Rattle.tables.specs.declared.Unfit.TheVariants.{Size, Length, Order}
 
 -- pair tables and price tables of these lengths fit n blocks a plane
 pub record Sized (n costs standing left right : ℕ) : Type 0 where
-  pub costs-fit : costs ≡ n * n
-  pub standing-fit : standing ≡ n * n
-  pub left-fit : left ≡ n
-  pub right-fit : right ≡ n
+  pub costs_fit : costs ≡ n * n
+  pub standing_fit : standing ≡ n * n
+  pub left_fit : left ≡ n
+  pub right_fit : right ≡ n
 
 -- the cause is the first that applies: too many blocks, a wrong length, tables that are not in order
 abbrev pub Misfit : (n : ℕ) (Lengths Ordered : Type 0) → Unfit → Type 0

@@ -1,4 +1,5 @@
 //! What lent tables say of a grid, as rows of block sets: the pairs that stand, and the pairs whose two prices add up to their cost.
+#![tactic(auto)]
 
 ghost use Rattle.std.specs.Prelude.{◌≡◌, ◌*◌, length, MatchResult, slice_index};
 ghost use Rattle.grid.specs.Tables.{byte_of, saysStands};
@@ -53,7 +54,7 @@ pub fn standing_rows(standing: &[u8], rows: &mut [BlockSet]) -> Result<(), Unfit
 
 /// Whether a pair stands and its two prices add up to its cost.
 fn tight<K: Cost>(byte: u8, left: K, right: K, cost: K) -> bool
-    ensures { result ≡ addsUp (saysStands byte) (meaning left) (meaning right) (meaning cost) }
+    ensures { result ≡ addsUp (saysStands byte) (K.meaning left) (K.meaning right) (K.meaning cost) }
 {
     stands(byte) && left.add(right).compare(cost).is_eq()
 }
@@ -62,7 +63,7 @@ fn tight<K: Cost>(byte: u8, left: K, right: K, cost: K) -> bool
 fn tight_row<K: Cost>(costs: &[K], standing: &[u8], left: K, right: &[K]) -> BlockSet
     requires priced { length costs.now ≡ length right.now }
     requires told { length standing.now ≡ length right.now }
-    ensures { Passing (length right.now) (λ r. addsUp (saysStands (slice_index standing.now r)) (meaning left) (columnsAt meaning right.now r) (columnsAt meaning costs.now r)) result }
+    ensures { Passing (length right.now) (λ r. addsUp (saysStands (slice_index standing.now r)) (K.meaning left) (columnsAt K.meaning right.now r) (columnsAt K.meaning costs.now r)) result }
 {
     let mut row = BlockSet::empty();
     for (r, price) in right.iter().enumerate() {
@@ -81,7 +82,7 @@ pub fn tight_rows<K: Cost>(
     right: &[K],
     rows: &mut [BlockSet],
 ) -> Result<(), Unfit>
-    ensures { let n = length rows.old in let Lengths = Sized n (length costs.now) (length standing.now) (length left.now) (length right.now) in MatchResult result (λ _. Fit n Lengths (Unit {0}) × TightRows (gridOf columns meaning n costs.now standing.now) (columnsAt meaning left.now) (columnsAt meaning right.now) rows.new) (λ e. Misfit n Lengths (Unit {0}) e × (rows.new ≡ rows.old)) }
+    ensures { let n = length rows.old in let Lengths = Sized n (length costs.now) (length standing.now) (length left.now) (length right.now) in MatchResult result (λ _. Fit n Lengths (Unit {0}) × TightRows (gridOf K.columns K.meaning n costs.now standing.now) (columnsAt K.meaning left.now) (columnsAt K.meaning right.now) rows.new) (λ e. Misfit n Lengths (Unit {0}) e × (rows.new ≡ rows.old)) }
 {
     let n = rows.len();
     if n > 64 {

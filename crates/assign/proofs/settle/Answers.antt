@@ -9,21 +9,21 @@ use Rattle.assign.specs.Weighed.{weightAt, costWeight}
 use Rattle.assign.proofs.Cheaply.{cheaply-kept}
 use Rattle.assign.proofs.settle.Goals as goal
 
-pub pair-rest-owner-requires : goal.pair-rest-owner-requires
-pair-rest-owner-requires g c =
+pub pair_rest-owner-requires : goal.pair_rest-owner-requires
+pair_rest-owner-requires g c =
     let m = g.K.Cost.meaning in
     let n = length c.args.rows.now in
     record {
       lent = c.requires.lent;
-      partnered = c.pair-cheapest-owners.auto.partners ∙ c.requires.partnered;
+      partnered = c.pair_cheapest-owners.auto.partners ∙ c.requires.partnered;
       lefts = c.requires.lefts;
-      rights = c.price-cheapest-cheapest.auto.right ∙ c.requires.rights;
-      inside = c.pair-cheapest-owners.ensures.inside;
+      rights = c.price_cheapest-cheapest.auto.right ∙ c.requires.rights;
+      inside = c.pair_cheapest-owners.ensures.inside;
       possible = c.requires.possible;
       paired = record {
-        kept = cheaply-kept n (holds c.args.rows.now) (costWeight m n c.args.costs.now) (has c.price-cheapest-cheapest.result.priced) (at c.price-cheapest-cheapest.result.row) (weightAt m c.price-cheapest-cheapest.new.right)
-            c.price-cheapest-cheapest.ensures.cheapest (has c.pair-cheapest-owners.result.out) (at c.pair-cheapest-owners.new.partners) (at c.pair-cheapest-owners.result.owner) c.pair-cheapest-owners.ensures;
-        priced = λ j h. within_more 1000000000 500000000000 (columnsAt m c.price-cheapest-cheapest.new.right j) (omega arith) (c.price-cheapest-cheapest.ensures.bound j h);
-        unsold = λ j h _. c.price-cheapest-cheapest.ensures.bound j h;
+        kept = cheaply-kept n (holds c.args.rows.now) (costWeight m n c.args.costs.now) (has c.price_cheapest-cheapest.result.priced) (at c.price_cheapest-cheapest.result.row) (weightAt m c.price_cheapest-cheapest.new.right)
+            c.price_cheapest-cheapest.ensures.cheapest (has c.pair_cheapest-owners.result.out) (at c.pair_cheapest-owners.new.partners) (at c.pair_cheapest-owners.result.owner) c.pair_cheapest-owners.ensures;
+        priced = λ j h. within_more 1000000000 500000000000 (columnsAt m c.price_cheapest-cheapest.new.right j) (omega arith) (c.price_cheapest-cheapest.ensures.bound j h);
+        unsold = λ j h _. c.price_cheapest-cheapest.ensures.bound j h;
       };
     }

@@ -8,19 +8,19 @@ use Rattle.matching.specs.Rows.{Pairs}
 use Rattle.bench_calls.proofs.Firsts.{accepted, settled, never-refused}
 use Rattle.bench_calls.proofs.take_first.Goals as goal
 
-pub unreachable-requires-in-default-first : goal.unreachable-requires-in-default-first
-unreachable-requires-in-default-first c =
-    let rows = c.tight-rows.new.rows in
+pub unreachable-requires-in_default-first : goal.unreachable-requires-in_default-first
+unreachable-requires-in_default-first c =
+    let rows = c.tight_rows.new.rows in
     let sized : length rows ≡ length c.args.rows.now = search rules in
     let fit = c.requires.fits in
     let pairs : Pairs rows c.args.partners.now =
     accepted (length c.args.rows.now) c.args.costs.now c.args.standing.now c.args.partners.now c.args.left.now c.args.right.now rows c.requires.few
-    fit.0.costs-fit c.requires.ordered c.requires.found sized c.in-Ok.ensures.1 in
-    never-refused rows c.args.partners.now (omega (arith, sized, c.requires.few)) (fit.1 ∙ sym sized) pairs c.in-default-first.field-0 c.in-default-first.ensures.0
+    fit.0.costs_fit c.requires.ordered c.requires.found sized c.in-Ok.ensures.1 in
+    never-refused rows c.args.partners.now (omega (arith, sized, c.requires.few)) (fit.1 ∙ sym sized) pairs c.in_default-first.field-0 c.in_default-first.ensures.0
 
 pub returns : goal.returns
 returns c =
-    let rows = c.tight-rows.new.rows in
+    let rows = c.tight_rows.new.rows in
     let sized : length rows ≡ length c.args.rows.now = search rules in
     settled (length c.args.rows.now) c.args.costs.now c.args.standing.now c.args.partners.now c.args.left.now c.args.right.now rows c.requires.few
-    c.requires.fits.0.costs-fit c.requires.ordered c.requires.found sized c.in-Ok.ensures.1 c.first.new.p c.in-Ok-first.ensures.1
+    c.requires.fits.0.costs_fit c.requires.ordered c.requires.found sized c.in-Ok.ensures.1 c.first.new.p c.in-Ok-first.ensures.1

@@ -2,14 +2,14 @@
 use Rattle.certificate.proofs.Judging.{together-decided, together-denied}
 use Rattle.certificate.proofs.holds_together.Goals as goal
 
-pub returns-then-grid-holds-prices : goal.returns-then-grid-holds-prices
-returns-then-grid-holds-prices g c =
+pub returns-then-grid_holds_prices : goal.returns-then-grid_holds_prices
+returns-then-grid_holds_prices g c =
     together-decided g.K.Cost.columns g.K.Cost.meaning g.met.K.Cost.sized c.args.n c.args.costs.now c.args.standing.now c.args.left.now c.args.right.now
-    (c.has-prices.ensures.0 c.if-not-has-prices.false) (c.has-prices-else-not-has-prices.ensures.0 c.if-not-has-prices-2.false) c.is-tight.result c.args.partners.now
-    (c.in-order.ensures.0 c.if-not-in-order.false) (c.grid-holds-prices.ensures.0 c.if-grid-holds-prices.true) c.is-tight.ensures
+    (c.has_prices.ensures.0 c.if-not-has_prices.false) (c.has_prices-else-not-has_prices.ensures.0 c.if-not-has_prices-2.false) c.is_tight.result c.args.partners.now
+    (c.in_order.ensures.0 c.if-not-in_order.false) (c.grid_holds_prices.ensures.0 c.if-grid_holds_prices.true) c.is_tight.ensures
 
-pub returns-else-grid-holds-prices : goal.returns-else-grid-holds-prices
-returns-else-grid-holds-prices g c =
+pub returns-else-grid_holds_prices : goal.returns-else-grid_holds_prices
+returns-else-grid_holds_prices g c =
     together-denied g.K.Cost.columns g.K.Cost.meaning g.met.K.Cost.sized c.args.n c.args.costs.now c.args.standing.now c.args.left.now c.args.right.now
-    (c.has-prices.ensures.0 c.if-not-has-prices.false) (c.has-prices-else-not-has-prices.ensures.0 c.if-not-has-prices-2.false) c.grid-holds-prices.result c.args.partners.now
-    c.if-grid-holds-prices.false c.grid-holds-prices.ensures
+    (c.has_prices.ensures.0 c.if-not-has_prices.false) (c.has_prices-else-not-has_prices.ensures.0 c.if-not-has_prices-2.false) c.grid_holds_prices.result c.args.partners.now
+    c.if-grid_holds_prices.false c.grid_holds_prices.ensures

@@ -9,4 +9,4 @@ use Rattle.certificate.proofs.in_order.Goals as goal
 pub returns : goal.returns
 returns g c =
     let fit = fits-tells c.args.n (length c.args.costs.now) (length c.args.standing.now) (sym c.if-not-fits.ensures) in
-    Decides-at c.in-order.result (orderly g.K.Cost.meaning c.args.costs.now c.args.standing.now) c.in-order.ensures (in-order-tells g.K.Cost.meaning c.args.n c.args.costs.now c.args.standing.now c.if-n-gt-MOST-BLOCKS.false fit.0 fit.1)
+    Decides-at c.in_order.result (orderly g.K.Cost.meaning c.args.costs.now c.args.standing.now) c.in_order.ensures (in-order-tells g.K.Cost.meaning c.args.n c.args.costs.now c.args.standing.now c.if-n-gt-MOST_BLOCKS.false fit.0 fit.1)

@@ -5,12 +5,12 @@ use Rattle.grid.proofs.Orderly.{orderly-more, orderly-all}
 use Rattle.grid.proofs.in_order.Given as given
 use Rattle.grid.proofs.in_order.Goals as goal
 
-pub returns-then-not-place-in-order : goal.returns-then-not-place-in-order
-returns-then-not-place-in-order g c =
+pub returns-then-not-place_in_order : goal.returns-then-not-place_in_order
+returns-then-not-place_in_order g c =
     let m = g.K.Cost.meaning in
     let k = c.loop-k.k in
     let rest = orderly m (drop (k + 1) c.args.costs.now) (drop (k + 1) c.args.standing.now) in
-    ap (λ b. b && rest) (sym c.if-not-place-in-order.true ∙ c.place-in-order.ensures)
+    ap (λ b. b && rest) (sym c.if-not-place_in_order.true ∙ c.place_in_order.ensures)
     ∙ sym (c.loop-k.invariant ∙ orderly-more m c.args.costs.now c.args.standing.now k c.index-costs-k.result (omega arith) (omega arith) c.index-costs-k.is)
 
 pub loop-k-preserved : goal.loop-k-preserved
@@ -19,7 +19,7 @@ loop-k-preserved g c =
     let k = c.loop-k.k in
     let rest = orderly m (drop (k + 1) c.args.costs.now) (drop (k + 1) c.args.standing.now) in
     c.loop-k.invariant ∙ orderly-more m c.args.costs.now c.args.standing.now k c.index-costs-k.result (omega arith) (omega arith) c.index-costs-k.is
-    ∙ ap (λ b. b && rest) (sym c.place-in-order.ensures ∙ c.if-not-place-in-order.false)
+    ∙ ap (λ b. b && rest) (sym c.place_in_order.ensures ∙ c.if-not-place_in_order.false)
 
 pub returns : goal.returns
 returns g c =

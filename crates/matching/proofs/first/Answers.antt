@@ -6,4 +6,4 @@ use Rattle.matching.proofs.first.Goals as goal
 pub returns : goal.returns
 returns c =
     let s = c.settle.ensures in
-    (c.in-ok-fit.ensures, first-place c.args.rows.now c.settle.new.p s.pairs (λ q g. s.first q g (λ i h. absurd (omega arith))))
+    (c.in_ok-fit.ensures, first-place c.args.rows.now c.settle.new.p s.pairs (λ q g. s.first q g (λ i h. absurd (omega arith))))

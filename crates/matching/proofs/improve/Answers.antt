@@ -46,8 +46,8 @@ module _ (rows : List BlockSet) (p : List ℕ) (l floor : ℕ) (h : Pairs rows p
 holding : (rows : List BlockSet) (p : List ℕ) (l : ℕ) (out held : ℕ → Bool) (row : List ℕ) → Pairs rows p → Holding l (length p) p out held row → Holding l (length rows) p out held row
 holding rows p l out held row h w = subst (λ n. Holding l n p out held row) h.len w
 
-pub find-holders-holders-requires : goal.find-holders-holders-requires
-find-holders-holders-requires c =
+pub find_holders-holders-requires : goal.find_holders-holders-requires
+find_holders-holders-requires c =
     let p = c.args.p.now in
     record {
       small = omega (arith, c.requires.small, c.requires.pairs.len);
@@ -60,10 +60,10 @@ loop-r-init c =
     let rows = c.args.rows.now in
     let p = c.args.p.now in
     let l = c.args.l in
-    let w = c.find-holders-holders.result in (
+    let w = c.find_holders-holders.result in (
       refl,
       trying_start rows p l c.requires.small c.requires.pairs c.requires.inside (has c.of-alone.result) (has w.held) w.row c.of-alone.ensures
-          (holding rows p l (has c.of-alone.result) (has w.held) w.row c.requires.pairs c.find-holders-holders.ensures) (has c.union-live.result) (has c.of-goals.result) c.of-goals.ensures c.union-live.ensures,
+          (holding rows p l (has c.of-alone.result) (has w.held) w.row c.requires.pairs c.find_holders-holders.ensures) (has c.union-live.result) (has c.of-goals.result) c.of-goals.ensures c.union-live.ensures,
       λ j. floored (holds rows l j) (has c.union-live.result j) (has c.difference-candidates.result j) (has c.intersection.result j) (has c.all.result j) j c.args.floor
           (has_block _ j) (c.intersection.ensures j) (c.all.ensures j) (c.difference-candidates.ensures j),
     )
@@ -99,12 +99,12 @@ search-reach-requires c =
     let p = c.args.p.now in
     let l = c.args.l in
     let r = c.in-Some.r in
-    let w = c.find-holders-holders.result in
+    let w = c.find_holders-holders.result in
     let alone = has c.of-alone.result in
     let live = has c.loop-r.live in
     let s = state rows l live p c.loop-r.p c.loop-r.invariant.0 c.loop-r.invariant.1 in
     let up = above rows p l c.args.floor c.requires.pairs c.requires.inside live s (has c.loop-r.candidates) c.loop-r.invariant.2 r c.in-Some.ensures.1 in
-    let hold = holding rows p l alone (has w.held) w.row c.requires.pairs c.find-holders-holders.ensures in
+    let hold = holding rows p l alone (has w.held) w.row c.requires.pairs c.find_holders-holders.ensures in
     let b : Bounds = record { roots = c.of-alone.result; offer = c.of.result; live = c.loop-r.live; goals = c.of-goals.result } in
     record {
       small = c.requires.small;
@@ -119,12 +119,12 @@ exchange-requires c =
     let p = c.args.p.now in
     let l = c.args.l in
     let r = c.in-Some.r in
-    let w = c.find-holders-holders.result in
+    let w = c.find_holders-holders.result in
     let alone = has c.of-alone.result in
     let live = has c.loop-r.live in
     let s = state rows l live p c.loop-r.p c.loop-r.invariant.0 c.loop-r.invariant.1 in
     let up = above rows p l c.args.floor c.requires.pairs c.requires.inside live s (has c.loop-r.candidates) c.loop-r.invariant.2 r c.in-Some.ensures.1 in
-    let hold = holding rows p l alone (has w.held) w.row c.requires.pairs c.find-holders-holders.ensures in
+    let hold = holding rows p l alone (has w.held) w.row c.requires.pairs c.find_holders-holders.ensures in
     let b : Bounds = record { roots = c.of-alone.result; offer = c.of.result; live = c.loop-r.live; goals = c.of-goals.result } in
     let x = c.search-reach.result in
     let found : (has x.reached c.in-Some-goal.goal ≡ true) × (has c.of-goals.result c.in-Some-goal.goal ≡ true) = subst (Ended (along rows b) alone (has w.held) (has c.of-goals.result) w.row (has x.reached)) c.in-Some-goal.is c.search-reach.ensures.goal in
@@ -153,12 +153,12 @@ returns-in-Some-goal c =
     let p = c.args.p.now in
     let l = c.args.l in
     let r = c.in-Some.r in
-    let w = c.find-holders-holders.result in
+    let w = c.find_holders-holders.result in
     let alone = has c.of-alone.result in
     let live = has c.loop-r.live in
     let s = state rows l live p c.loop-r.p c.loop-r.invariant.0 c.loop-r.invariant.1 in
     let up = above rows p l c.args.floor c.requires.pairs c.requires.inside live s (has c.loop-r.candidates) c.loop-r.invariant.2 r c.in-Some.ensures.1 in
-    let hold = holding rows p l alone (has w.held) w.row c.requires.pairs c.find-holders-holders.ensures in
+    let hold = holding rows p l alone (has w.held) w.row c.requires.pairs c.find_holders-holders.ensures in
     let b : Bounds = record { roots = c.of-alone.result; offer = c.of.result; live = c.loop-r.live; goals = c.of-goals.result } in
     let x = c.search-reach.result in
     let f = brought (λ n q. Filled n q c.exchange.new.p alone (has x.reached) x.from c.exchange.result) (length rows) p c.loop-r.p c.loop-r.invariant.0 c.requires.pairs.len c.exchange.ensures in
@@ -176,15 +176,15 @@ loop-r-smaller c =
     let p = c.args.p.now in
     let l = c.args.l in
     let r = c.in-Some.r in
-    let w = c.find-holders-holders.result in
+    let w = c.find_holders-holders.result in
     let alone = has c.of-alone.result in
     let live = has c.loop-r.live in
     let s = state rows l live p c.loop-r.p c.loop-r.invariant.0 c.loop-r.invariant.1 in
     let up = above rows p l c.args.floor c.requires.pairs c.requires.inside live s (has c.loop-r.candidates) c.loop-r.invariant.2 r c.in-Some.ensures.1 in
-    let hold = holding rows p l alone (has w.held) w.row c.requires.pairs c.find-holders-holders.ensures in
+    let hold = holding rows p l alone (has w.held) w.row c.requires.pairs c.find_holders-holders.ensures in
     let b : Bounds = record { roots = c.of-alone.result; offer = c.of.result; live = c.loop-r.live; goals = c.of-goals.result } in
     let x = c.search-reach.result in
-    let vain : Complete (along rows b) alone (has w.held) w.row (has x.reached) × ((j : ℕ) → has x.reached j ≡ true → has c.of-goals.result j ≡ false) = subst (Ended (along rows b) alone (has w.held) (has c.of-goals.result) w.row (has x.reached)) c.in-default-goal.is c.search-reach.ensures.goal in
+    let vain : Complete (along rows b) alone (has w.held) w.row (has x.reached) × ((j : ℕ) → has x.reached j ≡ true → has c.of-goals.result j ≡ false) = subst (Ended (along rows b) alone (has w.held) (has c.of-goals.result) w.row (has x.reached)) c.in_default-goal.is c.search-reach.ensures.goal in
     let shut : has x.reached r ≡ true = vain.0.rooted l r (one_in alone l (omega (arith, c.requires.small, c.requires.inside)) c.of-alone.ensures) (along-offer rows p l c.requires.small c.requires.pairs c.requires.inside alone (has w.held) w.row c.of-alone.ensures hold b live r s up.1 up.0 (λ j. refl) (λ j. refl) c.of.ensures c.of-goals.ensures) in
     let gone : has c.intersection-candidates.result r ≡ false = (let e₁ = c.intersection-candidates.ensures r in let e₂ = c.difference-live.ensures r in grind arith) in
     members-less 64 (has c.loop-r.candidates) (has c.intersection-candidates.result) r c.in-Some.ensures.0
@@ -196,15 +196,15 @@ loop-r-preserved c =
     let p = c.args.p.now in
     let l = c.args.l in
     let r = c.in-Some.r in
-    let w = c.find-holders-holders.result in
+    let w = c.find_holders-holders.result in
     let alone = has c.of-alone.result in
     let live = has c.loop-r.live in
     let s = state rows l live p c.loop-r.p c.loop-r.invariant.0 c.loop-r.invariant.1 in
     let up = above rows p l c.args.floor c.requires.pairs c.requires.inside live s (has c.loop-r.candidates) c.loop-r.invariant.2 r c.in-Some.ensures.1 in
-    let hold = holding rows p l alone (has w.held) w.row c.requires.pairs c.find-holders-holders.ensures in
+    let hold = holding rows p l alone (has w.held) w.row c.requires.pairs c.find_holders-holders.ensures in
     let b : Bounds = record { roots = c.of-alone.result; offer = c.of.result; live = c.loop-r.live; goals = c.of-goals.result } in
     let x = c.search-reach.result in
-    let vain : Complete (along rows b) alone (has w.held) w.row (has x.reached) × ((j : ℕ) → has x.reached j ≡ true → has c.of-goals.result j ≡ false) = subst (Ended (along rows b) alone (has w.held) (has c.of-goals.result) w.row (has x.reached)) c.in-default-goal.is c.search-reach.ensures.goal in (
+    let vain : Complete (along rows b) alone (has w.held) w.row (has x.reached) × ((j : ℕ) → has x.reached j ≡ true → has c.of-goals.result j ≡ false) = subst (Ended (along rows b) alone (has w.held) (has c.of-goals.result) w.row (has x.reached)) c.in_default-goal.is c.search-reach.ensures.goal in (
       c.loop-r.invariant.0,
       subst (λ q. Trying (length rows) l (holds rows) q (has c.difference-live.result)) (sym c.loop-r.invariant.0)
           (trying-more rows p l c.requires.small c.requires.pairs c.requires.inside alone (has w.held) w.row c.of-alone.ensures hold b live r s up.1 up.0 (λ j. refl) (λ j. refl) c.of.ensures c.of-goals.ensures (has x.reached) x.from x.rank c.search-reach.ensures.reached vain.0 vain.1 (has c.difference-live.result) c.difference-live.ensures),
@@ -219,5 +219,5 @@ returns c =
     let s = state rows c.args.l (has c.loop-r.live) p c.loop-r.p c.loop-r.invariant.0 c.loop-r.invariant.1 in
     record {
       same = c.loop-r.invariant.0;
-      none = unimproved rows p c.args.l c.args.floor c.requires.pairs c.requires.inside (has c.loop-r.live) s (has c.loop-r.candidates) c.loop-r.invariant.2 c.in-default.ensures;
+      none = unimproved rows p c.args.l c.args.floor c.requires.pairs c.requires.inside (has c.loop-r.live) s (has c.loop-r.candidates) c.loop-r.invariant.2 c.in_default.ensures;
     }

@@ -13,8 +13,8 @@ use Rattle.matching.proofs.marks.Goals as goal
 row-end : (l n : ℕ) → l < n → l * n + n ≤ n * n
 row-end l n i = let h : (l + 1) * n ≤ n * n = mul-le (l + 1) n n n (omega arith) (omega arith) in omega (arith, add-mul l 1 n, one-mul n)
 
-pub slice-bounds-mark-row-end : goal.slice-bounds-mark-row-end
-slice-bounds-mark-row-end c = omega (arith, row-end c.loop-l.l (length c.args.rows.now) (omega arith))
+pub slice_bounds-mark_row-end : goal.slice_bounds-mark_row-end
+slice_bounds-mark_row-end c = omega (arith, row-end c.loop-l.l (length c.args.rows.now) (omega arith))
 
 pub loop-l-preserved : goal.loop-l-preserved
 loop-l-preserved c m r i j =
@@ -22,15 +22,15 @@ loop-l-preserved c m r i j =
     let p = c.args.p.now in
     let n = length rows in
     let l = c.loop-l.l in
-    let fits = c.in-ok-fit.ensures in
+    let fits = c.in_ok-fit.ensures in
     let inside : l < n = omega arith in
     let short : l * n ≤ length c.loop-l.table = omega (arith, row-end l n inside) in
     elim (cases_eq m l) [
       | inl e ↦
-          ap (λ x. at (put_mid (l * n) (l * n + n - l * n) c.loop-l.table c.mark-row.new.marks) (x * n + r)) e
-          ∙ put-inside (l * n) (l * n + n - l * n) c.loop-l.table c.mark-row.new.marks short r (omega (arith, row-end l n inside))
-          ∙ c.mark-row.ensures r (omega (arith, row-end l n inside))
+          ap (λ x. at (put_mid (l * n) (l * n + n - l * n) c.loop-l.table c.mark_row.new.marks) (x * n + r)) e
+          ∙ put-inside (l * n) (l * n + n - l * n) c.loop-l.table c.mark_row.new.marks short r (omega (arith, row-end l n inside))
+          ∙ c.mark_row.ensures r (omega (arith, row-end l n inside))
           ∙ ap (λ b. cond b 1 0) (pair-occurs rows p c.leads-led.result l r fits.paired c.leads-led.ensures inside j)
           ∙ ap (λ x. cond (has-pair x r (pairings rows)) 1 0) (sym e)
-      | inr ne ↦ put-before (l * n) (l * n + n - l * n) c.loop-l.table c.mark-row.new.marks short (m * n + r) (omega (arith, mul-add-lt m n r l (omega arith) j)) ∙ c.loop-l.invariant m r (omega arith) j
+      | inr ne ↦ put-before (l * n) (l * n + n - l * n) c.loop-l.table c.mark_row.new.marks short (m * n + r) (omega (arith, mul-add-lt m n r l (omega arith) j)) ∙ c.loop-l.invariant m r (omega arith) j
     ]

@@ -9,8 +9,8 @@ use Rattle.matching.proofs.Inserting.{inserted, new_in, old-in, old-from}
 use Rattle.matching.proofs.Searching.{search-ways, search-grown, search-least, search-more, search-retired}
 use Rattle.matching.proofs.search.Goals as goal
 
-pub overflow-cast-rank : goal.overflow-cast-rank
-overflow-cast-rank c = omega (arith, members-le 64 (has c.loop-l.reached))
+pub overflow_cast-rank : goal.overflow_cast-rank
+overflow_cast-rank c = omega (arith, members-le 64 (has c.loop-l.reached))
 
 pub returns-then-contains : goal.returns-then-contains
 returns-then-contains c =
@@ -109,4 +109,4 @@ loop-l-preserved c =
     let b = c.args.bounds in
     let h = c.args.holders.now in
     search-retired (length rows) (along rows b) (has b.roots) (has h.held) (has b.goals) h.row (has c.loop-l.pending) (has c.loop-l.reached) c.loop-l.from c.loop-l.rank c.loop-l.invariant
-    c.in-Some.l (has c.remove.new.self) c.in-default-fresh.ensures c.remove.ensures
+    c.in-Some.l (has c.remove.new.self) c.in_default-fresh.ensures c.remove.ensures

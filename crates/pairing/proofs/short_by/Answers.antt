@@ -3,4 +3,4 @@ use Rattle.pairing.proofs.Crowds.{short-by}
 use Rattle.pairing.proofs.short_by.Goals as goal
 
 pub returns : goal.returns
-returns c = short-by c.args.left-out
+returns c = short-by c.args.left_out

@@ -23,18 +23,18 @@ returns c = record {
       (greatest-is S _ _ _ (0 ∷ 1 ∷ 0 ∷ []) (sane-is S refl) (perfect S _ (inr (inl refl))) refl, tt),
     );
   };
-  s-marked = marks-are S _ refl;
-  free-kind = refl;
+  s_marked = marks-are S _ refl;
+  free_kind = refl;
   two_steps = refl;
-  two-step-total = (refl, tt);
+  two_step_total = (refl, tt);
   crowded = crowded;
   bare = bare;
   corner = record { all = refl; totals = (refl, tt); greatest = (greatest-is Corner _ _ _ [] (sane-is Corner refl) (perfect Corner _ (inl refl)) refl, tt) };
-  corner-stands = refl;
-  corner-tight = refl;
-  corner-unmarked = λ w. false≢true ((marked-tells Corner 0 1).1 w);
+  corner_stands = refl;
+  corner_tight = refl;
+  corner_unmarked = λ w. false≢true ((marked-tells Corner 0 1).1 w);
   cheap = record { all = refl; totals = (refl, tt); greatest = (greatest-is Cheap _ _ _ [] (sane-is Cheap refl) (perfect Cheap _ (inl refl)) refl, tt) };
-  level-count = refl;
-  level-first = refl;
-  level-last = refl;
+  level_count = refl;
+  level_first = refl;
+  level_last = refl;
 }

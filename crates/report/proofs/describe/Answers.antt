@@ -7,4 +7,4 @@ use Rattle.report.proofs.describe.Goals as goal
 pub returns-in-Err : goal.returns-in-Err
 returns-in-Err c =
     let f = c.in-Err.fault in
-    line-describes string_bytes c.refusal-line.result c.args.file.now f (checked-err c.args.file.now f c.in-Err.ensures) c.refusal-line.ensures
+    line-describes string_bytes c.refusal_line.result c.args.file.now f (checked-err c.args.file.now f c.in-Err.ensures) c.refusal_line.ensures

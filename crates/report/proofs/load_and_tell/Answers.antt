@@ -25,4 +25,4 @@ returns-in-Ok c =
 pub returns-in-Err : goal.returns-in-Err
 returns-in-Err c =
     let f = c.in-Err.fault in
-    line-describes string_bytes c.refusal-line.result c.args.file.now f (loads-fault _ _ _ c.requires _ _ f c.in-Err.ensures) c.refusal-line.ensures
+    line-describes string_bytes c.refusal_line.result c.args.file.now f (loads-fault _ _ _ c.requires _ _ f c.in-Err.ensures) c.refusal_line.ensures

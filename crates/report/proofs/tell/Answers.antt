@@ -11,7 +11,7 @@ unfolding head
 returns c =
     let n = c.args.sheet.now.n in
     let lines = allLines n c.args.costs.now c.args.standing.now n in
-    let first : string_bytes c.in-ok-text.text ≡ head n = c.in-ok-text.ensures.ok ∙ ap head c.size-n.ensures in
-    c.in-ok-push-str.ensures.bytes
-    ∙ ap (λ t. t ++ codes "end\n") (c.in-ok-push-rows.ensures refl ∙ ap (λ t. t ++ lines) first)
+    let first : string_bytes c.in_ok-text.text ≡ head n = c.in_ok-text.ensures.ok ∙ ap head c.size-n.ensures in
+    c.in_ok-push_str.ensures.bytes
+    ∙ ap (λ t. t ++ codes "end\n") (c.in_ok-push_rows.ensures refl ∙ ap (λ t. t ++ lines) first)
     ∙ append_assoc (head n) lines (codes "end\n")

@@ -17,7 +17,7 @@ use grid::{COST_LIMIT, MOST_BLOCKS, disturbed, fits, place, stands};
 /// `costs` and `standing` have n * n places each. Refused, in this order: a size of 0 or above 64,
 /// a table of the wrong length.
 pub fn open<K: Cost>(n: u16, costs: &mut [K], standing: &mut [u8]) -> Result<OpenSheet, Fault>
-    ensures { Opened nought n costs.old standing.old result costs.new standing.new }
+    ensures { Opened K.nought n costs.old standing.old result costs.new standing.new }
 {
     if n == 0 || n > MOST_BLOCKS {
         return Err(Cause::Size.at(0));
@@ -59,7 +59,7 @@ impl OpenSheet {
         right: u16,
         cost: K,
     ) -> Result<(), Fault>
-        ensures { Entered self.now.n costs.old standing.old left right cost (within 1000000000 (meaning cost)) result costs.new standing.new }
+        ensures { Entered self.now.n costs.old standing.old left right cost (within 1000000000 (K.meaning cost)) result costs.new standing.new }
     {
         let at = self.locate(costs.len(), standing.len(), left, right)?;
         if !cost.within(COST_LIMIT) {
@@ -81,7 +81,7 @@ impl OpenSheet {
         left: u16,
         right: u16,
     ) -> Result<(), Fault>
-        ensures { Struck nought self.now.n costs.old standing.old left right result costs.new standing.new }
+        ensures { Struck K.nought self.now.n costs.old standing.old left right result costs.new standing.new }
     {
         let at = self.find(costs, standing, left, right)?;
         costs[at] = K::zero();
@@ -97,7 +97,7 @@ impl OpenSheet {
         left: u16,
         right: u16,
     ) -> Result<K, Fault>
-        ensures { Answered nought self.now.n costs.now standing.now left right result }
+        ensures { Answered K.nought self.now.n costs.now standing.now left right result }
     {
         let at = self.find(costs, standing, left, right)?;
         Ok(costs[at])

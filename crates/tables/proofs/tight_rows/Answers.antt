@@ -9,18 +9,18 @@ use Rattle.tables.proofs.Orderly.{columns-sized}
 use Rattle.tables.proofs.Tightness.{tight-told}
 use Rattle.tables.proofs.tight_rows.Goals as goal
 
-pub offset-bounds-costs-l : goal.offset-bounds-costs-l
-offset-bounds-costs-l g c =
+pub offset_bounds-costs-l : goal.offset_bounds-costs-l
+offset_bounds-costs-l g c =
     let fit = fits-tells (length c.args.rows.now) (length c.args.costs.now) (length c.args.standing.now) (sym c.if-not-fits.ensures) in
     omega (arith, row-end c.args.costs.now (length c.args.rows.now) c.loop-l.l c.loop-l-test.true fit.0)
 
-pub slice-bounds-tight-row-end : goal.slice-bounds-tight-row-end
-slice-bounds-tight-row-end g c =
+pub slice_bounds-tight_row-end : goal.slice_bounds-tight_row-end
+slice_bounds-tight_row-end g c =
     let fit = fits-tells (length c.args.rows.now) (length c.args.costs.now) (length c.args.standing.now) (sym c.if-not-fits.ensures) in
     omega (arith, row-end c.args.costs.now (length c.args.rows.now) c.loop-l.l c.loop-l-test.true fit.0)
 
-pub slice-bounds-tight-row-end-in-loop-l : goal.slice-bounds-tight-row-end-in-loop-l
-slice-bounds-tight-row-end-in-loop-l g c =
+pub slice_bounds-tight_row-end-in-loop-l : goal.slice_bounds-tight_row-end-in-loop-l
+slice_bounds-tight_row-end-in-loop-l g c =
     let fit = fits-tells (length c.args.rows.now) (length c.args.costs.now) (length c.args.standing.now) (sym c.if-not-fits.ensures) in
     omega (arith, row-end c.args.standing.now (length c.args.rows.now) c.loop-l.l c.loop-l-test.true fit.1)
 
@@ -39,7 +39,7 @@ loop-l-preserved g c =
     let part_bytes = take (l * n + n - l * n) (drop (l * n) bytes) in
     let own = λ (r : ℕ). addsUp (saysStands (get_or part_bytes r 0)) (meaning c.index-left-l.result) (columnsAt meaning right r) (columnsAt meaning part-costs r) in
     row_made n l (λ k r. addsUp (saysStands (byte_of n bytes k r)) (columnsAt meaning left k) (columnsAt meaning right r) (columnsAt meaning costs (place_of n k r))) own
-    c.loop-l.rows c.tight-row.result c.if-n-gt64.false (omega arith) c.loop-l.invariant (subst (λ k. Passing k own c.tight-row.result) c.if-right-n.false c.tight-row.ensures)
+    c.loop-l.rows c.tight_row.result c.if-n-gt64.false (omega arith) c.loop-l.invariant (subst (λ k. Passing k own c.tight_row.result) c.if-right-n.false c.tight_row.ensures)
     (λ r below.
     ap (λ b. addsUp (saysStands b) (meaning c.index-left-l.result) (columnsAt meaning right r) (columnsAt meaning part-costs r)) (row_at bytes n l inside fit.1 r 0 below)
     ∙ ap₂ (λ x y. addsUp (saysStands (byte_of n bytes l r)) x (columnsAt meaning right r) y) (value-at meaning left l c.index-left-l.result (omega arith) c.index-left-l.is) (columns-at meaning costs n l inside fit.0 r below))
@@ -51,7 +51,7 @@ returns g c =
     let fit = fits-tells (length c.args.rows.now) (length c.args.costs.now) (length c.args.standing.now) (sym c.if-not-fits.ensures) in (
       record {
         small = c.if-n-gt64.false;
-        lengths = record { costs-fit = fit.0; standing-fit = fit.1; left-fit = c.if-left-n.false; right-fit = c.if-right-n.false };
+        lengths = record { costs_fit = fit.0; standing_fit = fit.1; left_fit = c.if-left-n.false; right_fit = c.if-right-n.false };
         ordered = tt;
       },
       tight-told (gridOf g.K.Cost.columns meaning n c.args.costs.now c.args.standing.now) (columnsAt meaning c.args.left.now) (columnsAt meaning c.args.right.now) c.loop-l.rows

@@ -11,10 +11,10 @@ loop-k-smaller g c = fewer (has c.loop-k.out) (has c.remove.new.self) c.in-Some.
 
 pub loop-k-preserved : goal.loop-k-preserved
 loop-k-preserved g c = (
-  subst (λ out. Paired g.K.Cost.meaning c.args.rows.now c.args.costs.now out c.pair-row.new.partners c.pair-row.new.owner c.pair-row.new.right) (sym (fun_ext c.remove.ensures)) c.pair-row.ensures,
+  subst (λ out. Paired g.K.Cost.meaning c.args.rows.now c.args.costs.now out c.pair_row.new.partners c.pair_row.new.owner c.pair_row.new.right) (sym (fun_ext c.remove.ensures)) c.pair_row.ensures,
   λ j t. c.loop-k.invariant.1 j (still-in (has c.loop-k.out) (has c.remove.new.self) c.in-Some.k c.remove.ensures j t).0,
 )
 
 pub returns : goal.returns
 returns g c =
-    subst (λ out. Paired g.K.Cost.meaning c.args.rows.now c.args.costs.now out c.loop-k.partners c.loop-k.owner c.loop-k.right) (fun_ext {f = has c.loop-k.out} {g = λ _. false} c.in-default.ensures) c.loop-k.invariant.0
+    subst (λ out. Paired g.K.Cost.meaning c.args.rows.now c.args.costs.now out c.loop-k.partners c.loop-k.owner c.loop-k.right) (fun_ext {f = has c.loop-k.out} {g = λ _. false} c.in_default.ensures) c.loop-k.invariant.0

@@ -23,11 +23,11 @@ zero-weighs g x e = ap (λ z. weight (g.K.Cost.meaning z)) e ∙ ap weight g.met
 zero-within : (g : given.Over) (b : ℕ) (x : g.row.K.Denot) → x ≡ g.K.Cost.nought → Within b (g.K.Cost.meaning x)
 zero-within g b x e = subst (Within b) (sym (ap g.K.Cost.meaning e ∙ g.met.K.Cost.nothing)) (zeros_within b g.K.Cost.columns)
 
-pub offset-bounds-costs-k : goal.offset-bounds-costs-k
-offset-bounds-costs-k g c = omega (arith, row-end c.args.costs.now (length c.args.rows.now) c.args.k c.requires.room c.requires.lent.square)
+pub offset_bounds-costs-k : goal.offset_bounds-costs-k
+offset_bounds-costs-k g c = omega (arith, row-end c.args.costs.now (length c.args.rows.now) c.args.k c.requires.room c.requires.lent.square)
 
-pub slice-bounds-offer-end : goal.slice-bounds-offer-end
-slice-bounds-offer-end g c = row-end c.args.costs.now (length c.args.rows.now) c.args.k c.requires.room c.requires.lent.square
+pub slice_bounds-offer-end : goal.slice_bounds-offer-end
+slice_bounds-offer-end g c = row-end c.args.costs.now (length c.args.rows.now) c.args.k c.requires.room c.requires.lent.square
 
 pub offer-requires : goal.offer-requires
 offer-requires g c =
@@ -152,8 +152,8 @@ returns-in-Some g c =
           subst (Within 1000000000) (sym (c.lower.ensures.same j (omega (arith, long)) (untaken-is (has c.grow-tree.result.open) (has c.grow-tree.result.reached) c.grow-tree.result.turn j was.1))) (c.requires.paired.unsold j h was.0);
     }
 
-pub returns-in-default : goal.returns-in-default
-returns-in-default g c =
+pub returns-in_default : goal.returns-in_default
+returns-in_default g c =
     let m = g.K.Cost.meaning in
     let n = length c.args.rows.now in
     let k = c.args.k in
@@ -171,5 +171,5 @@ returns-in-default g c =
     (started-row n k stands cost out p o v kept (has c.empty.result) c.empty.ensures (weight (m c.zero.result)) (zero-weighs g c.zero.result c.zero.ensures)
     (weightAt m (take (k * n + n - k * n) (drop (k * n) c.args.costs.now))) (λ j h. ap weight (columns-at m c.args.costs.now n k c.requires.room c.requires.lent.square j h))
     (weightAt m c.args.left.now) (at (replicate 64 0)) (weightAt m c.offer.new.dist) (at c.offer.new.via) c.offer.ensures.offered) in
-    let stuck = subst (Ends n stands cost out (from_row stands cost k) p o v d at_stage via) c.in-default.is ends in
+    let stuck = subst (Ends n stands cost out (from_row stands cost k) p o v d at_stage via) c.in_default.is ends in
     absurd (never n k stands cost out p o v kept c.requires.room c.requires.unpaired d at_stage via stuck.1.0 stuck.1.1 stuck.0 c.requires.possible.0 c.requires.possible.1)

@@ -12,8 +12,8 @@ use Rattle.assign.proofs.Differences.{difference-weighs, put-weighs, put-within}
 use Rattle.assign.proofs.Lowering.{lowering-none, lowering-take, lowering-done}
 use Rattle.assign.proofs.prices.lower.Goals as goal
 
-pub exact-difference-far-requires : goal.exact-difference-far-requires
-exact-difference-far-requires g c =
+pub exact_difference-far-requires : goal.exact_difference-far-requires
+exact_difference-far-requires g c =
     let meaning = g.K.Cost.meaning in
     let goal = c.args.goal in
     record {
@@ -25,22 +25,22 @@ pub loop-c-init : goal.loop-c-init
 loop-c-init g c =
     let meaning = g.K.Cost.meaning in
     let goal = c.args.goal in (
-      lowering-none (length c.args.dist.now) (has c.args.tree.now.open) (weight (meaning c.exact-difference-far.result)) (weightAt meaning c.args.dist.now) (columnsAt meaning c.args.right.now)
+      lowering-none (length c.args.dist.now) (has c.args.tree.now.open) (weight (meaning c.exact_difference-far.result)) (weightAt meaning c.args.dist.now) (columnsAt meaning c.args.right.now)
           (has c.all.result) (has c.difference-rest.result) c.requires.few c.all.ensures c.difference-rest.ensures c.requires.priced,
-      c.exact-difference-far.ensures.bound 200000000000 1000000000
+      c.exact_difference-far.ensures.bound 200000000000 1000000000
           (read-within meaning 200000000000 200000000000 c.args.dist.now goal c.index-dist-goal.result c.requires.inside c.index-dist-goal.is (omega arith) (c.requires.far goal c.requires.inside c.requires.taken))
           (read-within meaning 1000000000 1000000000 c.args.right.now goal c.index-right-goal.result (omega (arith, c.requires.sized, c.requires.inside)) c.index-right-goal.is (omega arith) c.requires.unsold)
           (omega arith),
     )
 
-pub exact-difference-requires : goal.exact-difference-requires
-exact-difference-requires g c =
+pub exact_difference-requires : goal.exact_difference-requires
+exact_difference-requires g c =
     let meaning = g.K.Cost.meaning in
     let r = c.in-Some.c in
     let waits = c.loop-c.invariant.0.waiting r c.in-Some.ensures.1 in
     record {
       first = read-within meaning 200000000000 500000000000000 c.args.dist.now r c.index-dist-c.result waits.0 c.index-dist-c.is (omega arith) (c.requires.far r waits.0 waits.1);
-      second = within_more 201000000000 500000000000000 (meaning c.exact-difference-far.result) (omega arith) c.loop-c.invariant.1;
+      second = within_more 201000000000 500000000000000 (meaning c.exact_difference-far.result) (omega arith) c.loop-c.invariant.1;
     }
 
 pub loop-c-smaller : goal.loop-c-smaller
@@ -52,19 +52,19 @@ loop-c-preserved g c =
     let n = length c.args.dist.now in
     let dist = c.args.dist.now in
     let right = c.loop-c.right in
-    let far = c.exact-difference-far.result in
+    let far = c.exact_difference-far.result in
     let r = c.in-Some.c in
-    let x = c.exact-difference.result in
+    let x = c.exact_difference.result in
     let member = c.in-Some.ensures.1 in
     let waits = c.loop-c.invariant.0.waiting r member in
     let in_right : c.in-Some.c < length c.loop-c.right = omega (arith, c.requires.sized) in (
       lowering-take n (has c.args.tree.now.open) (weight (meaning far)) (weightAt meaning dist) (columnsAt meaning c.args.right.now) (has c.loop-c.rest) (columnsAt meaning right) c.loop-c.invariant.0
           r (has c.remove.new.self) (columnsAt meaning (set right r x)) member c.remove.ensures
-          (put-weighs meaning right r x in_right (meaning c.index-dist-c.result) (columnsAt meaning dist r) (meaning far) (meaning far) c.exact-difference.ensures.sum
+          (put-weighs meaning right r x in_right (meaning c.index-dist-c.result) (columnsAt meaning dist r) (meaning far) (meaning far) c.exact_difference.ensures.sum
           (value-at meaning dist r c.index-dist-c.result waits.0 c.index-dist-c.is) refl)
           (put-within meaning right r x in_right 500000000000
           (within_more 401000000000 500000000000 (meaning x) (omega arith)
-          (c.exact-difference.ensures.bound 200000000000 201000000000
+          (c.exact_difference.ensures.bound 200000000000 201000000000
           (read-within meaning 200000000000 200000000000 dist r c.index-dist-c.result waits.0 c.index-dist-c.is (omega arith) (c.requires.far r waits.0 waits.1))
           c.loop-c.invariant.1 (omega arith))))
           (λ j ne. put_other meaning right r j x ne),
@@ -80,10 +80,10 @@ returns g c =
     let tree = c.args.tree.now in
     let in_right : c.args.goal < length c.args.right.now = omega (arith, c.requires.sized, c.requires.inside) in
     record {
-      lowered = lowering-done (length dist) (has tree.open) (weight (meaning c.exact-difference-far.result)) (weightAt meaning dist) (columnsAt meaning right) (has c.loop-c.rest)
-          (columnsAt meaning c.loop-c.right) c.loop-c.invariant.0 goal (has tree.reached) tree.turn c.in-default.ensures
-          (difference-weighs (weight (meaning c.exact-difference-far.result)) (meaning c.index-dist-goal.result) (columnsAt meaning dist goal) (meaning c.index-right-goal.result) (columnsAt meaning right goal)
-          c.exact-difference-far.ensures.sum (value-at meaning dist goal c.index-dist-goal.result c.requires.inside c.index-dist-goal.is) (value-at meaning right goal c.index-right-goal.result in_right c.index-right-goal.is));
+      lowered = lowering-done (length dist) (has tree.open) (weight (meaning c.exact_difference-far.result)) (weightAt meaning dist) (columnsAt meaning right) (has c.loop-c.rest)
+          (columnsAt meaning c.loop-c.right) c.loop-c.invariant.0 goal (has tree.reached) tree.turn c.in_default.ensures
+          (difference-weighs (weight (meaning c.exact_difference-far.result)) (meaning c.index-dist-goal.result) (columnsAt meaning dist goal) (meaning c.index-right-goal.result) (columnsAt meaning right goal)
+          c.exact_difference-far.ensures.sum (value-at meaning dist goal c.index-dist-goal.result c.requires.inside c.index-dist-goal.is) (value-at meaning right goal c.index-right-goal.result in_right c.index-right-goal.is));
       same = λ k h t. c.loop-c.invariant.0.same k t;
       bound = c.loop-c.invariant.0.bound;
     }

@@ -19,11 +19,11 @@ loop-l-init g c =
       λ k h. cleared-within m g.K.Cost.nought g.K.Cost.columns g.met.K.Cost.nothing (length c.args.right.now) c.clear.new.table c.clear.ensures 1000000000 k (omega (arith, c.requires.rights)),
     )
 
-pub offset-bounds-costs-l : goal.offset-bounds-costs-l
-offset-bounds-costs-l g c = omega (arith, row-end c.args.costs.now (length c.args.rows.now) c.loop-l.l c.loop-l-test.true c.requires.lent.square)
+pub offset_bounds-costs-l : goal.offset_bounds-costs-l
+offset_bounds-costs-l g c = omega (arith, row-end c.args.costs.now (length c.args.rows.now) c.loop-l.l c.loop-l-test.true c.requires.lent.square)
 
-pub slice-bounds-offer-end : goal.slice-bounds-offer-end
-slice-bounds-offer-end g c = row-end c.args.costs.now (length c.args.rows.now) c.loop-l.l c.loop-l-test.true c.requires.lent.square
+pub slice_bounds-offer-end : goal.slice_bounds-offer-end
+slice_bounds-offer-end g c = row-end c.args.costs.now (length c.args.rows.now) c.loop-l.l c.loop-l-test.true c.requires.lent.square
 
 pub offer-requires : goal.offer-requires
 offer-requires g c =

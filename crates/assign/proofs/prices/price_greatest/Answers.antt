@@ -27,8 +27,8 @@ grow-requires g c =
       priced = c.requires.paired.priced;
     }
 
-pub price-rows-requires : goal.price-rows-requires
-price-rows-requires g c =
+pub price_rows-requires : goal.price_rows-requires
+price_rows-requires g c =
     let m = g.K.Cost.meaning in
     let rows = c.args.rows.now in
     let zero = λ (k : ℕ) (h : k < length c.args.rows.now). cleared-weighs m g.K.Cost.nought g.K.Cost.columns g.met.K.Cost.nothing (length c.args.left.now) c.clear.new.table c.clear.ensures k (omega (arith, c.requires.lefts)) in
@@ -38,9 +38,9 @@ price-rows-requires g c =
       lent = c.requires.lent;
       partnered = c.requires.partnered;
       lefts = omega (arith, c.grow.auto.dist, c.clear.auto.table, c.requires.lefts);
-      rights = c.copy-from-slice.ensures.len ∙ c.requires.rights;
+      rights = c.copy_from_slice.ensures.len ∙ c.requires.rights;
       pairs = λ l h. c.requires.paired.kept.standing l h refl;
-      far = λ k h. subst (λ z. Within 200000000000 (columnsAt m z k)) (sym c.copy-from-slice.ensures.after) (c.grow.ensures.bound k h (closed k h));
+      far = λ k h. subst (λ z. Within 200000000000 (columnsAt m z k)) (sym c.copy_from_slice.ensures.after) (c.grow.ensures.bound k h (closed k h));
     }
 
 pub returns : goal.returns
@@ -52,9 +52,9 @@ returns g c =
     (has c.all.result) c.all.ensures c.clear.new.table c.grow.new.dist zero c.grow.result c.grow.ensures.grown in
     record {
       topmost = swept m rows c.args.costs.now c.args.partners.now c.args.owner.now c.args.right.now c.requires.lent.few c.requires.partnered c.requires.paired.kept
-          (has c.all.result) c.all.ensures c.clear.new.table c.grow.new.dist zero c.grow.result c.grow.ensures.grown c.price-rows.new.left c.copy-from-slice.new.self
-          c.copy-from-slice.ensures.after c.price-rows.ensures.tight;
-      lefts = λ k h. within_more 201000000000 1000000000000 (columnsAt m c.price-rows.new.left k) (omega arith) (c.price-rows.ensures.bound k h);
-      rights = λ k h. subst (λ z. Within 1000000000000 (columnsAt m z k)) (sym c.copy-from-slice.ensures.after)
+          (has c.all.result) c.all.ensures c.clear.new.table c.grow.new.dist zero c.grow.result c.grow.ensures.grown c.price_rows.new.left c.copy_from_slice.new.self
+          c.copy_from_slice.ensures.after c.price_rows.ensures.tight;
+      lefts = λ k h. within_more 201000000000 1000000000000 (columnsAt m c.price_rows.new.left k) (omega arith) (c.price_rows.ensures.bound k h);
+      rights = λ k h. subst (λ z. Within 1000000000000 (columnsAt m z k)) (sym c.copy_from_slice.ensures.after)
           (within_more 200000000000 1000000000000 (columnsAt m c.grow.new.dist k) (omega arith) (c.grow.ensures.bound k h (closed k h)));
     }

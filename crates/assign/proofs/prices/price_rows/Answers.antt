@@ -15,8 +15,8 @@ loop-l-init g c =
     let meaning = g.K.Cost.meaning in
     priced-none (costWeight meaning (length c.args.rows.now) c.args.costs.now) (at c.args.partners.now) (weightAt meaning c.args.right.now) (columnsAt meaning c.args.left.now)
 
-pub offset-bounds-costs-l : goal.offset-bounds-costs-l
-offset-bounds-costs-l g c =
+pub offset_bounds-costs-l : goal.offset_bounds-costs-l
+offset_bounds-costs-l g c =
     let l = c.loop-l.l in
     let lies = c.loop-l-test.true in
     omega (arith, place_inside g.K.Cost.meaning c.args.rows.now c.args.costs.now c.requires.lent l (at c.args.partners.now l) lies (c.requires.pairs l lies))
@@ -27,8 +27,8 @@ bounds-costs-l g c =
     let lies = c.loop-l-test.true in
     omega (arith, place_inside g.K.Cost.meaning c.args.rows.now c.args.costs.now c.requires.lent l (at c.args.partners.now l) lies (c.requires.pairs l lies))
 
-pub offset-bounds-right-c : goal.offset-bounds-right-c
-offset-bounds-right-c g c =
+pub offset_bounds-right-c : goal.offset_bounds-right-c
+offset_bounds-right-c g c =
     let l = c.loop-l.l in
     let lies = c.loop-l-test.true in
     omega (arith, c.requires.rights, c.requires.lent.inside l (at c.args.partners.now l) lies (c.requires.pairs l lies))
@@ -39,8 +39,8 @@ bounds-right-c g c =
     let lies = c.loop-l-test.true in
     omega (arith, c.requires.rights, c.requires.lent.inside l (at c.args.partners.now l) lies (c.requires.pairs l lies))
 
-pub exact-difference-requires : goal.exact-difference-requires
-exact-difference-requires g c =
+pub exact_difference-requires : goal.exact_difference-requires
+exact_difference-requires g c =
     let meaning = g.K.Cost.meaning in
     let rows = c.args.rows.now in
     let costs = c.args.costs.now in
@@ -64,7 +64,7 @@ loop-l-preserved g c =
     let left = c.loop-l.left in
     let l = c.loop-l.l in
     let r = at c.args.partners.now l in
-    let x = c.exact-difference.result in
+    let x = c.exact_difference.result in
     let lies = c.loop-l-test.true in
     let stands = c.requires.pairs l lies in
     let below = c.requires.lent.inside l r lies stands in
@@ -72,10 +72,10 @@ loop-l-preserved g c =
     let in_right : r < length right = omega (arith, c.requires.rights) in
     let in-costs = place_inside meaning rows costs c.requires.lent l r lies stands in
     priced-more (costWeight meaning n costs) (at c.args.partners.now) (weightAt meaning right) l (columnsAt meaning left) (columnsAt meaning (set left l x)) c.loop-l.invariant
-    (put-weighs meaning left l x in_left (meaning c.index-costs-l.result) (columnsAt meaning costs (place_of n l r)) (meaning c.index-right-c.result) (columnsAt meaning right r) c.exact-difference.ensures.sum
+    (put-weighs meaning left l x in_left (meaning c.index-costs-l.result) (columnsAt meaning costs (place_of n l r)) (meaning c.index-right-c.result) (columnsAt meaning right r) c.exact_difference.ensures.sum
     (value-at meaning costs (place_of n l r) c.index-costs-l.result in-costs c.index-costs-l.is) (value-at meaning right r c.index-right-c.result in_right c.index-right-c.is))
     (put-within meaning left l x in_left 201000000000
-    (c.exact-difference.ensures.bound 1000000000 200000000000
+    (c.exact_difference.ensures.bound 1000000000 200000000000
     (read-within meaning 1000000000 1000000000 costs (place_of n l r) c.index-costs-l.result in-costs c.index-costs-l.is (omega arith) (c.requires.lent.modest l r lies stands))
     (read-within meaning 200000000000 200000000000 right r c.index-right-c.result in_right c.index-right-c.is (omega arith) (c.requires.far r below))
     (omega arith)))

@@ -41,14 +41,14 @@ loop-t-init g c =
       refl,
     )
 
-pub returns-in-default : goal.returns-in-default
-returns-in-default g c =
+pub returns-in_default : goal.returns-in_default
+returns-in_default g c =
     let m = g.K.Cost.meaning in
     let n = length c.args.rows.now in
     record {
       grown = λ out start p kept first. (
         turning-stuck n (holds c.args.rows.now) (costWeight m n c.args.costs.now) (at c.args.owner.now) (weightAt m c.args.right.now) (weightAt m c.args.dist.now) (stageAtFirst n (has c.args.start)) (at c.args.via)
-            (has c.loop-t.open) (has c.loop-t.reached) c.loop-t.turn (at c.loop-t.via) (weightAt m c.loop-t.dist) c.loop-t.t c.loop-t.invariant.0 (λ k. sym (c.intersection.ensures k) ∙ c.in-default.ensures k),
+            (has c.loop-t.open) (has c.loop-t.reached) c.loop-t.turn (at c.loop-t.via) (weightAt m c.loop-t.dist) c.loop-t.t c.loop-t.invariant.0 (λ k. sym (c.intersection.ensures k) ∙ c.in_default.ensures k),
         (c.loop-t.t, c.loop-t.invariant.0.grown out start p kept first),
       );
       bound = λ k h f. within_more (1000000000 + c.loop-t.t * 2000000000) 200000000000 (columnsAt m c.loop-t.dist k) (omega (arith, c.requires.lent.few)) (c.loop-t.invariant.1 k (c.loop-t.invariant.0.taken k h f));
@@ -90,14 +90,14 @@ returns g c =
       bound = λ k h f. within_more (1000000000 + c.loop-t.t * 2000000000) 200000000000 (columnsAt m c.loop-t.dist k) (omega (arith, c.requires.lent.few)) (c.loop-t.invariant.1 k (c.loop-t.invariant.0.taken k h f));
     }
 
-pub offset-bounds-costs-l : goal.offset-bounds-costs-l
-offset-bounds-costs-l g c = omega (arith, row-end c.args.costs.now (length c.args.rows.now) (at c.args.owner.now c.in-Some.a) c.if-l-n.false c.requires.lent.square)
+pub offset_bounds-costs-l : goal.offset_bounds-costs-l
+offset_bounds-costs-l g c = omega (arith, row-end c.args.costs.now (length c.args.rows.now) (at c.args.owner.now c.in-Some.a) c.if-l-n.false c.requires.lent.square)
 
-pub slice-bounds-row-end : goal.slice-bounds-row-end
-slice-bounds-row-end g c = row-end c.args.costs.now (length c.args.rows.now) (at c.args.owner.now c.in-Some.a) c.if-l-n.false c.requires.lent.square
+pub slice_bounds-row-end : goal.slice_bounds-row-end
+slice_bounds-row-end g c = row-end c.args.costs.now (length c.args.rows.now) (at c.args.owner.now c.in-Some.a) c.if-l-n.false c.requires.lent.square
 
-pub offset-bounds-row-a : goal.offset-bounds-row-a
-offset-bounds-row-a g c =
+pub offset_bounds-row-a : goal.offset_bounds-row-a
+offset_bounds-row-a g c =
     omega (arith, c.in-Some.ensures.0, c.requires.dists, c.loop-t.auto.dist, row-length c.args.costs.now (length c.args.rows.now) (at c.args.owner.now c.in-Some.a) c.if-l-n.false c.requires.lent.square)
 
 pub bounds-row-a : goal.bounds-row-a
@@ -114,8 +114,8 @@ module _ {K : Type 0} (m : K → List ℤ) (costs dist : List K) (n l a t : ℕ)
   dist-within : (b : ℕ) → 1000000000 + t * 2000000000 ≤ b → Within b (m x)
   dist-within b le = read-within m (1000000000 + t * 2000000000) b dist a x (omega arith) x-is le far
 
-  cost-within : (b : ℕ) → 1000000000 ≤ b → Within b (m y)
-  cost-within b le = read-within m 1000000000 b (take (l * n + n - l * n) (drop (l * n) costs)) a y a-in-row y-is le (subst (Within 1000000000) (sym (columns-at m costs n l hl square a ha)) modest)
+  cost_within : (b : ℕ) → 1000000000 ≤ b → Within b (m y)
+  cost_within b le = read-within m 1000000000 b (take (l * n + n - l * n) (drop (l * n) costs)) a y a-in-row y-is le (subst (Within 1000000000) (sym (columns-at m costs n l hl square a ha)) modest)
 
   shift-weighs : weight (m z) ≡ weight (m x) -ℤ weight (m y) → weight (m z) +ℤ weightAt m costs (l * n + a) ≡ weightAt m dist a
   shift-weighs e =
@@ -124,10 +124,10 @@ module _ {K : Type 0} (m : K → List ℤ) (costs dist : List K) (n l a t : ℕ)
       omega (arith, ints)
 
   shift-within : ((b b' : ℕ) → Within b (m x) → Within b' (m y) → b + b' ≤ 1000000000000000 → Within (b + b') (m z)) → Within (1000000000 + t * 2000000000 + 1000000000) (m z)
-  shift-within bound = bound (1000000000 + t * 2000000000) 1000000000 (dist-within (1000000000 + t * 2000000000) (omega arith)) (cost-within 1000000000 (omega arith)) (omega arith)
+  shift-within bound = bound (1000000000 + t * 2000000000) 1000000000 (dist-within (1000000000 + t * 2000000000) (omega arith)) (cost_within 1000000000 (omega arith)) (omega arith)
 
-pub exact-difference-shift-requires : goal.exact-difference-shift-requires
-exact-difference-shift-requires g c =
+pub exact_difference-shift-requires : goal.exact_difference-shift-requires
+exact_difference-shift-requires g c =
     let m = g.K.Cost.meaning in
     let n = length c.args.rows.now in
     let a = c.in-Some.a in
@@ -139,7 +139,7 @@ exact-difference-shift-requires g c =
     record {
       first = dist-within m c.args.costs.now c.loop-t.dist n l a c.loop-t.t c.requires.lent.few c.requires.lent.square sized c.if-l-n.false ha c.loop-t-test.true c.index-dist-a.result c.index-row-a.result c.index-row-a.result
           c.index-dist-a.is c.index-row-a.is modest far 500000000000000 (omega (arith, c.requires.lent.few));
-      second = cost-within m c.args.costs.now c.loop-t.dist n l a c.loop-t.t c.requires.lent.few c.requires.lent.square sized c.if-l-n.false ha c.loop-t-test.true c.index-dist-a.result c.index-row-a.result c.index-row-a.result
+      second = cost_within m c.args.costs.now c.loop-t.dist n l a c.loop-t.t c.requires.lent.few c.requires.lent.square sized c.if-l-n.false ha c.loop-t-test.true c.index-dist-a.result c.index-row-a.result c.index-row-a.result
           c.index-dist-a.is c.index-row-a.is modest far 500000000000000 (omega arith);
     }
 
@@ -162,9 +162,9 @@ offer-requires g c =
       block = omega (arith, c.if-l-n.false, c.requires.lent.few);
       inside = λ j r. omega (arith, long, c.requires.lent.inside l j c.if-l-n.false (stands j r));
       modest = λ j r. subst (Within 1000000000) (sym (columns-at m c.args.costs.now n l c.if-l-n.false c.requires.lent.square j (c.requires.lent.inside l j c.if-l-n.false (stands j r)))) (c.requires.lent.modest l j c.if-l-n.false (stands j r));
-      near = within_more (1000000000 + c.loop-t.t * 2000000000 + 1000000000) 400000000000 (m c.exact-difference-shift.result) (omega (arith, c.requires.lent.few))
-          (shift-within m c.args.costs.now c.loop-t.dist n l a c.loop-t.t c.requires.lent.few c.requires.lent.square sized c.if-l-n.false ha c.loop-t-test.true c.index-dist-a.result c.index-row-a.result c.exact-difference-shift.result
-          c.index-dist-a.is c.index-row-a.is modest far c.exact-difference-shift.ensures.bound);
+      near = within_more (1000000000 + c.loop-t.t * 2000000000 + 1000000000) 400000000000 (m c.exact_difference-shift.result) (omega (arith, c.requires.lent.few))
+          (shift-within m c.args.costs.now c.loop-t.dist n l a c.loop-t.t c.requires.lent.few c.requires.lent.square sized c.if-l-n.false ha c.loop-t-test.true c.index-dist-a.result c.index-row-a.result c.exact_difference-shift.result
+          c.index-dist-a.is c.index-row-a.is modest far c.exact_difference-shift.ensures.bound);
     }
 
 pub loop-t-preserved : goal.loop-t-preserved
@@ -180,14 +180,14 @@ loop-t-preserved g c =
     let near = subst (λ s. Nearest s (weightAt m c.args.right.now) (weightAt m c.loop-t.dist) c.in-Some.a) (fun_ext c.intersection.ensures) c.in-Some.ensures.1 in
     let stands : (j : ℕ) → has c.intersection-to.result j ≡ true → holds c.args.rows.now (at c.args.owner.now c.in-Some.a) j ≡ true =
     λ j r. (and_parts (holds c.args.rows.now (at c.args.owner.now c.in-Some.a) j) (has c.remove.new.self j) (sym (c.intersection-to.ensures j) ∙ r)).0 in
-    let within = shift-within m c.args.costs.now c.loop-t.dist n l a c.loop-t.t c.requires.lent.few c.requires.lent.square sized c.if-l-n.false ha c.loop-t-test.true c.index-dist-a.result c.index-row-a.result c.exact-difference-shift.result
-    c.index-dist-a.is c.index-row-a.is modest far c.exact-difference-shift.ensures.bound in (
+    let within = shift-within m c.args.costs.now c.loop-t.dist n l a c.loop-t.t c.requires.lent.few c.requires.lent.square sized c.if-l-n.false ha c.loop-t-test.true c.index-dist-a.result c.index-row-a.result c.exact_difference-shift.result
+    c.index-dist-a.is c.index-row-a.is modest far c.exact_difference-shift.ensures.bound in (
       turning-more n (holds c.args.rows.now) (costWeight m n c.args.costs.now) (at c.args.owner.now) (weightAt m c.args.right.now) (weightAt m c.args.dist.now) (stageAtFirst n (has c.args.start)) (at c.args.via)
           (has c.loop-t.open) (has c.loop-t.reached) c.loop-t.turn (at c.loop-t.via) (weightAt m c.loop-t.dist) c.loop-t.t c.loop-t.invariant.0 a near (has c.remove.new.self) c.remove.ensures c.loop-t.invariant.2 c.requires.lent.few
-          l refl c.if-l-n.false (has c.intersection-to.result) (has c.union-reached.result) (λ j _. c.intersection-to.ensures j) (weight (m c.exact-difference-shift.result))
+          l refl c.if-l-n.false (has c.intersection-to.result) (has c.union-reached.result) (λ j _. c.intersection-to.ensures j) (weight (m c.exact_difference-shift.result))
           (weightAt m (take (l * n + n - l * n) (drop (l * n) c.args.costs.now))) (λ j h. ap weight (columns-at m c.args.costs.now n l c.if-l-n.false c.requires.lent.square j h))
-          (shift-weighs m c.args.costs.now c.loop-t.dist n l a c.loop-t.t c.requires.lent.few c.requires.lent.square sized c.if-l-n.false ha c.loop-t-test.true c.index-dist-a.result c.index-row-a.result c.exact-difference-shift.result
-          c.index-dist-a.is c.index-row-a.is modest far c.exact-difference-shift.ensures.sum)
+          (shift-weighs m c.args.costs.now c.loop-t.dist n l a c.loop-t.t c.requires.lent.few c.requires.lent.square sized c.if-l-n.false ha c.loop-t-test.true c.index-dist-a.result c.index-row-a.result c.exact_difference-shift.result
+          c.index-dist-a.is c.index-row-a.is modest far c.exact_difference-shift.ensures.sum)
           c.union-reached.ensures (λ j r. c.requires.lent.inside l j c.if-l-n.false (stands j r)) (at c.offer.new.via) (weightAt m c.offer.new.dist) c.offer.ensures.offered,
       λ j r. within_more (1000000000 + c.loop-t.t * 2000000000 + 1000000000 + 1000000000) (1000000000 + (c.loop-t.t + 1) * 2000000000) (columnsAt m c.offer.new.dist j) (omega arith)
           (c.offer.ensures.bound (1000000000 + c.loop-t.t * 2000000000 + 1000000000) j within (omega (arith, c.requires.lent.few))

@@ -18,19 +18,19 @@ key-is m dist right i x y z h k ex ey e =
     let b = ap weight (value-at m right i y k ey) in
     omega (arith, ints)
 
-pub exact-difference-least-requires : goal.exact-difference-least-requires
-exact-difference-least-requires g c =
+pub exact_difference-least-requires : goal.exact_difference-least-requires
+exact_difference-least-requires g c =
     let m = g.K.Cost.meaning in
-    let i = c.in-ok-best.best in
-    let member = c.in-ok-best.ensures.1 in
-    let inside = c.requires.inside c.in-ok-best.best member in
+    let i = c.in_ok-best.best in
+    let member = c.in_ok-best.ensures.1 in
+    let inside = c.requires.inside c.in_ok-best.best member in
     record {
       first = read-within m 200000000000 500000000000000 c.args.dist.now i c.index-dist-best.result inside c.index-dist-best.is (omega arith) (c.requires.far i member);
       second = read-within m 500000000000 500000000000000 c.args.right.now i c.index-right-best.result (omega (arith, c.requires.sized)) c.index-right-best.is (omega arith) (c.requires.priced i inside);
     }
 
-pub exact-difference-key-requires : goal.exact-difference-key-requires
-exact-difference-key-requires g c =
+pub exact_difference-key-requires : goal.exact_difference-key-requires
+exact_difference-key-requires g c =
     let m = g.K.Cost.meaning in
     let i = c.in-Some.c in
     let member = c.loop-least.invariant.part c.in-Some.c c.in-Some.ensures.1 in
@@ -43,34 +43,34 @@ exact-difference-key-requires g c =
 pub loop-least-init : goal.loop-least-init
 loop-least-init g c =
     let m = g.K.Cost.meaning in
-    let i = c.in-ok-best.best in
-    let member = c.in-ok-best.ensures.1 in
-    let inside = c.requires.inside c.in-ok-best.best member in
-    nearing-none (has c.args.set) (weightAt m c.args.right.now) (weightAt m c.args.dist.now) i (weight (m c.exact-difference-least.result)) member
-    (key-is m c.args.dist.now c.args.right.now i c.index-dist-best.result c.index-right-best.result (weight (m c.exact-difference-least.result)) inside (omega (arith, c.requires.sized)) c.index-dist-best.is c.index-right-best.is c.exact-difference-least.ensures.sum)
+    let i = c.in_ok-best.best in
+    let member = c.in_ok-best.ensures.1 in
+    let inside = c.requires.inside c.in_ok-best.best member in
+    nearing-none (has c.args.set) (weightAt m c.args.right.now) (weightAt m c.args.dist.now) i (weight (m c.exact_difference-least.result)) member
+    (key-is m c.args.dist.now c.args.right.now i c.index-dist-best.result c.index-right-best.result (weight (m c.exact_difference-least.result)) inside (omega (arith, c.requires.sized)) c.index-dist-best.is c.index-right-best.is c.exact_difference-least.ensures.sum)
 
-pub loop-least-smaller-then-is-less : goal.loop-least-smaller-then-is-less
-loop-least-smaller-then-is-less g c = fewer (has c.loop-least.rest) (has c.remove.new.self) c.in-Some.c c.remove.ensures c.in-Some.ensures.0 c.in-Some.ensures.1
+pub loop-least-smaller-then-is_less : goal.loop-least-smaller-then-is_less
+loop-least-smaller-then-is_less g c = fewer (has c.loop-least.rest) (has c.remove.new.self) c.in-Some.c c.remove.ensures c.in-Some.ensures.0 c.in-Some.ensures.1
 
 pub loop-least-smaller : goal.loop-least-smaller
 loop-least-smaller g c = fewer (has c.loop-least.rest) (has c.remove.new.self) c.in-Some.c c.remove.ensures c.in-Some.ensures.0 c.in-Some.ensures.1
 
-pub loop-least-preserved-then-is-less : goal.loop-least-preserved-then-is-less
-loop-least-preserved-then-is-less g c =
+pub loop-least-preserved-then-is_less : goal.loop-least-preserved-then-is_less
+loop-least-preserved-then-is_less g c =
     let m = g.K.Cost.meaning in
     let i = c.in-Some.c in
     let inside = c.requires.inside c.in-Some.c (c.loop-least.invariant.part c.in-Some.c c.in-Some.ensures.1) in
-    let is = key-is m c.args.dist.now c.args.right.now i c.index-dist-c.result c.index-right-c.result (weight (m c.exact-difference-key.result)) inside (omega (arith, c.requires.sized)) c.index-dist-c.is c.index-right-c.is c.exact-difference-key.ensures.sum in
+    let is = key-is m c.args.dist.now c.args.right.now i c.index-dist-c.result c.index-right-c.result (weight (m c.exact_difference-key.result)) inside (omega (arith, c.requires.sized)) c.index-dist-c.is c.index-right-c.is c.exact_difference-key.ensures.sum in
     nearing-take (has c.args.set) (weightAt m c.args.right.now) (weightAt m c.args.dist.now) (has c.loop-least.rest) (has c.remove.new.self) i c.remove.ensures c.in-Some.ensures.1
-    c.loop-least.best (weight (m c.loop-least.least)) c.loop-least.invariant (weight (m c.exact-difference-key.result)) is (c.is-less.ensures.less c.if-is-less.true)
+    c.loop-least.best (weight (m c.loop-least.least)) c.loop-least.invariant (weight (m c.exact_difference-key.result)) is (c.is_less.ensures.less c.if-is_less.true)
 
 pub loop-least-preserved : goal.loop-least-preserved
 loop-least-preserved g c =
     let m = g.K.Cost.meaning in
     let i = c.in-Some.c in
     let inside = c.requires.inside c.in-Some.c (c.loop-least.invariant.part c.in-Some.c c.in-Some.ensures.1) in
-    let is = key-is m c.args.dist.now c.args.right.now i c.index-dist-c.result c.index-right-c.result (weight (m c.exact-difference-key.result)) inside (omega (arith, c.requires.sized)) c.index-dist-c.is c.index-right-c.is c.exact-difference-key.ensures.sum in
-    let kept = c.is-less.ensures.not-less c.if-is-less.false in
+    let is = key-is m c.args.dist.now c.args.right.now i c.index-dist-c.result c.index-right-c.result (weight (m c.exact_difference-key.result)) inside (omega (arith, c.requires.sized)) c.index-dist-c.is c.index-right-c.is c.exact_difference-key.ensures.sum in
+    let kept = c.is_less.ensures.not_less c.if-is_less.false in
     nearing-keep (has c.args.set) (weightAt m c.args.right.now) (weightAt m c.args.dist.now) (has c.loop-least.rest) (has c.remove.new.self) i c.remove.ensures c.in-Some.ensures.1
     c.loop-least.best (weight (m c.loop-least.least)) c.loop-least.invariant (omega (arith, ints))
 
@@ -78,5 +78,5 @@ pub returns : goal.returns
 returns g c =
     let m = g.K.Cost.meaning in (
       c.requires.inside c.loop-least.best c.loop-least.invariant.member,
-      nearing-done (has c.args.set) (weightAt m c.args.right.now) (weightAt m c.args.dist.now) (has c.loop-least.rest) c.loop-least.best (weight (m c.loop-least.least)) c.loop-least.invariant c.in-default.ensures,
+      nearing-done (has c.args.set) (weightAt m c.args.right.now) (weightAt m c.args.dist.now) (has c.loop-least.rest) c.loop-least.best (weight (m c.loop-least.least)) c.loop-least.invariant c.in_default.ensures,
     )

@@ -14,10 +14,10 @@ use Rattle.assign.proofs.Entries.{put_same, put_other, read-within}
 use Rattle.assign.proofs.Removing.{fewer}
 use Rattle.assign.proofs.Offering.{offering-keep, offering-take}
 use Rattle.assign.proofs.search.offer.Goals as goal
-use Rattle.assign.proofs.search.offer.Goals.{then-not-contains-via-then-not-contains, then-not-contains-via-else-not-contains+then-is-less}
+use Rattle.assign.proofs.search.offer.Goals.{then-not-contains-via-then-not-contains, then-not-contains-via-else-not-contains+then-is_less}
 
-pub exact-sum-way-requires : goal.exact-sum-way-requires
-exact-sum-way-requires g c =
+pub exact_sum-way-requires : goal.exact_sum-way-requires
+exact_sum-way-requires g c =
     let m = g.K.Cost.meaning in
     let member = c.loop-c.invariant.part c.in-Some.c c.in-Some.ensures.1 in
     record {
@@ -35,7 +35,7 @@ pub loop-c-preserved-in-Some : goal.loop-c-preserved-in-Some
 loop-c-preserved-in-Some g c =
     let m = g.K.Cost.meaning in
     let i = c.in-Some.c in
-    let x = c.exact-sum-way.result in
+    let x = c.exact_sum-way.result in
     let s = m c.args.shift in
     let d' = columnsAt m c.loop-c.dist in
     let member = c.loop-c.invariant.part c.in-Some.c c.in-Some.ensures.1 in
@@ -44,7 +44,7 @@ loop-c-preserved-in-Some g c =
     let within-via : c.in-Some.c < length c.loop-c.via = omega arith in
     let here = put_same m c.loop-c.dist i x within-dist in
     let cost-is = value-at m c.args.costs.now i c.index-costs-c.result inside c.index-costs-c.is in
-    let w-here : weight (columnsAt m (set c.loop-c.dist i x) i) ≡ weight s +ℤ weight (columnsAt m c.args.costs.now i) = ap weight here ∙ c.exact-sum-way.ensures.sum ∙ ap (λ z. weight s +ℤ weight z) cost-is in
+    let w-here : weight (columnsAt m (set c.loop-c.dist i x) i) ≡ weight s +ℤ weight (columnsAt m c.args.costs.now i) = ap weight here ∙ c.exact_sum-way.ensures.sum ∙ ap (λ z. weight s +ℤ weight z) cost-is in
     offering-take s (columnsAt m c.args.costs.now) c.args.from (has c.args.to) (has c.args.reached) (columnsAt m c.args.dist.now) (at c.args.via.now)
     (has c.loop-c.rest) (has c.remove.new.self) i c.remove.ensures c.in-Some.ensures.1 d' (at c.loop-c.via) c.loop-c.invariant
     (columnsAt m (set c.loop-c.dist i x)) (at (set c.loop-c.via i c.args.from))
@@ -53,14 +53,14 @@ loop-c-preserved-in-Some g c =
     (get_or-set_same c.loop-c.via i c.args.from 0 within-via)
     (λ r. elim c.then-not-contains.branch [
       | then-not-contains-via-then-not-contains w ↦ absurd (both_ways (has c.args.reached i) (sym c.contains.ensures ∙ w.if-not-contains.true) r)
-      | then-not-contains-via-else-not-contains+then-is-less w ↦
+      | then-not-contains-via-else-not-contains+then-is_less w ↦
           let old = ap weight (value-at m c.loop-c.dist i w.index-dist-c.result within-dist w.index-dist-c.is) in
-          let less = w.is-less.ensures.less w.if-is-less.true in
+          let less = w.is_less.ensures.less w.if-is_less.true in
           let new = ap weight here in
           omega (arith, ints)
     ])
     (λ b sb le. subst (Within (b + 1000000000)) (sym here)
-    (c.exact-sum-way.ensures.bound b 1000000000 sb (read-within m 1000000000 1000000000 c.args.costs.now i c.index-costs-c.result inside c.index-costs-c.is (omega arith) (c.requires.modest i member)) (omega arith)))
+    (c.exact_sum-way.ensures.bound b 1000000000 sb (read-within m 1000000000 1000000000 c.args.costs.now i c.index-costs-c.result inside c.index-costs-c.is (omega arith) (c.requires.modest i member)) (omega arith)))
 
 pub loop-c-preserved : goal.loop-c-preserved
 loop-c-preserved g c =
@@ -71,9 +71,9 @@ loop-c-preserved g c =
     let inside : c.in-Some.c < length c.args.costs.now = c.requires.inside c.in-Some.c member in
     let within-dist : c.in-Some.c < length c.loop-c.dist = omega arith in
     let cost-is = value-at m c.args.costs.now i c.index-costs-c.result inside c.index-costs-c.is in
-    let way = c.exact-sum-way.ensures.sum ∙ ap (λ z. weight (m c.args.shift) +ℤ weight z) cost-is in
+    let way = c.exact_sum-way.ensures.sum ∙ ap (λ z. weight (m c.args.shift) +ℤ weight z) cost-is in
     let old = ap weight (value-at m c.loop-c.dist i c.index-dist-c.result within-dist c.index-dist-c.is) in
-    let kept = c.is-less.ensures.not-less c.if-is-less.false in
+    let kept = c.is_less.ensures.not_less c.if-is_less.false in
     offering-keep s (columnsAt m c.args.costs.now) c.args.from (has c.args.to) (has c.args.reached) (columnsAt m c.args.dist.now) (at c.args.via.now)
     (has c.loop-c.rest) (has c.remove.new.self) i c.remove.ensures c.in-Some.ensures.1 (columnsAt m c.loop-c.dist) (at c.loop-c.via) c.loop-c.invariant
     (sym c.contains.ensures ∙ c.if-not-contains.false) (omega (arith, ints))

@@ -10,7 +10,7 @@ returns g c =
     let m = g.K.Cost.meaning in
     let a = m c.args.a in
     let b = m c.args.b in
-    let e = c.take-away.ensures in
+    let e = c.take_away.ensures in
     record {
       sum = ap weight e ∙ ap weight (exact 500000000000000 500000000000000 a b (omega arith) c.requires.first c.requires.second).1
           ∙ weight-minus a b (g.met.K.Cost.sized c.args.a ∙ sym (g.met.K.Cost.sized c.args.b));

@@ -17,11 +17,11 @@ returns g c =
     let m = g.K.Cost.meaning in
     let a = m c.args.a in
     let b = m c.args.b in
-    let said : c.is-lt.result ≡ is_lt (lex (m c.args.a) (m c.args.b)) = c.is-lt.ensures ∙ ap is_lt c.compare.ensures in
+    let said : c.is_lt.result ≡ is_lt (lex (m c.args.a) (m c.args.b)) = c.is_lt.ensures ∙ ap is_lt c.compare.ensures in
     let same = g.met.K.Cost.sized c.args.a ∙ sym (g.met.K.Cost.sized c.args.b) in
     let wa = within_more 1000000000000000 4000000000000000000 a (omega arith) (g.met.K.Cost.bounded c.args.a) in
     let wb = within_more 1000000000000000 4000000000000000000 b (omega arith) (g.met.K.Cost.bounded c.args.b) in
     record {
       less = λ e. less-is a b same wa wb (is-less _ (sym said ∙ e));
-      not-less = λ e. not-less-is a b same wa wb (λ z. true≢false (sym (said ∙ ap is_lt z) ∙ e));
+      not_less = λ e. not-less-is a b same wa wb (λ z. true≢false (sym (said ∙ ap is_lt z) ∙ e));
     }

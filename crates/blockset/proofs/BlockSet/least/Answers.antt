@@ -7,13 +7,13 @@ use Rattle.blockset.proofs.Bits.{lowest, below-lowest, lowest-lt, bit-zero}
 use Rattle.blockset.proofs.Holding.{has-bit}
 use Rattle.blockset.proofs.BlockSet.least.Goals as goal
 
-pub returns-then-is-empty : goal.returns-then-is-empty
-returns-then-is-empty c = c.is-empty.ensures.0 c.if-is-empty.true
+pub returns-then-is_empty : goal.returns-then-is_empty
+returns-then-is_empty c = c.is_empty.ensures.0 c.if-is_empty.true
 
-pub returns-else-is-empty : goal.returns-else-is-empty
-returns-else-is-empty c =
+pub returns-else-is_empty : goal.returns-else-is_empty
+returns-else-is_empty c =
     let s = c.args.self in
     let m = s.0 in
-    let some : m ≡ 0 → ⊥ = λ e. both_ways c.is-empty.result c.if-is-empty.false (c.is-empty.ensures.1 (λ j. has-bit s j (omega arith) ∙ ap (λ x. bit x j) e ∙ bit-zero j)) in
+    let some : m ≡ 0 → ⊥ = λ e. both_ways c.is_empty.result c.if-is_empty.false (c.is_empty.ensures.1 (λ j. has-bit s j (omega arith) ∙ ap (λ x. bit x j) e ∙ bit-zero j)) in
     let low : count_trailing_zeros 64 m < 64 = lowest-lt 64 m (omega arith) some in
     (low, has-bit s (count_trailing_zeros 64 m) (omega arith) ∙ lowest 64 m low, λ j h. has-bit s j (omega arith) ∙ below-lowest 64 m j h)

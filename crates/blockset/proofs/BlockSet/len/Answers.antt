@@ -8,8 +8,8 @@ use Rattle.blockset.proofs.Members.{members-like}
 use Rattle.blockset.proofs.Holding.{has-bit}
 use Rattle.blockset.proofs.BlockSet.len.Goals as goal
 
-pub overflow-cast-result : goal.overflow-cast-result
-overflow-cast-result c = let h : c.args.self.0 < 2 ^ 64 = omega arith in omega (arith, ones-le 64 c.args.self.0 h)
+pub overflow_cast-result : goal.overflow_cast-result
+overflow_cast-result c = let h : c.args.self.0 < 2 ^ 64 = omega arith in omega (arith, ones-le 64 c.args.self.0 h)
 
 pub returns : goal.returns
 returns c =

@@ -11,27 +11,27 @@ use Rattle.orderfile.proofs.Reading.{Known, reading-fault, reading-done, next-re
 use Rattle.orderfile.proofs.Verdicts.{checked-states, checked-faulty}
 use Rattle.orderfile.proofs.loading.check.Goals as goal
 
-pub returns-in-err-record : goal.returns-in-err-record
-returns-in-err-record c =
-    let p = err_from_is_err_and c.from-residual.result c.from-residual.ensures.1 in
-    let f = c.in-err-record.field-0.0 in
-    let e = from-err _ _ f c.in-err-record.ensures.answers in
-    checked-faulty c.args.file.now f c.from-residual.result (reading-fault _ _ _ _ c.loop-record.invariant.0 f e) (p.1 ∙ ap Err p.2)
+pub returns-in_err-record : goal.returns-in_err-record
+returns-in_err-record c =
+    let p = err_from_is_err_and c.from_residual.result c.from_residual.ensures.1 in
+    let f = c.in_err-record.field-0.0 in
+    let e = from-err _ _ f c.in_err-record.ensures.answers in
+    checked-faulty c.args.file.now f c.from_residual.result (reading-fault _ _ _ _ c.loop-record.invariant.0 f e) (p.1 ∙ ap Err p.2)
 
 pub loop-record-preserved : goal.loop-record-preserved
 loop-record-preserved c =
     let was = c.loop-record.records in
     let now' = c.next.new.self in
-    let answers : Ok (Some c.in-Some.record) ≡ answer (fieldFault was.stage was.fields.rest.now was.fields.at) (recordNext was.stage was.fields.rest.now) = ap Ok (sym c.in-Some.is) ∙ c.in-ok-record.ensures.answers in (
+    let answers : Ok (Some c.in-Some.record) ≡ answer (fieldFault was.stage was.fields.rest.now was.fields.at) (recordNext was.stage was.fields.rest.now) = ap Ok (sym c.in-Some.is) ∙ c.in_ok-record.ensures.answers in (
       next-reads was.stage was.fields.rest.now was.fields.at now'.stage now'.fields.rest.now now'.fields.at c.next.ensures.stages c.next.ensures.passes c.next.ensures.moves
-          c.args.file.now (Some c.in-Some.record) c.loop-record.invariant.0 (λ i. omega (arith, c.type-inv.file i)) answers,
+          c.args.file.now (Some c.in-Some.record) c.loop-record.invariant.0 (λ i. omega (arith, c.type_inv.file i)) answers,
       subst (λ (s : Stage). Known s c.loop-record.size) (sym (next-stage was.stage was.fields.rest.now was.fields.at now'.stage now'.fields.rest.now now'.fields.at c.next.ensures.stages c.next.ensures.passes c.next.ensures.moves c.in-Some.record answers))
-          (known-still was.stage c.in-Some.record c.loop-record.size c.in-default-record.not-Size c.loop-record.invariant.1),
+          (known-still was.stage c.in-Some.record c.loop-record.size c.in_default-record.not-Size c.loop-record.invariant.1),
     )
 
 pub returns : goal.returns
 returns c =
     let was = c.loop-record.records in
-    let found = from-ok (fieldFault was.stage was.fields.rest.now was.fields.at) (recordNext was.stage was.fields.rest.now) None (ap Ok (sym c.in-default.is) ∙ c.in-ok-record.ensures.answers) in
+    let found = from-ok (fieldFault was.stage was.fields.rest.now was.fields.at) (recordNext was.stage was.fields.rest.now) None (ap Ok (sym c.in_default.is) ∙ c.in_ok-record.ensures.answers) in
     let done = reading-done c.args.file.now was.stage was.fields.rest.now was.fields.at c.loop-record.size c.loop-record.invariant.0 c.loop-record.invariant.1 found.0 (sym found.1) in
     checked-states c.args.file.now done.0 _ done.1 (ap Ok done.2)

@@ -19,9 +19,9 @@ returns c =
     let n = c.args.sheet.now.n in
     let p = c.in-Pair.pair in
     let sound = (subst (λ (t : Record). All (SoundPair n) (pairsOf t)) c.in-Pair.is c.requires.sound).0 in
-    let same : to_z w64 (of_z w64 p.cost) ≡ p.cost = to_z-of_z w64 p.cost (fits p.cost sound.cost-within) in
+    let same : to_z w64 (of_z w64 p.cost) ≡ p.cost = to_z-of_z w64 p.cost (fits p.cost sound.cost_within) in
     let e = enter-accepts n (length c.args.costs.now) (length c.args.standing.now) p.left p.right (within 1000000000 (railed (to_z w64 (of_z w64 p.cost)) ∷ []))
-    c.requires.fitting.0 c.requires.fitting.1 sound.left_below sound.right-below (ap (λ x. within 1000000000 (railed x ∷ [])) same ∙ plain_fits p.cost sound.cost-within) in
+    c.requires.fitting.0 c.requires.fitting.1 sound.left_below sound.right_below (ap (λ x. within 1000000000 (railed x ∷ [])) same ∙ plain_fits p.cost sound.cost_within) in
     record {
       answers = c.enter.ensures.answers ∙ sym (accepted _ _ e);
       stores = c.enter.ensures.stores ∙ sym (renewed _ _ _ e) ∙ ap (λ x. set c.args.costs.now (place_of n p.left p.right) (plain x)) same

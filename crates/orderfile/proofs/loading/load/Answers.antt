@@ -7,34 +7,34 @@ use Rattle.orderfile.specs.Loading.{plain, costsAfter, standingAfter, Fitting}
 use Rattle.orderfile.proofs.Ends.{checked-err, checked-ok, loaded-faulty, loaded-misfit, loaded, open-unfit, open-fault, open_kept, opened-size, opened-fits, opened-costs, opened-standing, opened-fitting}
 use Rattle.orderfile.proofs.loading.load.Goals as goal
 
-pub returns-in-err-n : goal.returns-in-err-n
-returns-in-err-n c =
-    let p = err_from_is_err_and c.from-residual.result c.from-residual.ensures.1 in
-    let f = c.in-err-n.field-0.0 in
-    loaded-faulty _ _ _ _ _ _ f (checked-err c.args.file.now f c.in-err-n.ensures) (ap sizes p.1 ∙ ap Err p.2) refl refl
+pub returns-in_err-n : goal.returns-in_err-n
+returns-in_err-n c =
+    let p = err_from_is_err_and c.from_residual.result c.from_residual.ensures.1 in
+    let f = c.in_err-n.field-0.0 in
+    loaded-faulty _ _ _ _ _ _ f (checked-err c.args.file.now f c.in_err-n.ensures) (ap sizes p.1 ∙ ap Err p.2) refl refl
 
-pub returns-in-err-sheet : goal.returns-in-err-sheet
-returns-in-err-sheet c =
-    let p = err_from_is_err_and c.from-residual-in-err-sheet.result c.from-residual-in-err-sheet.ensures.1 in
-    let f = c.in-err-sheet.field-0.0 in
-    let o = checked-ok c.args.file.now c.in-ok-n.n c.in-ok-n.ensures in
-    let h = c.in-err-sheet.ensures in
+pub returns-in_err-sheet : goal.returns-in_err-sheet
+returns-in_err-sheet c =
+    let p = err_from_is_err_and c.from_residual-in_err-sheet.result c.from_residual-in_err-sheet.ensures.1 in
+    let f = c.in_err-sheet.field-0.0 in
+    let o = checked-ok c.args.file.now c.in_ok-n.n c.in_ok-n.ensures in
+    let h = c.in_err-sheet.ensures in
     let stay = open_kept o.0 _ o.2 o.1.sound _ _ _ _ f h in
     loaded-misfit _ _ _ _ _ _ o.0 o.1 (open-unfit o.0 _ o.2 o.1.sound _ _ _ _ f h)
     (ap sizes p.1 ∙ ap Err (p.2 ∙ open-fault o.0 _ o.2 o.1.sound _ _ _ _ f h)) stay.0 stay.1
 
-pub enter-all-requires : goal.enter-all-requires
-enter-all-requires c =
-    let o = checked-ok c.args.file.now c.in-ok-n.n c.in-ok-n.ensures in
-    let h = c.in-ok-sheet.ensures in
+pub enter_all-requires : goal.enter_all-requires
+enter_all-requires c =
+    let o = checked-ok c.args.file.now c.in_ok-n.n c.in_ok-n.ensures in
+    let h = c.in_ok-sheet.ensures in
     record { stated = (o.0, o.1, o.2 ∙ sym (opened-size _ _ _ _ _ _ h)); fitting = opened-fitting _ _ _ _ _ _ h }
 
 pub returns : goal.returns
 returns c =
-    let o = checked-ok c.args.file.now c.in-ok-n.n c.in-ok-n.ensures in
-    let h = c.in-ok-sheet.ensures in
+    let o = checked-ok c.args.file.now c.in_ok-n.n c.in_ok-n.ensures in
+    let h = c.in_ok-sheet.ensures in
     let order = o.0 in
-    let done = c.enter-all.ensures.enters order o.1 in
+    let done = c.enter_all.ensures.enters order o.1 in
     let blank-costs : c.open.new.costs ≡ replicate (order.size * order.size) (plain (pos 0)) = opened-costs _ _ _ _ _ _ h ∙ ap (λ k. replicate (k * k) (plain (pos 0))) (sym o.2) in
     let blank-standing : c.open.new.standing ≡ replicate (order.size * order.size) 0 = opened-standing _ _ _ _ _ _ h ∙ ap (λ k. replicate (k * k) 0) (sym o.2) in
     loaded _ _ _ _ _ _ order o.1 (subst (λ (k : ℕ). Fitting k c.args.costs.now c.args.standing.now) (sym o.2) (opened-fits _ _ _ _ _ _ h))

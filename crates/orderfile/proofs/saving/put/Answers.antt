@@ -9,5 +9,5 @@ returns c =
     let out = c.args.out.now in
     let bytes = c.args.bytes.now in
     let e : at + ((at + length bytes) - at) ≡ at + length bytes = omega arith in
-    ap (λ t. take at out ++ (t ++ drop ((at + length bytes) - at) (drop at out))) c.copy-from-slice.ensures.after
+    ap (λ t. take at out ++ (t ++ drop ((at + length bytes) - at) (drop at out))) c.copy_from_slice.ensures.after
     ∙ ap (λ t. take at out ++ (bytes ++ t)) (drop-drop ((at + length bytes) - at) at out ∙ ap (λ k. drop k out) e)

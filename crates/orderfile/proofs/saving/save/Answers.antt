@@ -17,30 +17,30 @@ returns-then-not-fits c =
     let sheet = c.args.sheet.now in
     not_saved sheet.n sheet.some sheet.few c.args.costs.now c.args.standing.now c.args.out.now _ _ _ (save-misfits sheet.n _ _ _ (fit_is _ _ _ _ _ c.size-n.ensures c.if-not-fits.ensures)) (ap Err c.at.ensures) refl
 
-pub returns-then-not-in-order : goal.returns-then-not-in-order
-returns-then-not-in-order c =
+pub returns-then-not-in_order : goal.returns-then-not-in_order
+returns-then-not-in_order c =
     let sheet = c.args.sheet.now in
     let fit = fit_is _ _ _ _ _ c.size-n.ensures c.if-not-fits.ensures in
-    not_saved sheet.n sheet.some sheet.few c.args.costs.now c.args.standing.now c.args.out.now _ _ _ (save-disturbed sheet.n _ _ _ fit (sym c.if-not-in-order.ensures)) (ap Err c.at-then-not-in-order.ensures) refl
+    not_saved sheet.n sheet.some sheet.few c.args.costs.now c.args.standing.now c.args.out.now _ _ _ (save-disturbed sheet.n _ _ _ fit (sym c.if-not-in_order.ensures)) (ap Err c.at-then-not-in_order.ensures) refl
 
 pub returns-then-out-length : goal.returns-then-out-length
 returns-then-out-length c =
     let sheet = c.args.sheet.now in
     let fit = fit_is _ _ _ _ _ c.size-n.ensures c.if-not-fits.ensures in
     not_saved sheet.n sheet.some sheet.few c.args.costs.now c.args.standing.now c.args.out.now _ _ _
-    (save-short sheet.n _ _ _ fit (sym c.if-not-in-order.ensures) (omega (arith, c.if-out-length.true, c.standing-pairs.ensures.value))) (ap Err c.at-then-out-length.ensures) refl
+    (save-short sheet.n _ _ _ fit (sym c.if-not-in_order.ensures) (omega (arith, c.if-out-length.true, c.standing_pairs.ensures.value))) (ap Err c.at-then-out-length.ensures) refl
 
-pub write-file-requires : goal.write-file-requires
-write-file-requires c =
+pub write_file-requires : goal.write_file-requires
+write_file-requires c =
     let sheet = c.args.sheet.now in
     let n = c.size-n.result in
     let long = fits-tells n (length c.args.costs.now) (length c.args.standing.now) (sym c.if-not-fits.ensures) in
     record {
       some = omega (arith, sheet.some, c.size-n.ensures);
       few = omega (arith, sheet.few, c.size-n.ensures);
-      costs-fit = long.0;
-      standing-fits = long.1;
-      room = omega (arith, c.if-out-length.false, c.standing-pairs.ensures.value);
+      costs_fit = long.0;
+      standing_fits = long.1;
+      room = omega (arith, c.if-out-length.false, c.standing_pairs.ensures.value);
     }
 
 pub returns : goal.returns
@@ -51,13 +51,13 @@ returns c =
     let standing = c.args.standing.now in
     let fit = fit_is _ _ _ _ _ c.size-n.ensures c.if-not-fits.ensures in
     let long = fits-tells n (length costs) (length standing) fit in
-    let good = sym c.if-not-in-order.ensures in
+    let good = sym c.if-not-in_order.ensures in
     let count : length (listed n costs standing 0 (n * n)) ≡ standingPairs standing = listed-count n sheet.some costs standing 0 (n * n) (omega (arith, long.1)) in
-    let wrote : Written n costs standing c.args.out.now c.write-file.new.out = record {
+    let wrote : Written n costs standing c.args.out.now c.write_file.new.out = record {
       pairs = listed n costs standing 0 (n * n);
       names = names-all n sheet.some costs standing long.0 long.1 good;
       long = file-length n (listed n costs standing 0 (n * n)) ∙ ap (λ k. 7 + 13 * k) count;
-      file = c.write-file.ensures ∙ ap (λ k. fileOf (record { size = k; pairs = listed k costs standing 0 (k * k) }) ++ drop (savedLength standing) c.args.out.now) c.size-n.ensures;
+      file = c.write_file.ensures ∙ ap (λ k. fileOf (record { size = k; pairs = listed k costs standing 0 (k * k) }) ++ drop (savedLength standing) c.args.out.now) c.size-n.ensures;
     } in
-    saved n sheet.some sheet.few costs standing c.args.out.now _ _ (save-accepts n _ _ _ fit good (omega (arith, c.if-out-length.false, c.standing-pairs.ensures.value)))
-    (ap Ok (omega (arith, c.standing-pairs.ensures.value))) wrote
+    saved n sheet.some sheet.few costs standing c.args.out.now _ _ (save-accepts n _ _ _ fit good (omega (arith, c.if-out-length.false, c.standing_pairs.ensures.value)))
+    (ap Ok (omega (arith, c.standing_pairs.ensures.value))) wrote

@@ -20,11 +20,11 @@ put-requires c =
     let all = ap length (left-all n c.args.costs.now c.args.standing.now) in
     let room = writing-room n c.args.costs.now c.args.standing.now c.args.out.now c.loop-k.k c.loop-k.at c.loop-k.out c.loop-k.invariant
     (omega (arith, all, c.requires.room)) (omega arith) (sym c.if-stands.ensures) in
-    let thirteen : length c.pair-field.result ≡ 13 = ap length c.pair-field.ensures in
+    let thirteen : length c.pair_field.result ≡ 13 = ap length c.pair_field.ensures in
     omega (arith, room, thirteen, c.loop-k.auto.out)
 
-pub overflow-add-at : goal.overflow-add-at
-overflow-add-at c =
+pub overflow_add-at : goal.overflow_add-at
+overflow_add-at c =
     let n = c.args.n in
     let all = ap length (left-all n c.args.costs.now c.args.standing.now) in
     let room = writing-room n c.args.costs.now c.args.standing.now c.args.out.now c.loop-k.k c.loop-k.at c.loop-k.out c.loop-k.invariant
@@ -38,7 +38,7 @@ loop-k-preserved c =
     let standing = c.args.standing.now in
     let here : c.loop-k.k < n * n = omega arith in
     elim c.if-stands.branch [
-      | then-stands w ↦ simp (w.out-is, w.at-is) (writing-yes n costs standing c.args.out.now c.loop-k.k c.loop-k.at c.loop-k.out c.loop-k.invariant w.put.new.out here (sym w.if-stands.ensures) (w.put.ensures ∙ ap (λ t. take c.loop-k.at c.loop-k.out ++ (t ++ drop (c.loop-k.at + length t) c.loop-k.out)) (w.pair-field.ensures ∙ ap pairField w.pair-at.ensures)))
+      | then-stands w ↦ simp (w.out-is, w.at-is) (writing-yes n costs standing c.args.out.now c.loop-k.k c.loop-k.at c.loop-k.out c.loop-k.invariant w.put.new.out here (sym w.if-stands.ensures) (w.put.ensures ∙ ap (λ t. take c.loop-k.at c.loop-k.out ++ (t ++ drop (c.loop-k.at + length t) c.loop-k.out)) (w.pair_field.ensures ∙ ap pairField w.pair_at.ensures)))
       | else-stands w ↦ simp (w.out-is, w.at-is) (writing-no n costs standing c.args.out.now c.loop-k.k c.loop-k.at c.loop-k.out c.loop-k.invariant here (sym w.if-stands.ensures))
     ]
 

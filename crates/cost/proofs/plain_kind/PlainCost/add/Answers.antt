@@ -4,7 +4,7 @@ use Rattle.cost.specs.Columns.{railed}
 use Rattle.cost.proofs.Exact.{bounded-means}
 use Rattle.cost.proofs.plain_kind.PlainCost.add.Goals as goal
 
-pub returns-else-is-near : goal.returns-else-is-near
-returns-else-is-near c =
-    let e : to_z w64 (of_z w64 c.on-rail-else-is-near-2.result) ≡ railed (railed c.args.self.0 +ℤ railed c.args.other.0) = search rules in
+pub returns-else-is_near : goal.returns-else-is_near
+returns-else-is_near c =
+    let e : to_z w64 (of_z w64 c.on_rail-else-is_near-2.result) ≡ railed (railed c.args.self.0 +ℤ railed c.args.other.0) = search rules in
     record { means = bounded-means _ _ e; bounded = e }

@@ -12,10 +12,10 @@ returns-in-Equal g c =
     let k = c.in-Equal.ensures in
     search (rules, h, k)
 
-pub returns-in-default : goal.returns-in-default
-returns-in-default g c =
+pub returns-in_default : goal.returns-in_default
+returns-in_default g c =
     let a = g.A.Cost.meaning c.args.self.0 in
     let b = g.A.Cost.meaning c.args.other.0 in
     let e = same_length g.A.Cost.columns g.A.Cost.meaning g.met.A.Cost.sized c.args.self.0 c.args.other.0 in
     let h = lex-append a b (g.B.Cost.meaning c.args.self.1) (g.B.Cost.meaning c.args.other.1) e in
-    c.compare.ensures ∙ sym (then_keeps _ _ (λ z. c.in-default.not-Equal (c.compare.ensures ∙ z))) ∙ sym h
+    c.compare.ensures ∙ sym (then_keeps _ _ (λ z. c.in_default.not-Equal (c.compare.ensures ∙ z))) ∙ sym h

@@ -6,17 +6,17 @@ use Rattle.sheet.proofs.Refused.{refused, accepted, from-err, from-ok}
 use Rattle.sheet.proofs.Pairs.{strike-misplaced, strike-goes-on, not-standing}
 use Rattle.sheet.proofs.state.OpenSheet.find.Goals as goal
 
-pub returns-in-err-at : goal.returns-in-err-at
-returns-in-err-at g c =
-    let p = err_from_is_err_and c.from-residual.result c.from-residual.ensures.1 in
-    let f = c.in-err-at.field-0.0 in
+pub returns-in_err-at : goal.returns-in_err-at
+returns-in_err-at g c =
+    let p = err_from_is_err_and c.from_residual.result c.from_residual.ensures.1 in
+    let f = c.in_err-at.field-0.0 in
     let e = strike-misplaced c.args.self.now.n (length c.args.costs.now) (length c.args.standing.now) c.args.left c.args.right
-    (byte_of c.args.self.now.n c.args.standing.now c.args.left c.args.right) f (from-err _ _ f c.in-err-at.ensures.answers) in
-    record { answers = p.1 ∙ ap Err p.2 ∙ refused _ _ _ e; inside = IfOk-from_err _ _ c.from-residual.ensures.0 }
+    (byte_of c.args.self.now.n c.args.standing.now c.args.left c.args.right) f (from-err _ _ f c.in_err-at.ensures.answers) in
+    record { answers = p.1 ∙ ap Err p.2 ∙ refused _ _ _ e; inside = IfOk-from_err _ _ c.from_residual.ensures.0 }
 
 pub returns-then-disturbed : goal.returns-then-disturbed
 returns-then-disturbed g c =
-    let found = from-ok _ _ _ c.in-ok-at.ensures.answers in
+    let found = from-ok _ _ _ c.in_ok-at.ensures.answers in
     let byte = byte_of c.args.self.now.n c.args.standing.now c.args.left c.args.right in
     let d : saysDisturbed byte ≡ true = ap (λ p. saysDisturbed (get_or c.args.standing.now p 0)) (sym found.1) ∙ sym c.if-disturbed.ensures in
     let e = strike-goes-on c.args.self.now.n (length c.args.costs.now) (length c.args.standing.now) c.args.left c.args.right byte found.0 ∙ not-standing byte true _ d refl in
@@ -24,7 +24,7 @@ returns-then-disturbed g c =
 
 pub returns-then-not-stands : goal.returns-then-not-stands
 returns-then-not-stands g c =
-    let found = from-ok _ _ _ c.in-ok-at.ensures.answers in
+    let found = from-ok _ _ _ c.in_ok-at.ensures.answers in
     let byte = byte_of c.args.self.now.n c.args.standing.now c.args.left c.args.right in
     let d : saysDisturbed byte ≡ false = ap (λ p. saysDisturbed (get_or c.args.standing.now p 0)) (sym found.1) ∙ sym c.if-disturbed.ensures in
     let s : saysStands byte ≡ false = ap (λ p. saysStands (get_or c.args.standing.now p 0)) (sym found.1) ∙ sym c.if-not-stands.ensures in
@@ -33,9 +33,9 @@ returns-then-not-stands g c =
 
 pub returns : goal.returns
 returns g c =
-    let found = from-ok _ _ _ c.in-ok-at.ensures.answers in
+    let found = from-ok _ _ _ c.in_ok-at.ensures.answers in
     let byte = byte_of c.args.self.now.n c.args.standing.now c.args.left c.args.right in
     let d : saysDisturbed byte ≡ false = ap (λ p. saysDisturbed (get_or c.args.standing.now p 0)) (sym found.1) ∙ sym c.if-disturbed.ensures in
     let s : saysStands byte ≡ true = ap (λ p. saysStands (get_or c.args.standing.now p 0)) (sym found.1) ∙ sym c.if-not-stands.ensures in
     let e = strike-goes-on c.args.self.now.n (length c.args.costs.now) (length c.args.standing.now) c.args.left c.args.right byte found.0 ∙ not-standing byte false true d s in
-    record { answers = ap Ok found.1 ∙ accepted _ _ e; inside = c.in-ok-at.ensures.inside }
+    record { answers = ap Ok found.1 ∙ accepted _ _ e; inside = c.in_ok-at.ensures.inside }
