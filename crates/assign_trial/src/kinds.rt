@@ -2,8 +2,7 @@
 
 use crate::draw::Pair;
 use cost::{Cost, Free, Plain, TwoStep};
-use std::fmt;
-use std::fmt::Write;
+use std::alloc::AllocError;
 
 /// A cost kind whose values can be made and shown column by column.
 pub trait Trial: Cost {
@@ -11,7 +10,7 @@ pub trait Trial: Cost {
     fn made(pair: &mut Pair) -> Self;
 
     /// Appends the columns, each behind a space.
-    fn show(self, text: &mut String) -> fmt::Result;
+    fn show(self, text: &mut String) -> Result<(), AllocError>;
 }
 
 impl Trial for Plain {
@@ -19,7 +18,7 @@ impl Trial for Plain {
         Plain(pair.next_column())
     }
 
-    fn show(self, text: &mut String) -> fmt::Result {
+    fn show(self, text: &mut String) -> Result<(), AllocError> {
         let column = self.0;
         write!(text, " {column}")
     }
@@ -30,7 +29,7 @@ impl Trial for Free {
         Free
     }
 
-    fn show(self, _text: &mut String) -> fmt::Result {
+    fn show(self, _text: &mut String) -> Result<(), AllocError> {
         Ok(())
     }
 }
@@ -41,7 +40,7 @@ impl<A: Trial, B: Trial> Trial for TwoStep<A, B> {
         TwoStep(first, B::made(pair))
     }
 
-    fn show(self, text: &mut String) -> fmt::Result {
+    fn show(self, text: &mut String) -> Result<(), AllocError> {
         self.0.show(text)?;
         self.1.show(text)
     }

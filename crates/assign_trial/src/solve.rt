@@ -8,8 +8,6 @@ use blockset::BlockSet;
 use grid::place;
 use matching::first;
 use std::alloc::{AllocError, Global};
-use std::fmt;
-use std::fmt::Write;
 use tables::tight_rows;
 
 /// The tables of a sheet: costs and standing pairs, then what is found.
@@ -73,42 +71,42 @@ impl<K: Trial> Tables<K> {
     }
 
     /// Appends the total, the prices, the tight pairs and the first optimum pairing.
-    fn tell(&mut self, text: &mut String) -> fmt::Result {
-        text.write_str("total")?;
+    fn tell(&mut self, text: &mut String) -> Result<(), AllocError> {
+        text.push_str("total")?;
         self.total().show(text)?;
-        text.write_str("\nleft")?;
+        text.push_str("\nleft")?;
         show_all(self.left.as_slice(), text)?;
-        text.write_str("\nright")?;
+        text.push_str("\nright")?;
         show_all(self.right.as_slice(), text)?;
         self.tell_tight(text)
     }
 
     /// Appends the tight pairs and the first optimum pairing.
-    fn tell_tight(&mut self, text: &mut String) -> fmt::Result {
+    fn tell_tight(&mut self, text: &mut String) -> Result<(), AllocError> {
         let mut sets = [BlockSet::empty(); 64];
         let rows = &mut sets[0..self.n.min(64) as usize];
         let made = tight_rows(&self.costs, &self.standing, &self.left, &self.right, rows);
         if made.is_err() || first(rows, &mut self.partners).is_err() {
-            return text.write_str("\nno pairing of tight pairs\n");
+            return text.push_str("\nno pairing of tight pairs\n");
         }
-        text.write_str("\ntight")?;
+        text.push_str("\ntight")?;
         show_sets(rows, text)?;
-        text.write_str("\nfirst")?;
+        text.push_str("\nfirst")?;
         show_numbers(&self.partners, text)?;
-        text.write_str("\n")
+        text.push_str("\n")
     }
 }
 
 /// Appends all values, each behind a bar.
-fn show_all<K: Trial>(values: &[K], text: &mut String) -> fmt::Result {
+fn show_all<K: Trial>(values: &[K], text: &mut String) -> Result<(), AllocError> {
     for value in values {
-        text.write_str(" |")?;
+        text.push_str(" |")?;
         value.show(text)?;
     }
     Ok(())
 }
 
-fn show_sets(rows: &[BlockSet], text: &mut String) -> fmt::Result {
+fn show_sets(rows: &[BlockSet], text: &mut String) -> Result<(), AllocError> {
     for row in rows {
         let bits = row.bits();
         write!(text, " {bits:016x}")?;
@@ -116,7 +114,7 @@ fn show_sets(rows: &[BlockSet], text: &mut String) -> fmt::Result {
     Ok(())
 }
 
-fn show_numbers(numbers: &[u16], text: &mut String) -> fmt::Result {
+fn show_numbers(numbers: &[u16], text: &mut String) -> Result<(), AllocError> {
     for number in numbers {
         write!(text, " {number}")?;
     }
@@ -149,7 +147,7 @@ pub fn solve<K: Trial>(heap: Global, order: Order) -> anyhow::Result<String> {
             let (crowd, short) = (shortfall.crowd, shortfall.short);
             write!(text, "unmatched {crowd:016x} {short}\n")?;
         }
-        Err(_) => text.write_str("refused\n")?,
+        Err(_) => text.push_str("refused\n")?,
     }
     Ok(text)
 }
