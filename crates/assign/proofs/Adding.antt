@@ -3,7 +3,7 @@
 -- Idea: lowering the taken right blocks by what the free one is farther makes every step of the search tight, and hurts no other pair, since what is
 -- not taken is at least as far. Tight steps may be exchanged. If no free right block were reached, the left blocks that were looked at would stand with taken right
 -- blocks only; each of these has one of them, and the root has none: one left block too many.
-use Rattle.std.proofs.Common.{◌≡◌, ℕ, ◌+◌, ◌<◌, ◌≤◌, Bool, true, false, not, ◌&&◌, ◌||◌, eqb, leb, ◌⊎◌, List, ℤ, ◌+ℤ◌, ◌≤ℤ◌, sym, refl, ap, ◌∙◌, subst, inl, inr, ⊎_elim, arith}
+use Rattle.std.proofs.Common.{◌≡◌, ℕ, ◌<◌, ◌≤◌, Bool, true, false, not, ◌&&◌, ◌||◌, eqb, leb, List, ℤ, ◌+ℤ◌, ◌≤ℤ◌, sym, refl, ap, ◌∙◌, subst, inl, inr, ⊎_elim, arith}
 use Rattle.std.proofs.lemmas.Int.{ints}
 use Rattle.std.proofs.lemmas.Bool.{cases_eq, cases_lt, cases_Bool, leb-true, le-leb, eqb-true, eq-eqb, ne_eqb, or_cases, and_parts, and_from, both_ways, not-true, not_from_false}
 use Rattle.blockset.specs.Sets.{members}

@@ -4,14 +4,12 @@ use mathlib.Core.Path.{◌≡◌, refl, sym, subst}
 use mathlib.Core.Logic.{◌↔◌, inl}
 use mathlib.Core.Bool.{true}
 use mathlib.Core.List.{List, [], ◌∷◌}
-use Prim.Native.Nat.{ℕ, ◌*◌, ◌≤◌, ◌<◌}
+use Prim.Native.Nat.{ℕ, ◌*◌, ◌≤◌}
 use native.Mathlib.Omega.{arith}
-use lib.IntN.{ℤ}
 use lib.ListN.{length}
 use Rattle.cost.specs.declared.plain_kind.Plain.{Plain}
 use Rattle.blockset.specs.declared.BlockSet.{BlockSet}
-use Rattle.pairing.specs.Grid.{Grid, Sane, Optimum}
-use Rattle.pairing.specs.Prices.{Greatest}
+use Rattle.pairing.specs.Grid.{Sane, Optimum}
 use Rattle.pairing.specs.Optima.{In, optima}
 use Rattle.pairing.proofs.Duality.{valid-alike}
 use Rattle.pairing.proofs.Listing.{in-perfects, perfects-ascend, optima-are}
@@ -24,7 +22,6 @@ use Rattle.tables.specs.Said.{columnsAt, Ordered}
 use Rattle.tables.specs.Rows.{TightRows}
 use Rattle.tables.proofs.Orderly.{sane-ordered}
 use Rattle.tables.proofs.Tightness.{pairs-optimum}
-use Rattle.assign.specs.Answer.{Solved}
 use Rattle.bench_calls.specs.Settling.{column, grid, Found, Settled}
 
 -- the first of a list is in it

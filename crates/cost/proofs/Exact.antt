@@ -1,10 +1,10 @@
 -- Where the rail is not reached, sums and differences are exact.
 -- Idea: column by column, the size of a sum or difference is at most the sizes together, and a number on the rail is its own nearest one.
-use Rattle.std.proofs.Common.{◌≡◌, ℕ, zero, suc, ◌+◌, ◌≤◌, true, leb, List, [], ◌∷◌, length, ℤ, pos, negsuc, ◌+ℤ◌, ◌-ℤ◌, nat_abs, Decides, refl, ap, ◌∙◌, arith}
+use Rattle.std.proofs.Common.{◌≡◌, ℕ, zero, suc, ◌+◌, ◌≤◌, leb, List, [], ◌∷◌, length, ℤ, pos, negsuc, ◌+ℤ◌, ◌-ℤ◌, nat_abs, Decides, refl, ap, ◌∙◌, arith}
 use Rattle.std.proofs.lemmas.Int.{ints}
 use Rattle.std.proofs.lemmas.Bool.{leb-true, le-leb}
 use Rattle.std.proofs.ByRecursion.{Decides-by_and}
-use Rattle.cost.specs.Columns.{railed, Within, within, columnwise, zeros, sums, differences, plus, minus}
+use Rattle.cost.specs.Columns.{railed, Within, within, columnwise, zeros, plus, minus}
 use Rattle.cost.specs.Laws.{Exact}
 
 pub railed-same : (z : ℤ) → nat_abs z ≤ 1000000000000000 → railed z ≡ z

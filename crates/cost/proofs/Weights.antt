@@ -1,13 +1,12 @@
 -- The columns of a cost as one whole number, so that chains of comparisons become linear arithmetic. It serves proofs only: no code folds columns.
 -- Idea: read the columns as digits in base 2^64 (Horner's rule). Columns are far smaller than the base, so the first column that
 -- differs outweighs all that follow it, and the order of the columns is the order of the numbers; sums of columns are sums of the numbers.
-use Rattle.std.proofs.Common.{◌≡◌, ℕ, zero, suc, ◌+◌, List, [], ◌∷◌, length, ℤ, pos, ◌+ℤ◌, ◌-ℤ◌, ◌*ℤ◌, ◌≤ℤ◌, ◌<ℤ◌, Ordering, Less, Equal, Greater, sym, refl, ap, ◌∙◌, subst, arith}
-use lib.Signed.{lt_z}
+use Rattle.std.proofs.Common.{◌≡◌, ℕ, zero, suc, List, [], ◌∷◌, length, ℤ, pos, ◌+ℤ◌, ◌-ℤ◌, ◌*ℤ◌, ◌≤ℤ◌, ◌<ℤ◌, Ordering, Less, Equal, Greater, sym, refl, ap, ◌∙◌, subst, arith}
 use Rattle.std.proofs.lemmas.Int.{ints}
 use Rattle.std.proofs.lemmas.Cmp.{by_ranked}
 use Rattle.std.specs.Ordering.{MatchOrdering}
 use Rattle.cost.specs.Columns.{Within, zeros, plus, minus, lex}
-use Rattle.cost.proofs.Order.{Head, head, headed}
+use Rattle.cost.proofs.Order.{head}
 use Rattle.cost.proofs.Order.Head.{below, same, above}
 
 -- what the columns weigh behind a front of weight a

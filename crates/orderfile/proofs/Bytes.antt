@@ -1,6 +1,6 @@
 -- Eight bytes and the number that they spell, back and forth.
 -- Idea: a byte is peeled off at a time: x is 256 * (x / 256) + x % 256, and with b below 256 the number 256 * y + b has the quotient y and the rest b.
-use Rattle.std.proofs.Common.{◌≡◌, ℕ, ◌+◌, ◌*◌, ◌/◌, ◌%◌, ◌^◌, ◌<◌, List, [], ◌∷◌, sym, refl, ap, ◌∙◌, arith}
+use Rattle.std.proofs.Common.{◌≡◌, ℕ, ◌+◌, ◌*◌, ◌/◌, ◌%◌, ◌<◌, [], ◌∷◌, arith}
 use Rattle.orderfile.specs.Format.{eightBytes}
 
 -- the number that eight bytes spell, the high byte first

@@ -1,7 +1,7 @@
 -- Entering the pairs of a file that has no fault: what is left to read, and what the tables hold.
 -- Idea: what is left of the file is always the bytes of the pairs that are still to come, and the tables are those after the pairs that came.
 -- A sound field has no fault and states what was written, so each step takes one pair over from the first list to the second.
-use Rattle.std.proofs.Common.{◌≡◌, ℕ, ◌+◌, ◌*◌, ◌<◌, ◌≤◌, Bool, true, false, cond, ◌&&◌, leb, List, [], ◌∷◌, ◌++◌, length, drop, set, ℤ, nat_abs, Some, None, Option, sym, refl, ap, ◌∙◌, subst, append_assoc, append-nil, arith}
+use Rattle.std.proofs.Common.{◌≡◌, ℕ, ◌≤◌, true, ◌&&◌, leb, List, [], ◌∷◌, ◌++◌, drop, set, ℤ, nat_abs, Some, None, sym, refl, ap, ◌∙◌, subst, append_assoc, append-nil, arith}
 use Rattle.std.proofs.lemmas.Bool.Decides.{nat_tests}
 use Rattle.std.specs.List.{flat_map, AllByRecursion as All}
 use Rattle.cost.specs.Columns.{railed, within}
@@ -13,7 +13,7 @@ use Rattle.orderfile.specs.declared.record.Record.{Record}
 use Rattle.orderfile.specs.declared.record.Record.TheVariants.{Size, Pair, End}
 use Rattle.orderfile.specs.declared.record.Stage.{Stage}
 use Rattle.orderfile.specs.declared.record.Stage.TheVariants.{Start, Sized, Ended}
-use Rattle.orderfile.specs.Format.{Order, States, Sound, SoundPair, sizeField, pairField, endField, fileOf, value_of}
+use Rattle.orderfile.specs.Format.{Order, States, Sound, SoundPair, pairField, endField, fileOf}
 use Rattle.orderfile.specs.Faults.{fieldFault}
 use Rattle.orderfile.specs.Records.{pairsOf, recordNext, stageNext, passed}
 use Rattle.orderfile.specs.Loading.{plain, costsAfter, standingAfter}

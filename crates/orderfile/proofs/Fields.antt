@@ -1,17 +1,15 @@
 -- Fields and their bytes: the bytes of a sound field have no fault and state what was written, and a field without a fault is the bytes of what it states.
 -- Idea: one way the bytes are written out, so that the checks compute. The other way the checks fix the tag and the length,
 -- so that the first bytes can be peeled off one by one and compared with the bytes that the format would write.
-use Rattle.std.proofs.Common.{◌≡◌, ℕ, zero, suc, ◌+◌, ◌-◌, ◌*◌, ◌/◌, ◌%◌, ◌<◌, ◌≤◌, Bool, true, false, cond, ◌||◌, eqb, ltb, leb, ◌⊎◌, List, [], ◌∷◌, ◌++◌, length, get_or, take, drop, ℤ, pos, negsuc, nat_abs, Some, None, Option, sym, refl, ap, ◌∙◌, subst, inl, inr, add-zero, arith, length-drop, length-take, w64, SFits, to_z, of_z}
-use Rattle.std.proofs.lemmas.List.{drop_more, get_or-take, get_or-drop, get_or-append-add}
-use Rattle.std.proofs.lemmas.Int.{ints, to_z-of_z, of_z-to_z}
-use Rattle.std.proofs.lemmas.Bool.{cond-true, cond-false, cond_both, or_parts, ltb-false, leb-false, eqb-true, eqb-false, cases_Bool}
+use Rattle.std.proofs.Common.{◌≡◌, ℕ, zero, suc, ◌+◌, ◌/◌, ◌%◌, ◌<◌, ◌≤◌, false, ◌||◌, ltb, leb, List, [], ◌∷◌, ◌++◌, length, get_or, drop, ℤ, pos, negsuc, nat_abs, None, sym, ap, ◌∙◌, add-zero, arith, length-drop, length-take, w64, SFits, to_z, of_z}
+use Rattle.std.proofs.lemmas.List.{drop_more, get_or-take, get_or-drop}
+use Rattle.std.proofs.lemmas.Int.{to_z-of_z, of_z-to_z}
+use Rattle.std.proofs.lemmas.Bool.{cond-false}
 use Rattle.std.proofs.lemmas.Bool.Decides.{nat_tests}
-use Rattle.sheet.specs.declared.fault.Fault.{Fault}
-use Rattle.sheet.specs.Refusals.{first_of}
 use Rattle.orderfile.specs.declared.record.StatedPair.{StatedPair}
-use Rattle.orderfile.specs.declared.record.Stage.TheVariants.{Start, Sized, Ended}
+use Rattle.orderfile.specs.declared.record.Stage.TheVariants.{Start, Sized}
 use Rattle.orderfile.specs.Format.{SoundPair, sizeField, pairField, endField, eightBytes, tag_of, length_of, extent, value_of, overruns, pairIn}
-use Rattle.orderfile.specs.Faults.{sizeChecks, pairChecks, endChecks, recordFault, fieldFault}
+use Rattle.orderfile.specs.Faults.{fieldFault}
 use Rattle.orderfile.specs.Records.{sizeIn}
 use Rattle.orderfile.proofs.Bytes.{spelled, bytes-spell, spelled-bytes}
 

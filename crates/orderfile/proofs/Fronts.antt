@@ -1,24 +1,21 @@
 -- How a file is read: a front of fields without a fault grows by one field at a time.
 -- Idea: a field without a fault is the bytes of what it states, so the front and the field together are again the bytes of a front.
-use Rattle.std.proofs.Common.{◌≡◌, ℕ, ◌+◌, ◌<◌, ◌≤◌, Bool, true, false, cond, ◌||◌, eqb, ltb, leb, ◌⊎◌, List, [], ◌∷◌, ◌++◌, length, get_or, drop, nat_abs, Some, None, Option, sym, refl, ap, ◌∙◌, subst, inl, inr, ⊎_elim, append_assoc, arith}
+use Rattle.std.proofs.Common.{◌≡◌, ℕ, ◌+◌, ◌≤◌, false, ◌||◌, eqb, ltb, leb, ◌⊎◌, List, [], ◌∷◌, ◌++◌, length, get_or, drop, nat_abs, None, sym, refl, ap, ◌∙◌, subst, inl, inr, ⊎_elim, append_assoc, arith}
 use Rattle.std.proofs.ByRecursion.{All-push}
 use Rattle.std.proofs.lemmas.List.{flat_map_more}
 use Rattle.std.proofs.lemmas.Bool.{eqb-true, not-false, cond-true, cond-false, cases_Bool}
 use Rattle.std.proofs.lemmas.Bool.Decides.{nat_tests}
 use Rattle.std.specs.List.{flat_map}
-use Rattle.sheet.specs.declared.fault.Fault.{Fault}
 use Rattle.sheet.specs.declared.fault.Cause.TheVariants.{Overrun, Tag, FieldLength}
 use Rattle.sheet.specs.Refusals.{fault, first_of, unlike}
 use Rattle.sheet.proofs.Refused.{cleared, required}
 use Rattle.orderfile.specs.declared.record.StatedPair.{StatedPair}
-use Rattle.orderfile.specs.declared.record.Record.TheVariants.{Size, Pair, End}
 use Rattle.orderfile.specs.declared.record.Stage.{Stage}
 use Rattle.orderfile.specs.declared.record.Stage.TheVariants.{Start, Sized, Ended}
-use Rattle.orderfile.specs.Format.{Sound, SoundPair, sizeField, pairField, endField, tag_of, length_of, extent, value_of, overruns, pairIn}
+use Rattle.orderfile.specs.Format.{Sound, SoundPair, sizeField, pairField, endField, tag_of, extent, value_of, overruns, pairIn}
 use Rattle.orderfile.specs.Faults.{sizeChecks, pairChecks, endChecks, recordFault, fieldFault, front, SoundFront}
 use Rattle.orderfile.specs.Records.{sizeIn, recordIn, stageAfter, stageNext, passed}
-use Rattle.orderfile.proofs.Fields.{Bytes, extent-fits, value-length, size-bytes, pair-bytes, end-bytes}
-use Rattle.orderfile.proofs.Handed.{Open}
+use Rattle.orderfile.proofs.Fields.{Bytes, value-length, size-bytes, pair-bytes, end-bytes}
 
 unlike-false : (a b : ℕ) → unlike a b ≡ false → a ≡ b
 unlike-false a b e = eqb-true a b (not-false (eqb a b) e)

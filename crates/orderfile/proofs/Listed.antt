@@ -1,20 +1,17 @@
 -- The pairs that `save` writes are the standing ones, each once.
 -- Idea: they are taken from the places one after another, and a place tells its pair. So a pair of blocks is named at its own place and at no
 -- other, and there exactly if it stands.
-use Rattle.std.proofs.Common.{◌≡◌, ℕ, zero, suc, ◌+◌, ◌-◌, ◌*◌, ◌/◌, ◌%◌, ◌<◌, ◌≤◌, Bool, true, false, cond, not, ◌&&◌, ◌||◌, eqb, leb, ◌⊎◌, List, [], ◌∷◌, ◌++◌, length, get_or, drop, ℤ, pos, negsuc, nat_abs, Some, None, Option, sym, refl, ap, ◌∙◌, subst, inl, inr, ⊎_elim, append_assoc, zero-add, arith}
+use Rattle.std.proofs.Common.{◌≡◌, ℕ, zero, suc, ◌+◌, ◌*◌, ◌/◌, ◌%◌, ◌<◌, ◌≤◌, true, false, cond, ◌&&◌, eqb, leb, List, [], ◌∷◌, length, get_or, drop, ℤ, pos, negsuc, nat_abs, Some, None, sym, refl, ap, ◌∙◌, subst, ⊎_elim, zero-add, arith}
 use Rattle.std.proofs.lemmas.Nat.{div-add-mod', div_below, mod_below, mul-add-lt}
-use Rattle.std.proofs.lemmas.List.{length-append}
-use Rattle.std.proofs.lemmas.Bool.{cases_Bool, cases_eq, cond-true, cond-false, and_parts, and_left, and_right, eqb-true, eq-eqb, ne_eqb, and_from, not-false, not-true}
+use Rattle.std.proofs.lemmas.Bool.{cases_Bool, cases_eq, cond-true, cond-false, and_parts, eqb-true, eq-eqb, and_from}
 use Rattle.std.proofs.lemmas.Bool.Decides.{nat_tests}
-use Rattle.std.specs.Option.{option_map}
-use Rattle.std.specs.List.{flat_map, AllByRecursion as All}
-use Rattle.cost.specs.Columns.{railed, within}
+use Rattle.std.specs.List.{AllByRecursion as All}
+use Rattle.cost.specs.Columns.{railed}
 use Rattle.cost.specs.declared.plain_kind.Plain.{Plain}
-use Rattle.grid.specs.Tables.{place_of, saysStands, saysDisturbed, byte_of, cell, placeOrderly, orderly, standingPairs}
+use Rattle.grid.specs.Tables.{place_of, saysStands, byte_of, standingPairs}
 use Rattle.grid.proofs.Orderly.{orderly-at, orderly-cost, standing-more, standing-all}
 use Rattle.orderfile.specs.declared.record.StatedPair.{StatedPair}
-use Rattle.orderfile.specs.Format.{SoundPair, pairField}
-use Rattle.orderfile.specs.Loading.{plain, or_else, stated}
+use Rattle.orderfile.specs.Loading.{plain}
 use Rattle.orderfile.specs.Saving.{plainOrderly, times, Standing, Names, pair_at, listed}
 use Rattle.orderfile.proofs.Cells.{place-left, place-right}
 

@@ -1,7 +1,7 @@
 -- The invariant of a loop over a file's records, with its start, its step and its two ends.
 -- Idea: what was read is a sound front, what is left follows it, and the place is the front's length. A record without a fault makes the front grow;
 -- a fault is then the file's first one; and where no record is left, the front is the whole file.
-use Rattle.std.proofs.Common.{◌≡◌, ℕ, ◌+◌, ◌<◌, ◌≤◌, Bool, true, false, eqb, List, [], ◌++◌, length, get_or, drop, Some, None, Ok, Option, sym, refl, ap, ◌∙◌, subst, ⊎_elim, append-nil, arith}
+use Rattle.std.proofs.Common.{◌≡◌, ℕ, ◌+◌, ◌<◌, ◌≤◌, eqb, List, [], ◌++◌, length, get_or, drop, Some, None, Ok, Option, sym, refl, ap, ◌∙◌, subst, ⊎_elim, append-nil, arith}
 use Rattle.std.proofs.lemmas.List.{get_or-append-add, length-append, length-drop, nil_from_length}
 use Rattle.std.proofs.lemmas.Bool.{eqb-true}
 use Rattle.sheet.specs.declared.fault.Fault.{Fault}
@@ -16,7 +16,7 @@ use Rattle.orderfile.specs.Format.{Order, States, tag_of, value_of}
 use Rattle.orderfile.specs.Faults.{fieldFault, front, SoundFront, FirstFault}
 use Rattle.orderfile.specs.Records.{recordIn, recordNext, stageAfter, stageNext, passed}
 use Rattle.orderfile.proofs.Fields.{Bytes, extent-fits}
-use Rattle.orderfile.proofs.Fronts.{Grown, grow, size-next, pair-or-end}
+use Rattle.orderfile.proofs.Fronts.{grow, size-next, pair-or-end}
 
 pub record Reading (file : List ℕ) (stage : Stage) (rest : List ℕ) (at : ℕ) : Type 0 where
   pub pairs : List StatedPair

@@ -1,7 +1,7 @@
 -- What saving promises, once it is known whether it refuses and what it wrote; and why a saved file loads as the same sheet.
 -- Idea: the file states an order, so loading shows in each cell what the pairs state. A pair of blocks that stands is named once, at its
 -- cost, and one that is absent is not named, so that is what the cell held.
-use Rattle.std.proofs.Common.{◌≡◌, ℕ, zero, suc, ◌+◌, ◌*◌, ◌<◌, ◌≤◌, Bool, true, false, cond, not, ◌&&◌, eqb, ◌⊎◌, List, [], ◌∷◌, ◌++◌, length, get_or, take, drop, ℤ, pos, Some, None, Ok, Err, Option, Result, sym, refl, ap, ◌∙◌, subst, inl, inr, ⊎_elim, append_assoc, arith}
+use Rattle.std.proofs.Common.{◌≡◌, ℕ, ◌+◌, ◌*◌, ◌<◌, ◌≤◌, Bool, true, false, cond, not, ◌&&◌, eqb, ◌⊎◌, List, [], ◌∷◌, ◌++◌, length, take, drop, ℤ, pos, Some, None, Ok, Err, Result, sym, refl, ap, ◌∙◌, inl, inr, ⊎_elim, append_assoc, arith}
 use Rattle.std.proofs.ByRecursion.{All-weaker}
 use Rattle.std.proofs.lemmas.List.{length-append, take_at, drop-drop}
 use Rattle.std.proofs.lemmas.Bool.{cases_Bool, cond-true, cond-false, and_parts, eqb-true, lt-ltb, le-ltb}
@@ -14,7 +14,7 @@ use Rattle.sheet.specs.declared.fault.Fault.{Fault}
 use Rattle.sheet.specs.Refusals.{fault}
 use Rattle.sheet.proofs.Refused.{refused, accepted}
 use Rattle.orderfile.specs.declared.record.StatedPair.{StatedPair}
-use Rattle.orderfile.specs.Format.{Order, Sound, SoundPair, States, pairField, endField, sizeField, fileOf}
+use Rattle.orderfile.specs.Format.{Order, SoundPair, States, pairField, endField, sizeField, fileOf}
 use Rattle.orderfile.specs.Loading.{plain, or_else, stated}
 use Rattle.orderfile.proofs.Buffer.{put-behind}
 use Rattle.orderfile.proofs.Listed.{listed-count}

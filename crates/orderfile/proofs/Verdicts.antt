@@ -1,13 +1,13 @@
 -- A file has one verdict: it states at most one order, has at most one first fault, and not both.
 -- Idea: go along two readings of the same bytes side by side. A sound field has no fault, so neither reading can stop where the other goes on,
 -- and the bytes of a sound pair tell which pair it is.
-use Rattle.std.proofs.Common.{◌≡◌, ℕ, ◌≤◌, List, [], ◌∷◌, ◌++◌, length, get_or, drop, Some, None, Ok, Err, Option, Result, sym, refl, ap, ◌∙◌, subst, inl, inr, ⊎_elim, append_assoc, append-nil, arith}
+use Rattle.std.proofs.Common.{◌≡◌, ℕ, ◌≤◌, List, [], ◌∷◌, ◌++◌, length, get_or, drop, Some, None, Ok, Err, Result, sym, refl, ap, ◌∙◌, subst, inl, inr, append_assoc, append-nil, arith}
 use Rattle.std.specs.List.{flat_map, AllByRecursion as All}
 use Rattle.sheet.specs.declared.fault.Fault.{Fault}
 use Rattle.orderfile.specs.declared.record.StatedPair.{StatedPair}
 use Rattle.orderfile.specs.declared.record.Stage.{Stage}
 use Rattle.orderfile.specs.declared.record.Stage.TheVariants.{Start, Sized, Ended}
-use Rattle.orderfile.specs.Format.{Order, Sound, SoundPair, States, sizeField, pairField, endField, value_of, pairIn}
+use Rattle.orderfile.specs.Format.{Order, SoundPair, States, sizeField, pairField, endField, value_of, pairIn}
 use Rattle.orderfile.specs.Faults.{fieldFault, front, SoundFront, FirstFault}
 use Rattle.orderfile.specs.Loading.{Checked}
 use Rattle.orderfile.proofs.Fields.{size-sound, pair-sound, pair-stated, end-sound}

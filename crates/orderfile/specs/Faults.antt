@@ -1,5 +1,5 @@
 -- Why a file is refused: the first field that has a fault, and the first fault that it has.
-use Rattle.std.specs.Prelude.{◌≡◌, ℕ, ◌+◌, Bool, true, false, cond, ◌||◌, List, [], ◌∷◌, ◌++◌, length, Some, None, Option, ◌==◌, nat_le, nat_lt, slice_index, unsigned_abs}
+use Rattle.std.specs.Prelude.{◌≡◌, ℕ, Bool, true, false, cond, ◌||◌, List, [], ◌∷◌, ◌++◌, length, Some, None, Option, ◌==◌, nat_le, nat_lt, slice_index, unsigned_abs}
 use Rattle.std.specs.List.{flat_map}
 use Rattle.sheet.specs.Refusals.{fault, first_of, unlike}
 use Rattle.sheet.specs.declared.fault.Fault.{Fault}
@@ -7,7 +7,7 @@ use Rattle.sheet.specs.declared.fault.Cause.TheVariants.{Size, Block, CostRange,
 use Rattle.orderfile.specs.declared.record.Stage.{Stage}
 use Rattle.orderfile.specs.declared.record.Stage.TheVariants.{Start, Sized, Ended}
 use Rattle.orderfile.specs.declared.record.StatedPair.{StatedPair}
-use Rattle.orderfile.specs.Format.{Order, Sound, sizeField, pairField, endField, fileOf, tag_of, value_of, extent, overruns, pairIn}
+use Rattle.orderfile.specs.Format.{Sound, sizeField, pairField, fileOf, tag_of, value_of, overruns, pairIn}
 
 -- the field that begins `rest`, which stands at the offset `at`, handed out as a part of the file
 pub record Handed (rest : List ℕ) (at : ℕ) (tag : ℕ) (value : List ℕ) (place : ℕ) : Type 0 where

@@ -1,6 +1,6 @@
 -- A file has one verdict, so a text that tells the one that was found tells every one that the promise asks about.
 -- Idea: loading into tables that fit answers a sheet exactly if the file states an order, and its cells are what the order states.
-use Rattle.std.proofs.Common.{◌≡◌, ℕ, ◌*◌, ◌<◌, List, ◌++◌, length, ℤ, IfOk, Some, None, Ok, Err, codes, decimal, Option, Result, sym, refl, ap, ◌∙◌, subst, inl, inr, ⊎_elim, arith}
+use Rattle.std.proofs.Common.{◌≡◌, ℕ, List, ◌++◌, ℤ, IfOk, Some, None, Ok, Err, codes, decimal, Option, Result, refl, ap, ◌∙◌, subst, inl, inr, ⊎_elim, arith}
 use Rattle.std.proofs.lemmas.Result.{IfOk-weaker}
 use Rattle.std.specs.Option.{option_map}
 use Rattle.cost.specs.declared.plain_kind.Plain.{Plain}

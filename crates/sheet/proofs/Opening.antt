@@ -1,6 +1,6 @@
 -- When opening a sheet of a sound size is refused: exactly if a table has the wrong length.
 -- Idea: the check of the size passes, so the check of the lengths decides.
-use Rattle.std.proofs.Common.{◌≡◌, ℕ, ◌*◌, ◌≤◌, true, false, cond, not, ◌||◌, eqb, ltb, Some, None, ap, ◌∙◌, ⊎_elim, arith}
+use Rattle.std.proofs.Common.{◌≡◌, ℕ, ◌*◌, ◌≤◌, false, cond, not, ◌||◌, eqb, ltb, Some, None, ap, ◌∙◌, ⊎_elim, arith}
 use Rattle.std.proofs.lemmas.Bool.{cond-true, cond-false, cases_Bool, not-false}
 use Rattle.std.proofs.lemmas.Bool.Decides.{nat_tests}
 use Rattle.grid.specs.Tables.{fitting}

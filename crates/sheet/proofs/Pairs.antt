@@ -1,6 +1,6 @@
 -- When entering, striking and reading a pair are refused, in terms of the checks that they share.
 -- Idea: the shared checks come first; where they pass, the few that follow decide.
-use Rattle.std.proofs.Common.{◌≡◌, ℕ, ◌*◌, ◌<◌, Bool, true, false, cond, not, [], ◌∷◌, Some, None, Ok, Err, Option, sym, ap, ◌∙◌, ⊎_elim, arith}
+use Rattle.std.proofs.Common.{◌≡◌, ℕ, ◌*◌, ◌<◌, Bool, true, false, cond, not, [], ◌∷◌, Some, None, Ok, Err, sym, ap, ◌∙◌, ⊎_elim, arith}
 use Rattle.std.proofs.lemmas.Bool.{cases_Bool, not-false}
 use Rattle.std.proofs.lemmas.Bool.Decides.{nat_tests}
 use Rattle.sheet.specs.declared.fault.Fault.{Fault}

@@ -1,6 +1,5 @@
 -- The optimum pairing is one over the tight rows, so that `first` accepts it, and what it makes of it is the first optimum pairing.
 use mathlib.Core.Path.{◌≡◌, sym, ◌∙◌}
-use Prim.Native.Nat.{◌≤◌}
 use lib.ListN.{length}
 use native.Mathlib.Omega.{arith}
 use borrow.Author.Rules.{rules}

@@ -1,8 +1,7 @@
 -- The first place that is not in order decides; past it, or where there is none, nothing more can change the answer.
-use Rattle.std.proofs.Common.{◌≡◌, ◌+◌, ◌≤◌, min, Bool, true, false, ◌&&◌, length, get_or, drop, sym, ap, ◌∙◌, arith}
-use Rattle.grid.specs.Tables.{orderly, placeOrderly}
+use Rattle.std.proofs.Common.{◌+◌, ◌&&◌, drop, sym, ap, ◌∙◌, arith}
+use Rattle.grid.specs.Tables.{orderly}
 use Rattle.grid.proofs.Orderly.{orderly-more, orderly-all}
-use Rattle.grid.proofs.in_order.Given as given
 use Rattle.grid.proofs.in_order.Goals as goal
 
 pub returns-then-not-place_in_order : goal.returns-then-not-place_in_order

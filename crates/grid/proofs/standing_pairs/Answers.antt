@@ -1,5 +1,5 @@
 -- One step counts the byte if it stands; at the end nothing is left.
-use Rattle.std.proofs.Common.{◌≡◌, ◌+◌, true, false, cond, drop, sym, ap, ◌∙◌, arith}
+use Rattle.std.proofs.Common.{◌+◌, cond, drop, sym, ap, ◌∙◌, arith}
 use Rattle.grid.specs.Tables.{standingPairs}
 use Rattle.grid.proofs.Orderly.{standing-more, standing-all}
 use Rattle.grid.proofs.standing_pairs.Goals as goal

@@ -1,5 +1,5 @@
 -- A loaded sheet shows what the file states, and a refusal is the file's first fault.
-use Rattle.std.proofs.Common.{◌≡◌, ℕ, ◌*◌, string_bytes, sym, ap, ◌∙◌}
+use Rattle.std.proofs.Common.{◌≡◌, ◌*◌, string_bytes, ap, ◌∙◌}
 use Rattle.std.proofs.lemmas.Result.{IfOk-weaker}
 use Rattle.report.specs.Describing.{Describes}
 use Rattle.report.specs.Text.{sheetText}

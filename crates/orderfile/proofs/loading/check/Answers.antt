@@ -1,13 +1,12 @@
 -- A fault is the first one of the file; where no record is left, the file states what was read.
-use Rattle.std.proofs.Common.{◌≡◌, ℕ, Some, None, Ok, Err, Option, sym, ap, ◌∙◌, subst, arith}
+use Rattle.std.proofs.Common.{◌≡◌, Some, None, Ok, Err, sym, ap, ◌∙◌, subst, arith}
 use Rattle.std.proofs.lemmas.Result.{err_from_is_err_and}
 use Rattle.sheet.specs.Refusals.{answer}
 use Rattle.sheet.proofs.Refused.{from-err, from-ok}
-use Rattle.orderfile.specs.declared.record.Record.{Record}
 use Rattle.orderfile.specs.declared.record.Stage.{Stage}
 use Rattle.orderfile.specs.Faults.{fieldFault}
 use Rattle.orderfile.specs.Records.{recordNext}
-use Rattle.orderfile.proofs.Reading.{Known, reading-fault, reading-done, next-reads, next-stage, known-still, next-falls}
+use Rattle.orderfile.proofs.Reading.{Known, reading-fault, reading-done, next-reads, next-stage, known-still}
 use Rattle.orderfile.proofs.Verdicts.{checked-states, checked-faulty}
 use Rattle.orderfile.proofs.loading.check.Goals as goal
 

@@ -1,12 +1,9 @@
 -- The file states an order, so no record has a fault, and each record's pairs are entered in turn.
-use Rattle.std.proofs.Common.{◌≡◌, ℕ, List, length, Some, None, Ok, Err, sym, ap, ◌∙◌, subst, arith}
-use Rattle.std.specs.List.{AllByRecursion as All}
-use Rattle.sheet.specs.Refusals.{answer}
+use Rattle.std.proofs.Common.{◌≡◌, ℕ, Some, Ok, sym, ap, ◌∙◌, arith}
 use Rattle.sheet.proofs.Refused.{from-err, from-ok, renewed}
-use Rattle.orderfile.specs.Format.{SoundPair}
 use Rattle.orderfile.specs.Faults.{fieldFault}
-use Rattle.orderfile.specs.Records.{recordNext, pairsOf}
-use Rattle.orderfile.proofs.Entering.{split-sound, split_done, next-sound, entering-start, entering-more}
+use Rattle.orderfile.specs.Records.{recordNext}
+use Rattle.orderfile.proofs.Entering.{split-sound, entering-more}
 use Rattle.orderfile.proofs.Reading.{next-falls}
 use Rattle.orderfile.proofs.loading.enter_all.Goals as goal
 

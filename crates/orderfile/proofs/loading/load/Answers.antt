@@ -1,7 +1,6 @@
 -- A fault that `check` finds is the file's first; `open` then refuses tables of the wrong length only; and the pairs go into the blank tables.
-use Rattle.std.proofs.Common.{◌≡◌, ℕ, ◌*◌, List, replicate, pos, Ok, Err, sym, refl, ap, ◌∙◌, subst}
+use Rattle.std.proofs.Common.{◌≡◌, ℕ, ◌*◌, replicate, pos, Ok, Err, sym, refl, ap, ◌∙◌, subst}
 use Rattle.std.proofs.lemmas.Result.{err_from_is_err_and}
-use Rattle.cost.specs.declared.plain_kind.Plain.{Plain}
 use Rattle.sheet.specs.Opening.{sizes}
 use Rattle.orderfile.specs.Loading.{plain, costsAfter, standingAfter, Fitting}
 use Rattle.orderfile.proofs.Ends.{checked-err, checked-ok, loaded-faulty, loaded-misfit, loaded, open-unfit, open-fault, open_kept, opened-size, opened-fits, opened-costs, opened-standing, opened-fitting}

@@ -1,5 +1,5 @@
 -- Each refusal is the first check that holds; past them the file of the listed pairs is written.
-use Rattle.std.proofs.Common.{◌≡◌, ℕ, ◌+◌, ◌*◌, ◌≤◌, Bool, true, false, ◌++◌, length, drop, Ok, Err, sym, refl, ap, ◌∙◌, subst, arith}
+use Rattle.std.proofs.Common.{◌≡◌, ℕ, ◌+◌, ◌*◌, Bool, ◌++◌, length, drop, Ok, Err, sym, refl, ap, ◌∙◌, arith}
 use Rattle.orderfile.specs.Format.{fileOf}
 use Rattle.grid.specs.Tables.{fitting, standingPairs}
 use Rattle.grid.proofs.Lengths.{fits-tells}

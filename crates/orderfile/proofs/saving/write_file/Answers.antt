@@ -1,8 +1,8 @@
 -- The three writes make the file, and the length of its parts is the saved length, so that there is room.
-use Rattle.std.proofs.Common.{◌≡◌, ◌+◌, ◌*◌, ◌++◌, drop, ap, ◌∙◌, arith}
+use Rattle.std.proofs.Common.{◌*◌, ◌++◌, drop, ap, ◌∙◌, arith}
 use Rattle.std.specs.List.{flat_map}
 use Rattle.orderfile.specs.Format.{pairField, fileOf}
-use Rattle.orderfile.specs.Saving.{savedLength, listed}
+use Rattle.orderfile.specs.Saving.{listed}
 use Rattle.orderfile.proofs.Saves.{listed-length, three-writes}
 use Rattle.orderfile.proofs.saving.write_file.Goals as goal
 

@@ -1,13 +1,10 @@
 -- Each standing pair's field goes behind what was written, and there is room for it since it is a part of the whole.
-use Rattle.std.proofs.Common.{◌≡◌, ℕ, ◌+◌, ◌*◌, ◌/◌, ◌%◌, ◌<◌, ◌≤◌, true, false, List, ◌++◌, length, get_or, take, drop, ℤ, pos, sym, ap, ◌∙◌, subst, arith}
-use Rattle.std.proofs.lemmas.Nat.{div_below}
-use Rattle.std.proofs.lemmas.List.{length-append, length-take-le, get_or_default}
+use Rattle.std.proofs.Common.{◌≡◌, ◌+◌, ◌*◌, ◌<◌, ◌++◌, length, take, drop, sym, ap, ◌∙◌, arith}
+use Rattle.std.proofs.lemmas.List.{length-append, length-take-le}
 use Rattle.std.specs.List.{flat_map}
-use Rattle.grid.specs.Tables.{saysStands}
 use Rattle.orderfile.specs.Format.{pairField}
-use Rattle.orderfile.specs.Loading.{plain}
-use Rattle.orderfile.specs.Saving.{pair_at, listed}
-use Rattle.orderfile.proofs.Buffer.{Writing, left-bytes, left-all, writing_start, writing-room, writing-yes, writing-no, writing-done}
+use Rattle.orderfile.specs.Saving.{listed}
+use Rattle.orderfile.proofs.Buffer.{left-all, writing_start, writing-room, writing-yes, writing-no, writing-done}
 use Rattle.orderfile.proofs.saving.write_pairs.Goals as goal
 use Rattle.orderfile.proofs.saving.write_pairs.Goals.{then-stands, else-stands}
 

@@ -1,5 +1,5 @@
 -- Where the first step decides, the rest of the columns does not matter; where it does not, the second step decides.
-use Rattle.std.proofs.Common.{◌≡◌, sym, ◌∙◌, rules}
+use Rattle.std.proofs.Common.{sym, ◌∙◌, rules}
 use Rattle.cost.specs.Append.{lex-append, then_keeps, same_length}
 use Rattle.cost.proofs.two_step_kind.TwoStepCost.compare.Goals as goal
 

@@ -1,5 +1,5 @@
 -- All columns are within a limit where those of both steps are.
-use Rattle.std.proofs.Common.{sym, ◌∙◌, rules}
+use Rattle.std.proofs.Common.{rules}
 use Rattle.cost.specs.Append.{test-append}
 use Rattle.cost.proofs.two_step_kind.TwoStepCost.within.Goals as goal
 

@@ -1,5 +1,5 @@
 -- A field that runs past the file is told by its header or by its length; any other lies within the bytes that are left.
-use Rattle.std.proofs.Common.{◌≡◌, ◌+◌, ◌-◌, true, false, cond, take, drop, sym, refl, ap, ◌∙◌, arith}
+use Rattle.std.proofs.Common.{◌≡◌, ◌+◌, ◌-◌, true, false, take, drop, sym, refl, ap, ◌∙◌, arith}
 use Rattle.std.proofs.lemmas.List.{take_rest}
 use Rattle.std.proofs.lemmas.Bool.{cond-true, cond-false}
 use Rattle.std.proofs.lemmas.Bool.Decides.{nat_tests}

@@ -1,5 +1,5 @@
 -- The faults of a field are those of its tag and value; past them the reader is as far as the field reader.
-use Rattle.std.proofs.Common.{◌≡◌, ◌+◌, drop, Some, Ok, Err, sym, ap, ◌∙◌}
+use Rattle.std.proofs.Common.{◌+◌, drop, Some, Ok, Err, sym, ap, ◌∙◌}
 use Rattle.std.proofs.lemmas.Result.{err_from_is_err_and}
 use Rattle.std.proofs.lemmas.Bool.{cond-false}
 use Rattle.sheet.proofs.Refused.{refused, kept, accepted, renewed, from-err, from-ok}

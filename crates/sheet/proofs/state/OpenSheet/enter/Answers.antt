@@ -1,5 +1,5 @@
 -- Each refusal is the first check that holds; past them the pair's two places are written.
-use Rattle.std.proofs.Common.{◌≡◌, length, set, Err, ap, ◌∙◌}
+use Rattle.std.proofs.Common.{length, set, Err, ap, ◌∙◌}
 use Rattle.cost.specs.Columns.{within}
 use Rattle.std.proofs.lemmas.Result.{err_from_is_err_and}
 use Rattle.sheet.proofs.Refused.{refused, kept, accepted, renewed, from-err, from-ok}

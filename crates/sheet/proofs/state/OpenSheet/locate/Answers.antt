@@ -1,5 +1,5 @@
 -- Past the checks the lengths are n * n, and the place of a pair of existing blocks is below that.
-use Rattle.std.proofs.Common.{◌≡◌, Ok, sym, ap, ◌∙◌, arith}
+use Rattle.std.proofs.Common.{Ok, sym, ap, ◌∙◌, arith}
 use Rattle.std.proofs.lemmas.Nat.{mul-add-lt}
 use Rattle.grid.proofs.Lengths.{fits-tells}
 use Rattle.sheet.proofs.Pairs.{misplaced-not}

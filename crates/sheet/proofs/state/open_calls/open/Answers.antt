@@ -1,5 +1,5 @@
 -- Each refusal is the first check that holds; past them both tables are filled.
-use Rattle.std.proofs.Common.{◌≡◌, ◌*◌, length, replicate, Some, None, Err, sym, ap, ◌∙◌, arith}
+use Rattle.std.proofs.Common.{◌≡◌, ◌*◌, length, replicate, Some, Err, sym, ap, ◌∙◌, arith}
 use Rattle.std.proofs.lemmas.Bool.Decides.{nat_tests}
 use Rattle.grid.proofs.Lengths.{fits-tells, fits_not}
 use Rattle.sheet.specs.declared.fault.Cause.TheVariants.{Size}
