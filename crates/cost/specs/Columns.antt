@@ -2,7 +2,7 @@
 use Rattle.std.specs.Prelude.{ℕ, ◌≤◌, min, Bool, true, cond, ◌&&◌, List, [], ◌∷◌, replicate, ℤ, pos, negsuc, ◌+ℤ◌, ◌-ℤ◌, int_lt, nat_le, unsigned_abs}
 use Rattle.std.specs.declared.cmp.Ordering.TheVariants.{Less, Equal, Greater}
 use Rattle.std.specs.declared.cmp.Ordering.{Ordering}
-use Rattle.std.specs.List.{AllByRecursion as All}
+use Rattle.std.specs.List.{AllByRecursion}
 
 -- the number on the rail, from -10^15 to 10^15, that is nearest to z (negsuc k is -(k + 1))
 abbrev pub railed : ℤ → ℤ
@@ -11,7 +11,7 @@ railed (negsuc k) = negsuc (min k 999999999999999)
 
 -- each column is from -limit to limit
 abbrev pub Within : ℕ → List ℤ → Type 0
-Within limit xs = All (λ x. unsigned_abs x ≤ limit) xs
+Within limit xs = AllByRecursion (λ x. unsigned_abs x ≤ limit) xs
 
 -- the same as a test
 abbrev pub within : ℕ → List ℤ → Bool

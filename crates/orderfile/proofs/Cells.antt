@@ -6,7 +6,7 @@ use Rattle.std.proofs.lemmas.Nat.{mul-add-lt, div-mul-add, mod-mul-add}
 use Rattle.std.proofs.lemmas.List.{length-set, length-replicate, get_or-set_same, get_or-set_other, get_or-replicate}
 use Rattle.std.proofs.lemmas.Bool.{cases_Bool, cond-true, and_parts, eqb-true, eq-eqb, and_from}
 use Rattle.std.specs.Option.{option_map}
-use Rattle.std.specs.List.{AllByRecursion as All}
+use Rattle.std.specs.List.{AllByRecursion}
 use Rattle.cost.specs.declared.plain_kind.Plain.{Plain}
 use Rattle.grid.specs.Tables.{place_of, saysStands, byte_of, cell}
 use Rattle.orderfile.specs.declared.record.StatedPair.{StatedPair}
@@ -68,7 +68,7 @@ or-else-mapped : (a b : Option ℤ) (c : Option Plain) → or_else (option_map p
 or-else-mapped (Some x) b c = refl
 or-else-mapped None b c = refl
 
-pub cells-after : (n : ℕ) (ps : List StatedPair) (costs : List Plain) (standing : List ℕ) → All (SoundPair n) ps → Fitting n costs standing → (l r : ℕ) → r < n
+pub cells-after : (n : ℕ) (ps : List StatedPair) (costs : List Plain) (standing : List ℕ) → AllByRecursion (SoundPair n) ps → Fitting n costs standing → (l r : ℕ) → r < n
     → cell (plain (pos 0)) n (costsAfter n ps costs) (standingAfter n ps standing) l r ≡ or_else (option_map plain (stated ps l r)) (cell (plain (pos 0)) n costs standing l r)
 unfolding after-costs after-standing spot here
 cells-after n [] costs standing s fitting l r hr = refl
@@ -87,7 +87,7 @@ or_else_none : (a : Option Plain) → or_else a None ≡ a
 or_else_none (Some x) = refl
 or_else_none None = refl
 
-pub shows-order : (order : Order) → All (SoundPair order.size) order.pairs
+pub shows-order : (order : Order) → AllByRecursion (SoundPair order.size) order.pairs
     → Shows order (costsAfter order.size order.pairs (replicate (order.size * order.size) (plain (pos 0)))) (standingAfter order.size order.pairs (replicate (order.size * order.size) 0))
 shows-order order s l r hl hr =
     let n = order.size in

@@ -3,7 +3,7 @@
 -- A sound field has no fault and states what was written, so each step takes one pair over from the first list to the second.
 use Rattle.std.proofs.Common.{◌≡◌, ℕ, ◌≤◌, true, ◌&&◌, leb, List, [], ◌∷◌, ◌++◌, drop, set, ℤ, nat_abs, Some, None, sym, refl, ap, ◌∙◌, subst, append_assoc, append-nil, arith}
 use Rattle.std.proofs.lemmas.Bool.Decides.{nat_tests}
-use Rattle.std.specs.List.{flat_map, AllByRecursion as All}
+use Rattle.std.specs.List.{flat_map, AllByRecursion}
 use Rattle.cost.specs.Columns.{railed, within}
 use Rattle.cost.specs.declared.plain_kind.Plain.{Plain}
 use Rattle.cost.proofs.Exact.{railed-same}
@@ -41,7 +41,7 @@ Left (Sized m) rest n todo = (m ≡ n) × (rest ≡ flat_map pairField todo ++ e
 Left (Ended m) rest n todo = (rest ≡ []) × (todo ≡ [])
 
 module _ (n : ℕ) (some : 1 ≤ n) (few : n ≤ 64) where
-  pub left-sound : (stage : Stage) (rest : List ℕ) (at : ℕ) (todo : List StatedPair) → All (SoundPair n) todo → Left stage rest n todo → fieldFault stage rest at ≡ None
+  pub left-sound : (stage : Stage) (rest : List ℕ) (at : ℕ) (todo : List StatedPair) → AllByRecursion (SoundPair n) todo → Left stage rest n todo → fieldFault stage rest at ≡ None
   left-sound Start rest at todo s h = ap (λ t. fieldFault Start t at) h ∙ size-sound n (flat_map pairField todo ++ endField) at some few
   left-sound (Sized m) rest at [] s h = ap (λ t. fieldFault (Sized m) t at) h.1 ∙ end-sound m [] at
   left-sound (Sized m) rest at (p ∷ todo) s h =
@@ -65,7 +65,7 @@ module _ (n : ℕ) (some : 1 ≤ n) (few : n ≤ 64) where
       let is : Pair p ≡ next = let stated = pair-stated p tail s.cost_within in cc in
       (todo, ap (λ t. pairsOf t ++ todo) is, (same, refl))
 
-  pub left-more : (stage : Stage) (rest : List ℕ) (todo : List StatedPair) (next : Record) → All (SoundPair n) todo → Left stage rest n todo → recordNext stage rest ≡ Some next → Taken stage rest todo next
+  pub left-more : (stage : Stage) (rest : List ℕ) (todo : List StatedPair) (next : Record) → AllByRecursion (SoundPair n) todo → Left stage rest n todo → recordNext stage rest ≡ Some next → Taken stage rest todo next
   left-more Start rest todo next s h e =
       subst (λ (t : List ℕ). Taken Start t todo next) (sym h) (taken-size todo next (ap (recordNext Start) (sym h) ∙ e))
   left-more (Sized m) rest [] next s h e = subst (λ (t : List ℕ). Taken (Sized m) t [] next) (sym h.1) (taken-end m next h.0 (ap (recordNext (Sized m)) (sym h.1) ∙ e))
@@ -93,18 +93,18 @@ Entering file n costs₀ standing₀ stage rest costs standing = (order : Order)
 pub entering-start : (file : List ℕ) (n : ℕ) (costs : List Plain) (standing : List ℕ) → Entering file n costs standing Start file costs standing
 entering-start file n costs standing order s e = record { done = []; todo = order.pairs; all = refl; left = s.is_file; costs-are = refl; standing-are = refl }
 
-all-later : {X : Type 0} (P : X → Type 0) (xs ys : List X) → All P (xs ++ ys) → All P ys
+all-later : {X : Type 0} (P : X → Type 0) (xs ys : List X) → AllByRecursion P (xs ++ ys) → AllByRecursion P ys
 all-later P [] ys h = h
 all-later P (x ∷ xs) ys h = all-later P xs ys h.1
 
-all-front : {X : Type 0} (P : X → Type 0) (xs ys : List X) → All P (xs ++ ys) → All P xs
+all-front : {X : Type 0} (P : X → Type 0) (xs ys : List X) → AllByRecursion P (xs ++ ys) → AllByRecursion P xs
 all-front P [] ys h = tt
 all-front P (x ∷ xs) ys h = (h.0, all-front P xs ys h.1)
 
 module _ (order : Order) (sound : Sound order) (costs₀ : List Plain) (standing₀ : List ℕ) (stage : Stage) (rest : List ℕ) (costs : List Plain) (standing : List ℕ)
     (split : Split order costs₀ standing₀ stage rest costs standing) where
-  todo-sound : All (SoundPair order.size) split.todo
-  todo-sound = all-later (SoundPair order.size) split.done split.todo (subst (λ (ps : List StatedPair). All (SoundPair order.size) ps) split.all sound.pairs_sound)
+  todo-sound : AllByRecursion (SoundPair order.size) split.todo
+  todo-sound = all-later (SoundPair order.size) split.done split.todo (subst (λ (ps : List StatedPair). AllByRecursion (SoundPair order.size) ps) split.all sound.pairs_sound)
 
   pub split-sound : (at : ℕ) → fieldFault stage rest at ≡ None
   split-sound at = left-sound order.size sound.some sound.few stage rest at split.todo todo-sound split.left
@@ -113,8 +113,8 @@ module _ (order : Order) (sound : Sound order) (costs₀ : List Plain) (standing
   taken next e = left-more order.size sound.some sound.few stage rest split.todo next todo-sound split.left e
 
   -- the pairs of the next record are sound
-  pub next-sound : (next : Record) → recordNext stage rest ≡ Some next → All (SoundPair order.size) (pairsOf next)
-  next-sound next e = let t = taken next e in all-front (SoundPair order.size) (pairsOf next) t.0 (subst (λ (ps : List StatedPair). All (SoundPair order.size) ps) t.1 todo-sound)
+  pub next-sound : (next : Record) → recordNext stage rest ≡ Some next → AllByRecursion (SoundPair order.size) (pairsOf next)
+  next-sound next e = let t = taken next e in all-front (SoundPair order.size) (pairsOf next) t.0 (subst (λ (ps : List StatedPair). AllByRecursion (SoundPair order.size) ps) t.1 todo-sound)
 
   -- the pairs of the next record are entered
   pub split-more : (next : Record) → recordNext stage rest ≡ Some next

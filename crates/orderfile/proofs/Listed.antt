@@ -5,7 +5,7 @@ use Rattle.std.proofs.Common.{◌≡◌, ℕ, zero, suc, ◌+◌, ◌*◌, ◌/�
 use Rattle.std.proofs.lemmas.Nat.{div-add-mod', div_below, mod_below, mul-add-lt}
 use Rattle.std.proofs.lemmas.Bool.{cases_Bool, cases_eq, cond-true, cond-false, and_parts, eqb-true, eq-eqb, and_from}
 use Rattle.std.proofs.lemmas.Bool.Decides.{nat_tests}
-use Rattle.std.specs.List.{AllByRecursion as All}
+use Rattle.std.specs.List.{AllByRecursion}
 use Rattle.cost.specs.Columns.{railed}
 use Rattle.cost.specs.declared.plain_kind.Plain.{Plain}
 use Rattle.grid.specs.Tables.{place_of, saysStands, byte_of, standingPairs}
@@ -96,12 +96,12 @@ module _ (n : ℕ) (some : 1 ≤ n) (costs : List Plain) (standing : List ℕ) (
         stands = ap (λ j. cond (saysStands (get_or standing j 0)) (Some (get_or costs j (plain (pos 0)))) None) placed ∙ cond-true _ _ _ stands;
       }
 
-  only-standing : (k m : ℕ) → k + m ≤ n * n → All (Standing n costs standing) (listed n costs standing k m)
+  only-standing : (k m : ℕ) → k + m ≤ n * n → AllByRecursion (Standing n costs standing) (listed n costs standing k m)
   only-standing k zero h = tt
   only-standing k (suc m) h =
       ⊎_elim
-      (λ yes'. subst (λ (ps : List StatedPair). All (Standing n costs standing) ps) (sym (listed-yes n some costs standing k m yes')) (standing-at k (omega arith) yes', only-standing (k + 1) m (omega arith)))
-      (λ no'. subst (λ (ps : List StatedPair). All (Standing n costs standing) ps) (sym (listed-no n some costs standing k m no')) (only-standing (k + 1) m (omega arith)))
+      (λ yes'. subst (λ (ps : List StatedPair). AllByRecursion (Standing n costs standing) ps) (sym (listed-yes n some costs standing k m yes')) (standing-at k (omega arith) yes', only-standing (k + 1) m (omega arith)))
+      (λ no'. subst (λ (ps : List StatedPair). AllByRecursion (Standing n costs standing) ps) (sym (listed-no n some costs standing k m no')) (only-standing (k + 1) m (omega arith)))
       (cases_Bool (saysStands (get_or standing k 0)))
 
   pub names-all : Names n costs standing (listed n costs standing 0 (n * n))

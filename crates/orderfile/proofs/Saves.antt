@@ -6,7 +6,7 @@ use Rattle.std.proofs.ByRecursion.{All-weaker}
 use Rattle.std.proofs.lemmas.List.{length-append, take_at, drop-drop}
 use Rattle.std.proofs.lemmas.Bool.{cases_Bool, cond-true, cond-false, and_parts, eqb-true, lt-ltb, le-ltb}
 use Rattle.std.specs.Option.{option_map}
-use Rattle.std.specs.List.{flat_map, AllByRecursion as All}
+use Rattle.std.specs.List.{flat_map, AllByRecursion}
 use Rattle.cost.specs.declared.plain_kind.Plain.{Plain}
 use Rattle.grid.specs.Tables.{fitting, saysStands, byte_of, cell, standingPairs}
 use Rattle.sheet.specs.declared.fault.Cause.TheVariants.{TableLength, Inconsistent, ShortBuffer}
@@ -21,7 +21,7 @@ use Rattle.orderfile.proofs.Listed.{listed-count}
 use Rattle.orderfile.specs.Saving.{savedLength, plainOrderly, saveRefusal, listed, times, Standing, Names, Written, Reloads, Saved}
 
 -- what pairs that stand state of l and r: nothing where they name it never, else what the cell holds
-stated-is : (n : ℕ) (costs : List Plain) (standing : List ℕ) (l r : ℕ) (ps : List StatedPair) → All (Standing n costs standing) ps
+stated-is : (n : ℕ) (costs : List Plain) (standing : List ℕ) (l r : ℕ) (ps : List StatedPair) → AllByRecursion (Standing n costs standing) ps
     → ((stated ps l r ≡ None) × (times l r ps ≡ 0)) ⊎ ((z : ℤ) × (stated ps l r ≡ Some z) × (cell (plain (pos 0)) n costs standing l r ≡ Some (plain z)))
 stated-is n costs standing l r [] s = inl (refl, refl)
 stated-is n costs standing l r (p ∷ ps) s =

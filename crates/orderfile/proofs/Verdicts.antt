@@ -2,7 +2,7 @@
 -- Idea: go along two readings of the same bytes side by side. A sound field has no fault, so neither reading can stop where the other goes on,
 -- and the bytes of a sound pair tell which pair it is.
 use Rattle.std.proofs.Common.{◌≡◌, ℕ, ◌≤◌, List, [], ◌∷◌, ◌++◌, length, get_or, drop, Some, None, Ok, Err, Result, sym, refl, ap, ◌∙◌, subst, inl, inr, append_assoc, append-nil, arith}
-use Rattle.std.specs.List.{flat_map, AllByRecursion as All}
+use Rattle.std.specs.List.{flat_map, AllByRecursion}
 use Rattle.sheet.specs.declared.fault.Fault.{Fault}
 use Rattle.orderfile.specs.declared.record.StatedPair.{StatedPair}
 use Rattle.orderfile.specs.declared.record.Stage.{Stage}
@@ -38,7 +38,7 @@ end-not-pair : (n : ℕ) (rest : List ℕ) → NotPair n (endField ++ rest)
 unfolding NotPair
 end-not-pair n rest p more s e = let tags : ◌≡◌ {A = ℕ} 3 2 = ap (λ t. get_or t 0 0) e in omega arith
 
-same-pairs : (n : ℕ) (ps qs : List StatedPair) (r s : List ℕ) → All (SoundPair n) ps → All (SoundPair n) qs → NotPair n r → NotPair n s
+same-pairs : (n : ℕ) (ps qs : List StatedPair) (r s : List ℕ) → AllByRecursion (SoundPair n) ps → AllByRecursion (SoundPair n) qs → NotPair n r → NotPair n s
     → flat_map pairField ps ++ r ≡ flat_map pairField qs ++ s → (ps ≡ qs) × (r ≡ s)
 unfolding NotPair
 same-pairs n [] [] r s hp hq stop-r stop-s e = (refl, e)
@@ -67,22 +67,22 @@ one-reading (Ended n) Start ps qs r s hp hq stop-r stop-s e = absurd (stop-s n (
 one-reading (Sized n) (Sized m) ps qs r s hp hq stop-r stop-s e =
     let size = size-first n m _ _ e in
     let stop : NotPair n s = subst (λ (k : ℕ). NotPair k s) (sym size.0) stop-s.0 in
-    let sound : All (SoundPair n) qs = subst (λ (k : ℕ). All (SoundPair k) qs) (sym size.0) hq.pairs_sound in
+    let sound : AllByRecursion (SoundPair n) qs = subst (λ (k : ℕ). AllByRecursion (SoundPair k) qs) (sym size.0) hq.pairs_sound in
     let same = same-pairs n ps qs r s hp.pairs_sound sound stop-r.0 stop size.1 in
     (ap Sized size.0, same.0, same.1)
 one-reading (Sized n) (Ended m) ps qs r s hp hq stop-r stop-s e =
     let size = size-first n m _ _ e in
-    let sound : All (SoundPair n) qs = subst (λ (k : ℕ). All (SoundPair k) qs) (sym size.0) hq.pairs_sound in
+    let sound : AllByRecursion (SoundPair n) qs = subst (λ (k : ℕ). AllByRecursion (SoundPair k) qs) (sym size.0) hq.pairs_sound in
     let same = same-pairs n ps qs r (endField ++ s) hp.pairs_sound sound stop-r.0 (end-not-pair n s) (size.1 ∙ append_assoc (flat_map pairField qs) endField s) in
     absurd (stop-r.1 s same.1)
 one-reading (Ended n) (Sized m) ps qs r s hp hq stop-r stop-s e =
     let size = size-first n m _ _ e in
-    let sound : All (SoundPair m) ps = subst (λ (k : ℕ). All (SoundPair k) ps) size.0 hp.pairs_sound in
+    let sound : AllByRecursion (SoundPair m) ps = subst (λ (k : ℕ). AllByRecursion (SoundPair k) ps) size.0 hp.pairs_sound in
     let same = same-pairs m ps qs (endField ++ r) s sound hq.pairs_sound (end-not-pair m r) stop-s.0 (sym (append_assoc (flat_map pairField ps) endField r) ∙ size.1) in
     absurd (stop-s.1 r (sym same.1))
 one-reading (Ended n) (Ended m) ps qs r s hp hq stop-r stop-s e =
     let size = size-first n m _ _ e in
-    let sound : All (SoundPair n) qs = subst (λ (k : ℕ). All (SoundPair k) qs) (sym size.0) hq.pairs_sound in
+    let sound : AllByRecursion (SoundPair n) qs = subst (λ (k : ℕ). AllByRecursion (SoundPair k) qs) (sym size.0) hq.pairs_sound in
     let same = same-pairs n ps qs (endField ++ r) (endField ++ s) hp.pairs_sound sound (end-not-pair n r) (end-not-pair n s)
     (sym (append_assoc (flat_map pairField ps) endField r) ∙ size.1 ∙ append_assoc (flat_map pairField qs) endField s) in
     (ap Ended size.0, same.0, ap (drop 3) same.1)

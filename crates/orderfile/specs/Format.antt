@@ -2,7 +2,7 @@
 use Rattle.std.specs.Prelude.{◌≡◌, ℕ, ◌+◌, ◌*◌, ◌/◌, ◌%◌, ◌<◌, ◌≤◌, Bool, ◌||◌, List, [], ◌∷◌, ◌++◌, length, take, drop, nat_lt, slice_index, unsigned_abs}
 use Rattle.std.specs.Int.{w64}
 use Rattle.std.proofs.Common.{of_z, to_z}
-use Rattle.std.specs.List.{flat_map, AllByRecursion as All}
+use Rattle.std.specs.List.{flat_map, AllByRecursion}
 use Rattle.orderfile.specs.declared.record.StatedPair.{StatedPair}
 
 -- a number below 2^64 as eight bytes, the high byte first
@@ -40,7 +40,7 @@ pub record SoundPair (n : ℕ) (p : StatedPair) : Type 0 where
 pub record Sound (order : Order) : Type 0 where
   pub some : 1 ≤ order.size
   pub few : order.size ≤ 64
-  pub pairs_sound : All (SoundPair order.size) order.pairs
+  pub pairs_sound : AllByRecursion (SoundPair order.size) order.pairs
 
 -- a file states an order if it is the order's file, and a sheet takes all of it
 pub record States (file : List ℕ) (order : Order) : Type 0 where

@@ -1,6 +1,6 @@
 -- What `save` answers, and what it leaves in the buffer, at every input.
 use Rattle.std.specs.Prelude.{◌≡◌, ℕ, zero, suc, ◌+◌, ◌*◌, ◌/◌, ◌%◌, ◌<◌, Bool, cond, not, ◌&&◌, List, [], ◌∷◌, ◌++◌, length, take, drop, pos, Some, None, Ok, Option, Result, ◌==◌, nat_lt, slice_index, slice_index_or}
-use Rattle.std.specs.List.{AllByRecursion as All}
+use Rattle.std.specs.List.{AllByRecursion}
 use Rattle.cost.specs.Columns.{railed}
 use Rattle.cost.specs.declared.plain_kind.Plain.{Plain}
 use Rattle.grid.specs.Tables.{fitting, saysStands, byte_of, cell, orderly, standingPairs}
@@ -41,7 +41,7 @@ pub record Standing (n : ℕ) (costs : List Plain) (standing : List ℕ) (p : St
 -- the pairs are the standing ones, each named once and with its cost; their order is free
 pub record Names (n : ℕ) (costs : List Plain) (standing : List ℕ) (pairs : List StatedPair) : Type 0 where
   pub once : (l r : ℕ) → l < n → r < n → times l r pairs ≡ cond (saysStands (byte_of n standing l r)) 1 0
-  pub only : All (Standing n costs standing) pairs
+  pub only : AllByRecursion (Standing n costs standing) pairs
 
 -- the buffer begins with the file of such pairs, and is as it was behind it
 pub record Written (n : ℕ) (costs : List Plain) (standing out out' : List ℕ) : Type 0 where

@@ -1,7 +1,7 @@
 //! Loading: an order file is read whole, and then entered into the caller's tables.
 
 ghost use Rattle.std.specs.Prelude.{◌≡◌, Ok as Done};
-ghost use Rattle.std.specs.List.{AllByRecursion as All};
+ghost use Rattle.std.specs.List.{AllByRecursion};
 ghost use Rattle.orderfile.specs.Format.{Order, States, SoundPair};
 ghost use Rattle.orderfile.specs.Records.{pairsOf};
 ghost use Rattle.orderfile.specs.Loading.{Checked, Fitting, costsAfter, standingAfter, Loaded};
@@ -67,7 +67,7 @@ fn enter(
     stated: Record,
 ) -> Result<(), Fault>
     requires fitting { Fitting sheet.now.n costs.old standing.old }
-    requires sound { All (SoundPair sheet.now.n) (pairsOf stated) }
+    requires sound { AllByRecursion (SoundPair sheet.now.n) (pairsOf stated) }
     ensures answers { result ≡ Done tt }
     ensures stores { costs.new ≡ costsAfter sheet.now.n (pairsOf stated) costs.old }
     ensures raises { standing.new ≡ standingAfter sheet.now.n (pairsOf stated) standing.old }

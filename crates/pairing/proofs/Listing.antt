@@ -4,7 +4,7 @@
 -- second filter keeps something where the first one does. An ascending list begins with its least member, so it is known by its members.
 use Rattle.std.proofs.Common.{◌≡◌, ℕ, zero, suc, ◌+◌, ◌<◌, ◌≤◌, Bool, true, false, cond, not, ◌&&◌, eqb, ltb, ◌⊎◌, ◌↔◌, List, [], ◌∷◌, ◌++◌, map, length, get_or, ℤ, ◌≤ℤ◌, Decides, filter, Ordering, Less, Equal, Greater, sym, refl, ap, ◌∙◌, subst, ap₂, inl, inr, arith}
 use lib.Signed.{le_z}
-use Rattle.std.specs.List.{range_with_len, flat_map as joined, AllByRecursion as All}
+use Rattle.std.specs.List.{range_with_len, flat_map, AllByRecursion}
 use Rattle.std.specs.Ordering.{is_le}
 use Rattle.std.proofs.lemmas.Int.{ints}
 use Rattle.std.proofs.ByRecursion.{all_kept_by, All-weaker, All-append, All-get_or, Decides-by_and}
@@ -48,15 +48,15 @@ pub map-in : {X Y : Type 0} (f : X → Y) (x : X) (xs : List X) → In x xs → 
 map-in f x [] h = absurd h
 map-in f x (z ∷ xs) h = elim h [ inl e ↦ inl (ap f e) | inr k ↦ inr (map-in f x xs k) ]
 
-pub in-joined : {X Y : Type 0} (f : X → List Y) (y : Y) (xs : List X) → In y (joined f xs) → (x : X) × In x xs × In y (f x)
+pub in-joined : {X Y : Type 0} (f : X → List Y) (y : Y) (xs : List X) → In y (flat_map f xs) → (x : X) × In x xs × In y (f x)
 in-joined f y [] h = absurd h
 in-joined f y (x ∷ xs) h =
-    elim ((in-append y (f x) (joined f xs)).0 h) [ inl a ↦ (x, inl refl, a) | inr b ↦ let w = in-joined f y xs b in (w.0, inr w.1, w.2) ]
+    elim ((in-append y (f x) (flat_map f xs)).0 h) [ inl a ↦ (x, inl refl, a) | inr b ↦ let w = in-joined f y xs b in (w.0, inr w.1, w.2) ]
 
-pub joined_in : {X Y : Type 0} (f : X → List Y) (y : Y) (x : X) (xs : List X) → In x xs → In y (f x) → In y (joined f xs)
+pub joined_in : {X Y : Type 0} (f : X → List Y) (y : Y) (x : X) (xs : List X) → In x xs → In y (f x) → In y (flat_map f xs)
 joined_in f y x [] h k = absurd h
 joined_in f y x (z ∷ xs) h k =
-    (in-append y (f z) (joined f xs)).1 (elim h [ inl e ↦ inl (subst (λ w. In y (f w)) e k) | inr g ↦ inr (joined_in f y x xs g k) ])
+    (in-append y (f z) (flat_map f xs)).1 (elim h [ inl e ↦ inl (subst (λ w. In y (f w)) e k) | inr g ↦ inr (joined_in f y x xs g k) ])
 
 pub in-counting : (x a n : ℕ) → In x (range_with_len a n) → (a ≤ x) × (x < a + n)
 in-counting x a zero h = absurd h
@@ -66,11 +66,11 @@ pub counting-in : (x a n : ℕ) → a ≤ x → x < a + n → In x (range_with_l
 counting-in x a zero h k = absurd (omega arith)
 counting-in x a (suc n) h k = elim (cases_eq x a) [ inl e ↦ inl e | inr d ↦ inr (counting-in x (a + 1) n (omega arith) (omega arith)) ]
 
-pub all_in : (P : List ℕ → Type 0) (qs : List (List ℕ)) (q : List ℕ) → All P qs → In q qs → P q
+pub all_in : (P : List ℕ → Type 0) (qs : List (List ℕ)) (q : List ℕ) → AllByRecursion P qs → In q qs → P q
 all_in P [] q a h = absurd h
 all_in P (x ∷ qs) q a h = elim h [ inl e ↦ subst P (sym e) a.0 | inr k ↦ all_in P qs q a.1 k ]
 
-in_all : (P : List ℕ → Type 0) (qs : List (List ℕ)) → ((q : List ℕ) → In q qs → P q) → All P qs
+in_all : (P : List ℕ → Type 0) (qs : List (List ℕ)) → ((q : List ℕ) → In q qs → P q) → AllByRecursion P qs
 in_all P [] h = tt
 in_all P (x ∷ qs) h = (h x (inl refl), in_all P qs (λ q k. h q (inr k)))
 
@@ -135,7 +135,7 @@ module _ (g : Grid) where
   all-perfect : List (List ℕ)
   all-perfect = perfects g.size g.stands
 
-  least-tells : (xs : List ℤ) (qs : List (List ℕ)) → Decides (least-of g xs qs) (All (λ q. Upto xs (total g q)) qs)
+  least-tells : (xs : List ℤ) (qs : List (List ℕ)) → Decides (least-of g xs qs) (AllByRecursion (λ q. Upto xs (total g q)) qs)
   least-tells xs qs = Decides-by_and (λ q. upto xs (total g q)) (λ q. Upto xs (total g q)) (least-of g xs) (λ q. upto-tells xs (total g q)) refl (λ _ _. refl) qs
 
   pub in-optima : (p : List ℕ) → In p (optima g) ↔ Optimum g p
@@ -153,7 +153,7 @@ module _ (g : Grid) where
   )
 
 -- ---- the order
-all-map-in : (P : List ℕ → Type 0) (r : ℕ) (ps : List (List ℕ)) → All (λ p. P (r ∷ p)) ps → All P (map (λ t. r ∷ t) ps)
+all-map-in : (P : List ℕ → Type 0) (r : ℕ) (ps : List (List ℕ)) → AllByRecursion (λ p. P (r ∷ p)) ps → AllByRecursion P (map (λ t. r ∷ t) ps)
 all-map-in P r [] h = tt
 all-map-in P r (p ∷ ps) h = (h.0, all-map-in P r ps h.1)
 
@@ -162,7 +162,7 @@ ascending-map r [] h = tt
 ascending-map r (p ∷ ps) h =
     (all-map-in (Before (r ∷ p)) r ps (All-weaker (Before p) (λ q. Before (r ∷ p) (r ∷ q)) (λ q b. inr (refl, b)) ps h.0), ascending-map r ps h.1)
 
-ascending-append : (ps qs : List (List ℕ)) → Ascending ps → Ascending qs → All (λ p. All (Before p) qs) ps → Ascending (ps ++ qs)
+ascending-append : (ps qs : List (List ℕ)) → Ascending ps → Ascending qs → AllByRecursion (λ p. AllByRecursion (Before p) qs) ps → Ascending (ps ++ qs)
 ascending-append [] qs h k c = k
 ascending-append (p ∷ ps) qs h k c = (All-append (Before p) ps qs h.0 c.0, ascending-append ps qs h.1 k c.1)
 
@@ -172,11 +172,11 @@ ascending-kept t (p ∷ ps) h =
     cond_both (t p) (p ∷ filter t ps) (filter t ps) Ascending (λ _. (all_kept_by t (Before p) ps h.0, ascending-kept t ps h.1)) (λ _. ascending-kept t ps h.1)
 
 -- the lists that begin with r, for r from a to a + m - 1, each over tails of its own
-pub ascending-heads : (tails : ℕ → List (List ℕ)) → ((r : ℕ) → Ascending (tails r)) → (m a : ℕ) → Ascending (joined (λ r. map (λ t. r ∷ t) (tails r)) (range_with_len a m))
+pub ascending-heads : (tails : ℕ → List (List ℕ)) → ((r : ℕ) → Ascending (tails r)) → (m a : ℕ) → Ascending (flat_map (λ r. map (λ t. r ∷ t) (tails r)) (range_with_len a m))
 ascending-heads tails h zero a = tt
 ascending-heads tails h (suc m) a =
-    ascending-append (map (λ t. a ∷ t) (tails a)) (joined (λ r. map (λ t. r ∷ t) (tails r)) (range_with_len (a + 1) m)) (ascending-map a (tails a) (h a)) (ascending-heads tails h m (a + 1))
-    (all-map-in (λ p. All (Before p) (joined (λ r. map (λ t. r ∷ t) (tails r)) (range_with_len (a + 1) m))) a (tails a) (in_all _ (tails a) (λ p _. in_all (Before (a ∷ p)) _ (λ q k.
+    ascending-append (map (λ t. a ∷ t) (tails a)) (flat_map (λ r. map (λ t. r ∷ t) (tails r)) (range_with_len (a + 1) m)) (ascending-map a (tails a) (h a)) (ascending-heads tails h m (a + 1))
+    (all-map-in (λ p. AllByRecursion (Before p) (flat_map (λ r. map (λ t. r ∷ t) (tails r)) (range_with_len (a + 1) m))) a (tails a) (in_all _ (tails a) (λ p _. in_all (Before (a ∷ p)) _ (λ q k.
     let w = in-joined (λ r. map (λ t. r ∷ t) (tails r)) q (range_with_len (a + 1) m) k in
     let v = in_map (λ t. w.0 ∷ t) q (tails w.0) w.2 in
     subst (Before (a ∷ p)) (sym v.2) (inl (omega (arith, in-counting w.0 (a + 1) m w.1)))))))
@@ -220,11 +220,11 @@ ascending-distinct ps h i j a b e =
     ]
 
 -- the first elements of two ascending lists with the same members
-first-same : (x y : List ℕ) (xs ys : List (List ℕ)) → All (Before x) xs → All (Before y) ys → In x (y ∷ ys) → In y (x ∷ xs) → x ≡ y
+first-same : (x y : List ℕ) (xs ys : List (List ℕ)) → AllByRecursion (Before x) xs → AllByRecursion (Before y) ys → In x (y ∷ ys) → In y (x ∷ xs) → x ≡ y
 first-same x y xs ys a b i j =
     elim i [ inl e ↦ e | inr h ↦ elim j [ inl e ↦ sym e | inr k ↦ absurd (before-asym x y (all_in (Before x) xs y a k) (all_in (Before y) ys x b h)) ] ]
 
-rest_in : (x y : List ℕ) (xs ys : List (List ℕ)) → x ≡ y → All (Before x) xs → ((p : List ℕ) → In p (x ∷ xs) → In p (y ∷ ys)) → (p : List ℕ) → In p xs → In p ys
+rest_in : (x y : List ℕ) (xs ys : List (List ℕ)) → x ≡ y → AllByRecursion (Before x) xs → ((p : List ℕ) → In p (x ∷ xs) → In p (y ∷ ys)) → (p : List ℕ) → In p xs → In p ys
 rest_in x y xs ys e a f p h = elim (f p (inr h)) [ inl s ↦ absurd (before-irrefl x (subst (Before x) (s ∙ sym e) (all_in (Before x) xs p a h))) | inr k ↦ k ]
 
 -- a list is known by its members, if it ascends
@@ -239,7 +239,7 @@ ascending-same (x ∷ xs) (y ∷ ys) h k f =
 -- ---- where a perfect pairing is, an optimum one is
 
 -- one of the pairings has the least total
-least : (g : Grid) (q : List ℕ) (qs : List (List ℕ)) → (p : List ℕ) × In p (q ∷ qs) × All (λ x. weight (total g p) ≤ℤ weight (total g x)) (q ∷ qs)
+least : (g : Grid) (q : List ℕ) (qs : List (List ℕ)) → (p : List ℕ) × In p (q ∷ qs) × AllByRecursion (λ x. weight (total g p) ≤ℤ weight (total g x)) (q ∷ qs)
 least g q [] = (q, inl refl, (omega (arith, ints), tt))
 least g q (x ∷ qs) =
     let w = least g x qs in

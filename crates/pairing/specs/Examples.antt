@@ -1,6 +1,6 @@
 -- The worked examples: small grids, and the statement that the numbers of `Worked` are right for them.
 use Rattle.std.specs.Prelude.{◌≡◌, ℕ, ◌-◌, ◌<◌, Bool, true, false, cond, not, ◌&&◌, ◌||◌, List, [], ◌∷◌, length, get_or, ℤ, pos, negsuc, Decides, ◌==◌, slice_index_or}
-use Rattle.std.specs.List.{AllByRecursion as All}
+use Rattle.std.specs.List.{AllByRecursion}
 use Rattle.pairing.specs.Grid.{Grid, at, total}
 use Rattle.pairing.specs.Prices.{Greatest, Tight-pair}
 use Rattle.pairing.specs.Optima.{optima, Marked}
@@ -83,8 +83,8 @@ among (p ∷ ps) l r = (at p 0 == l && at p 1 == r) || among ps l r
 -- these are the optimum pairings; each costs the total, and the prices are the greatest for each
 pub record Priced (g : Grid) (pairings : List (List ℕ)) (sum : ℤ) (left right : List ℤ) : Type 0 where
   pub all : optima g ≡ pairings
-  pub totals : All (λ p. total g p ≡ sum ∷ []) pairings
-  pub greatest : All (Greatest g (prices left) (prices right)) pairings
+  pub totals : AllByRecursion (λ p. total g p ≡ sum ∷ []) pairings
+  pub greatest : AllByRecursion (Greatest g (prices left) (prices right)) pairings
 
 pub record Examples (w : Worked) : Type 0 where
   pub s : Priced S w.s_optima w.s_total w.s_left w.s_right
@@ -92,7 +92,7 @@ pub record Examples (w : Worked) : Type 0 where
   pub s_marked : (l r : ℕ) → l < 3 → r < 3 → S.stands l r ≡ true → Decides (not (among w.s_unmarked l r)) (Marked S l r)
   pub free_kind : optima S-free ≡ w.free_optima
   pub two_steps : optima Two-step ≡ w.two_step_optima
-  pub two_step_total : All (λ p. total Two-step p ≡ w.two_step_total) w.two_step_optima
+  pub two_step_total : AllByRecursion (λ p. total Two-step p ≡ w.two_step_total) w.two_step_optima
   pub crowded : Unpaired Crowded.size Crowded.stands w.crowded_set w.crowded_short
   pub bare : Unpaired Bare.size Bare.stands w.bare_set w.bare_short
   pub corner : Priced Corner w.corner_optima (pos 0) w.corner_left w.corner_right

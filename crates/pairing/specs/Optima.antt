@@ -1,6 +1,6 @@
 -- The list of all optimum pairings in dictionary order, by a definition that computes, and the pairs that they have.
 use Rattle.std.specs.Prelude.{◌≡◌, ℕ, zero, suc, ◌<◌, Bool, true, false, not, ◌&&◌, ◌||◌, ◌⊎◌, List, [], ◌∷◌, map, length, ℤ, filter, ◌==◌, nat_lt, slice_index_or}
-use Rattle.std.specs.List.{range_with_len, flat_map, AllByRecursion as All}
+use Rattle.std.specs.List.{range_with_len, flat_map, AllByRecursion}
 use Rattle.std.specs.Ordering.{is_le}
 use Rattle.cost.specs.Columns.{lex}
 use Rattle.pairing.specs.Grid.{Grid, at, total, Optimum}
@@ -17,7 +17,7 @@ Before (x ∷ xs) (y ∷ ys) = (x < y) ⊎ ((x ≡ y) × Before xs ys)
 -- each list comes before all later ones
 abbrev pub Ascending : List (List ℕ) → Type 0
 Ascending [] = Unit {0}
-Ascending (p ∷ ps) = All (Before p) ps × Ascending ps
+Ascending (p ∷ ps) = AllByRecursion (Before p) ps × Ascending ps
 
 -- x is in the list
 abbrev pub In : {X : Type 0} → X → List X → Type 0

@@ -1,7 +1,7 @@
 -- A sound pair passes every check of entering.
 use Rattle.std.proofs.Common.{◌≡◌, [], ◌∷◌, length, set, sym, ap, ◌∙◌, subst, w64, to_z, of_z}
 use Rattle.std.proofs.lemmas.Int.{to_z-of_z}
-use Rattle.std.specs.List.{AllByRecursion as All}
+use Rattle.std.specs.List.{AllByRecursion}
 use Rattle.cost.specs.Columns.{railed, within}
 use Rattle.grid.specs.Tables.{place_of}
 use Rattle.sheet.proofs.Pairs.{enter-accepts}
@@ -18,7 +18,7 @@ pub returns : goal.returns
 returns c =
     let n = c.args.sheet.now.n in
     let p = c.in-Pair.pair in
-    let sound = (subst (λ (t : Record). All (SoundPair n) (pairsOf t)) c.in-Pair.is c.requires.sound).0 in
+    let sound = (subst (λ (t : Record). AllByRecursion (SoundPair n) (pairsOf t)) c.in-Pair.is c.requires.sound).0 in
     let same : to_z w64 (of_z w64 p.cost) ≡ p.cost = to_z-of_z w64 p.cost (fits p.cost sound.cost_within) in
     let e = enter-accepts n (length c.args.costs.now) (length c.args.standing.now) p.left p.right (within 1000000000 (railed (to_z w64 (of_z w64 p.cost)) ∷ []))
     c.requires.fitting.0 c.requires.fitting.1 sound.left_below sound.right_below (ap (λ x. within 1000000000 (railed x ∷ [])) same ∙ plain_fits p.cost sound.cost_within) in
