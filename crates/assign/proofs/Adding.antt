@@ -7,11 +7,11 @@ use Rattle.std.proofs.Common.{◌≡◌, ℕ, ◌<◌, ◌≤◌, Bool, true, fa
 use Rattle.std.proofs.lemmas.Int.{ints}
 use Rattle.std.proofs.lemmas.Bool.{cases_eq, cases_lt, cases_Bool, leb-true, le-leb, eqb-true, eq-eqb, ne_eqb, or_cases, and_parts, and_from, both_ways, not-true, not_from_false}
 use Rattle.blockset.specs.Sets.{members}
-use Rattle.blockset.proofs.Members.{members-with, members-like, members-no, inject-le}
+use Rattle.blockset.proofs.Members.{members_with, members_like, members_no, inject_le}
 use Rattle.pairing.specs.Grid.{Perfect}
 use Rattle.pairing.specs.Chains.{Shut}
-use Rattle.pairing.proofs.Crowds.{left-out-le, perfect-partial}
-use Rattle.assign.specs.Search.{Kept, Start, Grown, Way, Now-paired, Flipped, Lowered}
+use Rattle.pairing.proofs.Crowds.{left_out_le, perfect_partial}
+use Rattle.assign.specs.Search.{Kept, Start, Grown, Way, NowPaired, Flipped, Lowered}
 
 -- a search from the left block k, which offers each right block that it stands with their cost
 abbrev pub from_row : (ℕ → ℕ → Bool) → (ℕ → ℕ → ℤ) → ℕ → Start
@@ -35,7 +35,7 @@ module _ (n k : ℕ) (stands : ℕ → ℕ → Bool) (cost : ℕ → ℕ → ℤ
   -- they lead to the root of the search
   pub root_is : (t f r : ℕ) → Grown n stands cost out (from_row stands cost k) p o v d stage via t f → (p' o' : ℕ → ℕ) → Flipped n r f out stage via p o p' o' → r ≡ k
   root_is t f r g p' o' flip =
-      let now : Now-paired r out r = inr refl in
+      let now : NowPaired r out r = inr refl in
       ⊎_elim
       (λ s. absurd (both_ways (out r) s.0 flip.unpaired))
       (λ s. ⊎_elim (λ w. sym s.0 ∙ w.0) (λ w. absurd (both_ways (out r) (subst (λ (z : ℕ). out z ≡ false) s.0 w.1) flip.unpaired)) (g.source (p' r) (flip.below r flip.root now) (omega (arith, s.1))))
@@ -60,8 +60,8 @@ module _ (n k : ℕ) (stands : ℕ → ℕ → Bool) (cost : ℕ → ℕ → ℤ
         (cases_lt (stage c) 2)
 
     -- the old pairs are still as good as any
-    fair-old : (l c : ℕ) → l < n → out l ≡ false → c < n → stands l c ≡ true → (v' c +ℤ cost l (p l)) ≤ℤ (v' (p l) +ℤ cost l c)
-    fair-old l c hl u hc s =
+    fair_old : (l c : ℕ) → l < n → out l ≡ false → c < n → stands l c ≡ true → (v' c +ℤ cost l (p l)) ≤ℤ (v' (p l) +ℤ cost l c)
+    fair_old l c hl u hc s =
         let hp = kept.below l hl u in
         ⊎_elim
         (λ (m : stage (p l) < 2). omega (arith, ints, low.same (p l) hp m, falls c hc, kept.fair l c hl u hc s))
@@ -82,13 +82,13 @@ module _ (n k : ℕ) (stands : ℕ → ℕ → Bool) (cost : ℕ → ℕ → ℤ
         subst (λ (z : ℕ). (stands z r ≡ true) × ((c : ℕ) → c < n → stands z c ≡ true → (v' c +ℤ cost z r) ≤ℤ (v' r +ℤ cost z c))) (sym s.0)
         (s.1, λ c h st. let w = g.offered c h st in omega (arith, ints, s.2, low.fallen r hr m, near c h w.0, w.1)))
         (λ s.
-        (s.3, λ c h st. omega (arith, ints, s.4, low.fallen r hr m, low.fallen (p (via r)) (kept.below (via r) s.0 s.1) s.2, fair-old (via r) c s.0 s.1 h st)))
+        (s.3, λ c h st. omega (arith, ints, s.4, low.fallen r hr m, low.fallen (p (via r)) (kept.below (via r) s.0 s.1) s.2, fair_old (via r) c s.0 s.1 h st)))
         (g.source r hr (omega arith)))
 
-    all : (l : ℕ) → l < n → Now-paired k out l → (stands l (p' l) ≡ true) × ((c : ℕ) → c < n → stands l c ≡ true → (v' c +ℤ cost l (p' l)) ≤ℤ (v' (p' l) +ℤ cost l c))
+    all : (l : ℕ) → l < n → NowPaired k out l → (stands l (p' l) ≡ true) × ((c : ℕ) → c < n → stands l c ≡ true → (v' c +ℤ cost l (p' l)) ≤ℤ (v' (p' l) +ℤ cost l c))
     all l h u =
         ⊎_elim
-        (λ s. subst (λ (z : ℕ). (stands l z ≡ true) × ((c : ℕ) → c < n → stands l c ≡ true → (v' c +ℤ cost l z) ≤ℤ (v' z +ℤ cost l c))) (sym s.1) (kept.standing l h s.0, λ c. fair-old l c h s.0))
+        (λ s. subst (λ (z : ℕ). (stands l z ≡ true) × ((c : ℕ) → c < n → stands l c ≡ true → (v' c +ℤ cost l z) ≤ℤ (v' z +ℤ cost l c))) (sym s.1) (kept.standing l h s.0, λ c. fair_old l c h s.0))
         (λ s. chained l (p' l) h (flip.below l h u) s.1 s.0)
         (flip.came l h u)
 
@@ -101,20 +101,20 @@ module _ (n k : ℕ) (stands : ℕ → ℕ → Bool) (cost : ℕ → ℕ → ℤ
       fair = λ l c h u. (all l h (now l u)).1 c;
     }
       where
-        now : (l : ℕ) → out' l ≡ false → Now-paired k out l
+        now : (l : ℕ) → out' l ≡ false → NowPaired k out l
         now l u = ⊎_elim (λ (e : l ≡ k). inr e)
             (λ (e : l ≡ k → ⊥). ⊎_elim (λ (t : out l ≡ true). absurd (both_ways (out' l) u (is l ∙ and_from (out l) (not (eqb l k)) t (not_from_false (eqb l k) (ne_eqb l k e))))) (λ (t : out l ≡ false). inl t) (cases_Bool (out l)))
             (cases_eq l k)
 
-        paired : (l : ℕ) → Now-paired k out l → out' l ≡ false
+        paired : (l : ℕ) → NowPaired k out l → out' l ≡ false
         paired l u = ⊎_elim (λ (t : out' l ≡ true).
             let w = and_parts (out l) (not (eqb l k)) (sym (is l) ∙ t) in
             ⊎_elim (λ (s : out l ≡ false). absurd (both_ways (out l) s w.0)) (λ (s : l ≡ k). absurd (both_ways (eqb l k) (not-true (eqb l k) w.1) (eq-eqb l k s))) u)
             (λ (t : out' l ≡ false). t) (cases_Bool (out' l))
 
     -- a right block that is free now was free before, and its price is as it was
-    pub free-before : (c : ℕ) → c < n → n ≤ o' c → (n ≤ o c) × (stage c < 2)
-    free-before c h m =
+    pub free_before : (c : ℕ) → c < n → n ≤ o' c → (n ≤ o c) × (stage c < 2)
+    free_before c h m =
         let w = flip.free c h m in
         (omega (arith, w.0), ⊎_elim (λ (z : stage c < 2). z) (λ (z : 2 ≤ stage c). absurd (omega (arith, g.owned c h z w.1, w.0))) (cases_lt (stage c) 2))
 
@@ -123,15 +123,15 @@ module _ (n k : ℕ) (stands : ℕ → ℕ → Bool) (cost : ℕ → ℕ → ℤ
     taken : ℕ → Bool
     taken c = leb 2 (stage c)
 
-    looked-at : ℕ → Bool
-    looked-at l = not (out l) && taken (p l)
+    looked_at : ℕ → Bool
+    looked_at l = not (out l) && taken (p l)
 
     closed : (c : ℕ) → c < n → 1 ≤ stage c → taken c ≡ true
     unfolding taken
     closed c h m = ⊎_elim (λ (z : stage c < 2). absurd (done c h (omega arith))) (λ (z : 2 ≤ stage c). le-leb 2 (stage c) z) (cases_lt (stage c) 2)
 
-    shut : Shut n stands (λ l. eqb l k || looked-at l) taken
-    unfolding taken looked-at
+    shut : Shut n stands (λ l. eqb l k || looked_at l) taken
+    unfolding taken looked_at
     shut l c hl hc x s = ⊎_elim
         (λ (e : eqb l k ≡ true). closed c hc (g.offered c hc (subst (λ (z : ℕ). stands z c ≡ true) (eqb-true l k e) s)).0)
         (λ (e : (not (out l) && leb 2 (stage (p l))) ≡ true).
@@ -140,29 +140,29 @@ module _ (n k : ℕ) (stands : ℕ → ℕ → Bool) (cost : ℕ → ℕ → ℤ
         let hp = kept.below l hl u in
         let own = kept.owned l hl u in
         closed c hc (g.relaxed (p l) c hp hc (leb-true 2 (stage (p l)) w.1) (λ z. omega arith) (subst (λ (z : ℕ). stands z c ≡ true) (sym own) s)).0)
-        (or_cases (eqb l k) (looked-at l) x)
+        (or_cases (eqb l k) (looked_at l) x)
 
     owner_of : (c : ℕ) → c < n → taken c ≡ true → (o c < n) × (out (o c) ≡ false) × (p (o c) ≡ c)
     unfolding taken
     owner_of c h m = let w = g.owned c h (leb-true 2 (stage c) m) (λ z. omega arith) in let s = kept.owns c h w in (w, s.0, s.1)
 
     -- each taken right block has a left block of its own among those that were looked at
-    enough : members n taken ≤ members n looked-at
-    unfolding looked-at
-    enough = inject-le n n taken looked-at (λ c _. o c)
+    enough : members n taken ≤ members n looked_at
+    unfolding looked_at
+    enough = inject_le n n taken looked_at (λ c _. o c)
         (λ c m h. let w = owner_of c h m in (w.0, and_from (not (out (o c))) (taken (p (o c))) (not_from_false (out (o c)) w.1) (subst (λ (z : ℕ). taken z ≡ true) (sym w.2) m)))
         (λ a b ma mb ha hb e. sym (owner_of a ha ma).2 ∙ ap p e ∙ (owner_of b hb mb).2)
 
-    root-apart : looked-at k ≡ false
-    unfolding looked-at
-    root-apart = ⊎_elim (λ (z : (not (out k) && taken (p k)) ≡ true). absurd (both_ways (out k) (not-true (out k) (and_parts (not (out k)) (taken (p k)) z).0) unpaired)) (λ z. z) (cases_Bool (not (out k) && taken (p k)))
+    root_apart : looked_at k ≡ false
+    unfolding looked_at
+    root_apart = ⊎_elim (λ (z : (not (out k) && taken (p k)) ≡ true). absurd (both_ways (out k) (not-true (out k) (and_parts (not (out k)) (taken (p k)) z).0) unpaired)) (λ z. z) (cases_Bool (not (out k) && taken (p k)))
 
     pub never : (q : List ℕ) → Perfect n stands q → ⊥
     never q h =
-        let more = members-with n looked-at (λ l. eqb l k || looked-at l) k room root-apart (λ l. refl) in
-        let few = left-out-le n stands (λ l. eqb l k || looked-at l) taken shut q (λ _. false) (perfect-partial n stands q h) in
-        let none = members-like n (λ _. false) (λ l. (eqb l k || looked-at l) && false) (λ l _. and_no (eqb l k || looked-at l)) in
-        omega (arith, enough, members-no n)
+        let more = members_with n looked_at (λ l. eqb l k || looked_at l) k room root_apart (λ l. refl) in
+        let few = left_out_le n stands (λ l. eqb l k || looked_at l) taken shut q (λ _. false) (perfect_partial n stands q h) in
+        let none = members_like n (λ _. false) (λ l. (eqb l k || looked_at l) && false) (λ l _. and_no (eqb l k || looked_at l)) in
+        omega (arith, enough, members_no n)
       where
         and_no : (b : Bool) → (b && false) ≡ false
         and_no true = refl

@@ -5,9 +5,9 @@ use Rattle.std.proofs.lemmas.Int.{ints}
 use Rattle.assign.specs.Search.{Kept}
 use Rattle.assign.specs.Pairs.{CheapestOf, Chosen}
 
-pub cheaply-kept : (n : ℕ) (stands : ℕ → ℕ → Bool) (cost : ℕ → ℕ → ℤ) (priced : ℕ → Bool) (row : ℕ → ℕ) (v : ℕ → ℤ) → CheapestOf n n stands cost priced row v
+pub cheaply_kept : (n : ℕ) (stands : ℕ → ℕ → Bool) (cost : ℕ → ℕ → ℤ) (priced : ℕ → Bool) (row : ℕ → ℕ) (v : ℕ → ℤ) → CheapestOf n n stands cost priced row v
     → (out : ℕ → Bool) (p o : ℕ → ℕ) → Chosen n priced row out p o → Kept n stands cost out p o v
-cheaply-kept n stands cost priced row v cheapest out p o chosen = record {
+cheaply_kept n stands cost priced row v cheapest out p o chosen = record {
   below = chosen.below;
   standing = λ l h u. let w = chosen.cheap l h u in subst (λ (z : ℕ). stands z (p l) ≡ true) w.1 (cheapest.stood (p l) w.0);
   owned = chosen.owned;

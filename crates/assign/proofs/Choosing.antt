@@ -6,7 +6,7 @@ use Rattle.std.proofs.lemmas.List.{get_or-replicate}
 use Rattle.std.proofs.lemmas.Bool.{cases_eq, both_ways, and_parts, and_from, ltb-true, lt-ltb}
 use Rattle.pairing.specs.Grid.{at}
 use Rattle.assign.specs.Pairs.{Chosen}
-use Rattle.assign.proofs.Removing.{still-in, gone, out_of}
+use Rattle.assign.proofs.Removing.{still_in, gone, out_of}
 
 -- the pairs so far, and the right blocks of `rest`, which are still to come
 pub record Choosing (n : ℕ) (priced : ℕ → Bool) (row : ℕ → ℕ) (rest out : ℕ → Bool) (p o : ℕ → ℕ) : Type 0 where
@@ -15,8 +15,8 @@ pub record Choosing (n : ℕ) (priced : ℕ → Bool) (row : ℕ → ℕ) (rest 
 
 module _ (n : ℕ) (priced : ℕ → Bool) (row : ℕ → ℕ) (inside : (c : ℕ) → priced c ≡ true → (c < n) × (row c < n)) where
   -- no left block is paired, and no right block has a left block
-  pub choosing-none : (out : ℕ → Bool) (p : ℕ → ℕ) → n ≤ 64 → ((l : ℕ) → out l ≡ (ltb l 64 && ltb l n)) → Choosing n priced row priced out p (at (replicate 64 64))
-  choosing-none out p few is = record {
+  pub choosing_none : (out : ℕ → Bool) (p : ℕ → ℕ) → n ≤ 64 → ((l : ℕ) → out l ≡ (ltb l 64 && ltb l n)) → Choosing n priced row priced out p (at (replicate 64 64))
+  choosing_none out p few is = record {
     chosen = record {
       inside = λ l t. ltb-true l n (and_parts (ltb l 64) (ltb l n) (sym (is l) ∙ t)).1;
       below = λ l h f. absurd (unpaired l h f);
@@ -35,23 +35,23 @@ module _ (n : ℕ) (priced : ℕ → Bool) (row : ℕ → ℕ) (inside : (c : �
 
   module _ (rest out : ℕ → Bool) (p o : ℕ → ℕ) (so_far : Choosing n priced row rest out p o) (c : ℕ) (rest' : ℕ → Bool) (is : (j : ℕ) → rest' j ≡ (rest j && not (eqb j c))) where
     -- the left block that c is cheapest with has a right block already
-    pub choosing-keep : Choosing n priced row rest' out p o
-    choosing-keep = record { chosen = so_far.chosen; waiting = λ j t. so_far.waiting j (still-in rest rest' c is j t).0 }
+    pub choosing_keep : Choosing n priced row rest' out p o
+    choosing_keep = record { chosen = so_far.chosen; waiting = λ j t. so_far.waiting j (still_in rest rest' c is j t).0 }
 
     module _ (waits : rest c ≡ true) where
       -- which left block that is
-      pub cheapest-inside : (c < n) × (row c < n)
-      cheapest-inside = inside c (so_far.waiting c waits).0
+      pub cheapest_inside : (c < n) × (row c < n)
+      cheapest_inside = inside c (so_far.waiting c waits).0
 
       -- it takes c if it is unpaired
-      pub choosing-take : (out' : ℕ → Bool) (p' o' : ℕ → ℕ) → ((l : ℕ) → out' l ≡ (out l && not (eqb l (row c))))
+      pub choosing_take : (out' : ℕ → Bool) (p' o' : ℕ → ℕ) → ((l : ℕ) → out' l ≡ (out l && not (eqb l (row c))))
           → p' (row c) ≡ c → ((l : ℕ) → (l ≡ row c → ⊥) → p' l ≡ p l) → o' c ≡ row c → ((j : ℕ) → (j ≡ c → ⊥) → o' j ≡ o j)
           → out (row c) ≡ true → Choosing n priced row rest' out' p' o'
-      choosing-take out' p' o' less new same new-owner same-owner unpaired = record {
+      choosing_take out' p' o' less new same new-owner same-owner unpaired = record {
         chosen = record {
-          inside = λ l t. old.inside l (still-in out out' (row c) less l t).0;
+          inside = λ l t. old.inside l (still_in out out' (row c) less l t).0;
           below = λ l h f. ⊎_elim
-              (λ (e : l ≡ row c). let q : p' l ≡ c = ap p' e ∙ new in omega (arith, cheapest-inside.0))
+              (λ (e : l ≡ row c). let q : p' l ≡ c = ap p' e ∙ new in omega (arith, cheapest_inside.0))
               (λ (e : l ≡ row c → ⊥). omega (arith, same l e, old.below l h (gone out out' (row c) less l f e)))
               (cases_eq l (row c));
           cheap = λ l h f. ⊎_elim
@@ -70,7 +70,7 @@ module _ (n : ℕ) (priced : ℕ → Bool) (row : ℕ → ℕ) (inside : (c : �
               subst (λ (z : ℕ). (out' z ≡ false) × (p' z ≡ j)) (sym q) (still (o j) w.0, same (o j) (other (o j) w.0) ∙ w.1))
               (cases_eq j c);
         };
-        waiting = λ j t. let w = so_far.waiting j (still-in rest rest' c is j t).0 in (w.0, omega (arith, same-owner j (still-in rest rest' c is j t).1, w.1));
+        waiting = λ j t. let w = so_far.waiting j (still_in rest rest' c is j t).0 in (w.0, omega (arith, same-owner j (still_in rest rest' c is j t).1, w.1));
       }
         where
           old : Chosen n priced row out p o

@@ -4,16 +4,16 @@
 use Rattle.std.proofs.Common.{◌≡◌, ℕ, ◌<◌, List, length, set, ℤ, ◌-ℤ◌, sym, ap, ◌∙◌, subst, ap₂}
 use Rattle.cost.specs.Columns.{Within}
 use Rattle.cost.proofs.Weights.{weight}
-use Rattle.tables.specs.Said.{columnsAt}
+use Rattle.tables.specs.Said.{columns_at}
 use Rattle.assign.proofs.Entries.{put_same}
 
 -- a difference weighs what the columns p' and q' weigh that its two values were read from
-pub difference-weighs : (x : ℤ) (p p' q q' : List ℤ) → x ≡ weight p -ℤ weight q → p ≡ p' → q ≡ q' → x ≡ weight p' -ℤ weight q'
-difference-weighs x p p' q q' e f g = e ∙ ap₂ (λ (y z : List ℤ). weight y -ℤ weight z) f g
+pub difference_weighs : (x : ℤ) (p p' q q' : List ℤ) → x ≡ weight p -ℤ weight q → p ≡ p' → q ≡ q' → x ≡ weight p' -ℤ weight q'
+difference_weighs x p p' q q' e f g = e ∙ ap₂ (λ (y z : List ℤ). weight y -ℤ weight z) f g
 
 module _ {K : Type 0} (meaning : K → List ℤ) (xs : List K) (i : ℕ) (y : K) (inside : i < length xs) where
-  pub put-weighs : (p p' q q' : List ℤ) → weight (meaning y) ≡ weight p -ℤ weight q → p ≡ p' → q ≡ q' → weight (columnsAt meaning (set xs i y) i) ≡ weight p' -ℤ weight q'
-  put-weighs p p' q q' e f g = ap weight (put_same meaning xs i y inside) ∙ difference-weighs (weight (meaning y)) p p' q q' e f g
+  pub put_weighs : (p p' q q' : List ℤ) → weight (meaning y) ≡ weight p -ℤ weight q → p ≡ p' → q ≡ q' → weight (columns_at meaning (set xs i y) i) ≡ weight p' -ℤ weight q'
+  put_weighs p p' q q' e f g = ap weight (put_same meaning xs i y inside) ∙ difference_weighs (weight (meaning y)) p p' q q' e f g
 
-  pub put-within : (limit : ℕ) → Within limit (meaning y) → Within limit (columnsAt meaning (set xs i y) i)
-  put-within limit w = subst (Within limit) (sym (put_same meaning xs i y inside)) w
+  pub put_within : (limit : ℕ) → Within limit (meaning y) → Within limit (columns_at meaning (set xs i y) i)
+  put_within limit w = subst (Within limit) (sym (put_same meaning xs i y inside)) w

@@ -7,20 +7,20 @@ use Rattle.std.proofs.lemmas.Int.{ints}
 use Rattle.std.proofs.lemmas.Bool.{cases_lt}
 use Rattle.cost.specs.Columns.{zeros}
 use Rattle.cost.proofs.Exact.{zeros_within}
-use Rattle.cost.proofs.Weights.{weight, weight-zeros}
+use Rattle.cost.proofs.Weights.{weight, weight_zeros}
 use Rattle.pairing.specs.Grid.{Grid, Sane, at, Perfect}
 use Rattle.pairing.specs.Prices.{Value, Valid, Greatest}
 use Rattle.pairing.proofs.Counting.{onto}
-use Rattle.pairing.proofs.Weighing.{zeros-sized, value-from, value_same, price-from, price-same}
-use Rattle.pairing.proofs.Attained.{Attained, attained-greatest}
-use Rattle.tables.proofs.Alike.{Alike, perfect-like}
+use Rattle.pairing.proofs.Weighing.{zeros_sized, value_from, value_same, price_from, price_same}
+use Rattle.pairing.proofs.Attained.{Attained, attained_greatest}
+use Rattle.tables.proofs.Alike.{Alike, perfect_like}
 use Rattle.assign.specs.Search.{Kept, Grown}
 use Rattle.assign.specs.Prices.{from_all}
 
 -- a pairing that leaves no left block out is perfect
-pub perfect-of : (n : ℕ) (stands : ℕ → ℕ → Bool) (cost : ℕ → ℕ → ℤ) (p : List ℕ) (o : ℕ → ℕ) (v : ℕ → ℤ) (out : ℕ → Bool) → length p ≡ n → Kept n stands cost out (at p) o v
+pub perfect_of : (n : ℕ) (stands : ℕ → ℕ → Bool) (cost : ℕ → ℕ → ℤ) (p : List ℕ) (o : ℕ → ℕ) (v : ℕ → ℤ) (out : ℕ → Bool) → length p ≡ n → Kept n stands cost out (at p) o v
     → ((l : ℕ) → l < n → out l ≡ false) → Perfect n stands p
-perfect-of n stands cost p o v out len kept all = record {
+perfect_of n stands cost p o v out len kept all = record {
   len = len;
   below = λ l h. kept.below l h (all l h);
   standing = λ l h. kept.standing l h (all l h);
@@ -55,19 +55,19 @@ module _ (g : Grid) (s : Sane g) (stands : ℕ → ℕ → Bool) (alike : Alike 
       lefts = lefts;
       rights = rights;
       under = λ l r hl hr st.
-          price-from g s left right l r hl hr st (lefts l hl) (rights r hr)
+          price_from g s left right l r hl hr st (lefts l hl) (rights r hr)
           (omega (arith, ints, fair l r hl hr (alike l r hl hr ∙ st), tight l hl, same r hr, same (at p l) (perfect.below l hl)));
       equal = λ l hl.
           let hr = perfect.below l hl in
-          price-same g s left right l (at p l) hl hr (sym (alike l (at p l) hl hr) ∙ perfect.standing l hl) (lefts l hl) (rights (at p l) hr) (tight l hl);
+          price_same g s left right l (at p l) hl hr (sym (alike l (at p l) hl hr) ∙ perfect.standing l hl) (lefts l hl) (rights (at p l) hr) (tight l hl);
     }
 
-    zero-value : Value g.columns (zeros g.columns)
-    zero-value = record { sized = zeros-sized g.columns; railed = zeros_within 1000000000000000 g.columns }
+    zero_value : Value g.columns (zeros g.columns)
+    zero_value = record { sized = zeros_sized g.columns; railed = zeros_within 1000000000000000 g.columns }
 
     attained : (r : ℕ) → r < g.size → Attained g left right p stage r
     attained r h = ⊎_elim
-        (λ e. inl (value_same g.columns (right r) (zeros g.columns) (rights r h) zero-value (omega (arith, ints, same r h, e.2, weight-zeros g.columns))))
+        (λ e. inl (value_same g.columns (right r) (zeros g.columns) (rights r h) zero_value (omega (arith, ints, same r h, e.2, weight_zeros g.columns))))
         (λ e.
         let l = via r in
         let hp = kept.below (via r) e.0 e.1 in
@@ -76,11 +76,11 @@ module _ (g : Grid) (s : Sane g) (stands : ℕ → ℕ → Bool) (alike : Alike 
           via r,
           e.0,
           st,
-          price-same g s left right (via r) r e.0 h st (lefts (via r) e.0) (rights r h) (omega (arith, ints, tight (via r) e.0, e.4, same r h, same (at p (via r)) hp)),
+          price_same g s left right (via r) r e.0 h st (lefts (via r) e.0) (rights r h) (omega (arith, ints, tight (via r) e.0, e.4, same r h, same (at p (via r)) hp)),
           grown.sooner r h (every r h) (λ z. omega arith),
         ))
         (grown.source r h (omega (arith, every r h)))
 
     pub greatest : Greatest g left right p
-    greatest = attained-greatest g s left right p (perfect-like g.size stands g.stands alike p perfect) valid stage attained
-        (λ r h. value-from g.columns (right r) (zeros g.columns) (rights r h) zero-value (omega (arith, ints, same r h, (grown.offered r h refl).1, weight-zeros g.columns)))
+    greatest = attained_greatest g s left right p (perfect_like g.size stands g.stands alike p perfect) valid stage attained
+        (λ r h. value_from g.columns (right r) (zeros g.columns) (rights r h) zero_value (omega (arith, ints, same r h, (grown.offered r h refl).1, weight_zeros g.columns)))

@@ -3,7 +3,7 @@
 -- the chain, so that each left block is asked only once and still has its old right block then. At the root nothing is given up.
 use Rattle.std.proofs.Common.{◌≡◌, ℕ, ◌<◌, ◌≤◌, Bool, true, false, ◌⊎◌, sym, refl, ap, ◌∙◌, subst, inl, inr, ⊎_elim, arith}
 use Rattle.std.proofs.lemmas.Bool.{cases_eq, both_ways}
-use Rattle.assign.specs.Search.{Way, Now-paired, Flipped}
+use Rattle.assign.specs.Search.{Way, NowPaired, Flipped}
 
 -- on the way back from f: no left block has the right block h, and that of h is not set
 pub record Flipping (n f : ℕ) (out : ℕ → Bool) (stage via p₀ o₀ : ℕ → ℕ) (h : ℕ) (p o : ℕ → ℕ) : Type 0 where
@@ -18,8 +18,8 @@ pub record Flipping (n f : ℕ) (out : ℕ → Bool) (stage via p₀ o₀ : ℕ 
   pub ahead : (l : ℕ) → l < n → out l ≡ false → stage (p₀ l) < stage h → p l ≡ p₀ l
 
 module _ (n f : ℕ) (out : ℕ → Bool) (stage via p₀ o₀ : ℕ → ℕ) (way : Way n f out stage via p₀ o₀) where
-  pub flip-none : Flipping n f out stage via p₀ o₀ f p₀ o₀
-  flip-none = record {
+  pub flip_none : Flipping n f out stage via p₀ o₀ f p₀ o₀
+  flip_none = record {
     inside = way.inside;
     taken = way.taken;
     below = way.below;
@@ -45,8 +45,8 @@ module _ (n f : ℕ) (out : ℕ → Bool) (stage via p₀ o₀ : ℕ → ℕ) (w
         (s, omega (arith, w.0), omega (arith, w.1))
 
     module _ (new : p' (via h) ≡ h) (same : (l : ℕ) → (l ≡ via h → ⊥) → p' l ≡ p l) (new-owner : o' h ≡ via h) (same-owner : (c : ℕ) → (c ≡ h → ⊥) → o' c ≡ o c) where
-      pub flip-more : out (via h) ≡ false → Flipping n f out stage via p₀ o₀ (p (via h)) p' o'
-      flip-more paired =
+      pub flip_more : out (via h) ≡ false → Flipping n f out stage via p₀ o₀ (p (via h)) p' o'
+      flip_more paired =
           let w = gives paired in
           record {
             inside = g.below (via h) asked paired;
@@ -83,10 +83,10 @@ module _ (n f : ℕ) (out : ℕ → Bool) (stage via p₀ o₀ : ℕ → ℕ) (w
             ahead = λ l i u m. same l (λ e. let x : stage (p₀ l) ≡ stage (p (via h)) = ap (λ z. stage (p₀ z)) e ∙ ap stage (sym w.0) in omega arith) ∙ g.ahead l i u (omega (arith, w.2));
           }
 
-      pub flip-all : out (via h) ≡ true → Flipped n (via h) f out stage via p₀ o₀ p' o'
-      flip-all root =
+      pub flip_all : out (via h) ≡ true → Flipped n (via h) f out stage via p₀ o₀ p' o'
+      flip_all root =
           let other : (l : ℕ) → out l ≡ false → l ≡ via h → ⊥ = λ l u e. both_ways (out (via h)) (subst (λ (z : ℕ). out z ≡ false) e u) root in
-          let old : (l : ℕ) → Now-paired (via h) out l → (l ≡ via h → ⊥) → out l ≡ false = λ l u e. ⊎_elim (λ (s : out l ≡ false). s) (λ (s : l ≡ via h). absurd (e s)) u in
+          let old : (l : ℕ) → NowPaired (via h) out l → (l ≡ via h → ⊥) → out l ≡ false = λ l u e. ⊎_elim (λ (s : out l ≡ false). s) (λ (s : l ≡ via h). absurd (e s)) u in
           record {
             root = asked;
             unpaired = root;

@@ -41,11 +41,11 @@ module _ (n : ℕ) (stands : ℕ → ℕ → Bool) (cost : ℕ → ℕ → ℤ) 
     was : (c : ℕ) → 2 ≤ stage' c → (c ≡ a) ⊎ (2 ≤ stage c)
     was c m = ⊎_elim (λ (e : c ≡ a). inl e) (λ (e : c ≡ a → ⊥). inr (omega (arith, others c e))) (cases_eq c a)
 
-    was-one : (c : ℕ) → stage' c ≡ 1 → stage c ≡ 1
-    was-one c m = ⊎_elim (λ (e : c ≡ a). let q : stage' c ≡ stage' a = ap stage' e in absurd (omega arith)) (λ (e : c ≡ a → ⊥). omega (arith, others c e)) (cases_eq c a)
+    was_one : (c : ℕ) → stage' c ≡ 1 → stage c ≡ 1
+    was_one c m = ⊎_elim (λ (e : c ≡ a). let q : stage' c ≡ stage' a = ap stage' e in absurd (omega arith)) (λ (e : c ≡ a → ⊥). omega (arith, others c e)) (cases_eq c a)
 
-    was-reached : (c : ℕ) → 1 ≤ stage' c → 1 ≤ stage c
-    was-reached c m = ⊎_elim (λ (e : c ≡ a). let q : stage c ≡ stage a = ap stage e in omega arith) (λ (e : c ≡ a → ⊥). omega (arith, others c e)) (cases_eq c a)
+    was_reached : (c : ℕ) → 1 ≤ stage' c → 1 ≤ stage c
+    was_reached c m = ⊎_elim (λ (e : c ≡ a). let q : stage c ≡ stage a = ap stage e in omega arith) (λ (e : c ≡ a → ⊥). omega (arith, others c e)) (cases_eq c a)
 
     pub took : Grown n stands cost out start p o v d stage' via (t + 1) a
     took = record {
@@ -53,8 +53,8 @@ module _ (n : ℕ) (stands : ℕ → ℕ → Bool) (cost : ℕ → ℕ → ℤ) 
       relaxed = λ b c hb hc m ne s. let w = g.relaxed b c hb hc (omega (arith, others b ne)) (λ e. omega arith) s in (up c w.0, w.1);
       ordered = λ b c hb hc m one.
           ⊎_elim
-          (λ (e : b ≡ a). let q : d b ≡ d a = ap d e in let r : v b ≡ v a = ap v e in omega (arith, ints, least c hc (was-one c one)))
-          (λ (e : 2 ≤ stage b). g.ordered b c hb hc e (was-one c one))
+          (λ (e : b ≡ a). let q : d b ≡ d a = ap d e in let r : v b ≡ v a = ap v e in omega (arith, ints, least c hc (was_one c one)))
+          (λ (e : 2 ≤ stage b). g.ordered b c hb hc e (was_one c one))
           (was b m);
       last = λ c hc hx m.
           ⊎_elim
@@ -64,7 +64,7 @@ module _ (n : ℕ) (stands : ℕ → ℕ → Bool) (cost : ℕ → ℕ → ℤ) 
       owned = λ c h m ne. g.owned c h (omega (arith, others c ne)) (λ e. omega arith);
       source = λ c h m.
           ⊎_elim (λ s. inl s) (λ s. inr (s.0, s.1, omega (arith, still (p (via c)) s.2, s.2), s.3, s.4))
-          (g.source c h (was-reached c m));
+          (g.source c h (was_reached c m));
       sooner = λ c h m ne.
           ⊎_elim
           (λ (e : c ≡ a).
@@ -83,8 +83,8 @@ module _ (n : ℕ) (stands : ℕ → ℕ → Bool) (cost : ℕ → ℕ → ℤ) 
     taken : (c : ℕ) → c < n → 2 ≤ stage c → (d' c ≡ d c) × (stage' c ≡ stage c) × (via' c ≡ via c)
     taken c h m = ⊎_elim (λ s. s) (λ s. absurd (omega (arith, s.1))) (r c h).change
 
-    was-taken : (c : ℕ) → c < n → 2 ≤ stage' c → 2 ≤ stage c
-    was-taken c h m = ⊎_elim (λ s. omega (arith, s.1)) (λ s. absurd (omega (arith, s.2))) (r c h).change
+    was_taken : (c : ℕ) → c < n → 2 ≤ stage' c → 2 ≤ stage c
+    was_taken c h m = ⊎_elim (λ s. omega (arith, s.1)) (λ s. absurd (omega (arith, s.2))) (r c h).change
 
     stays : (c : ℕ) → c < n → 1 ≤ stage c → 1 ≤ stage' c
     stays c h m = ⊎_elim (λ s. omega (arith, s.1)) (λ s. omega (arith, s.2)) (r c h).change
@@ -103,7 +103,7 @@ module _ (n : ℕ) (stands : ℕ → ℕ → Bool) (cost : ℕ → ℕ → ℤ) 
     looked = record {
       offered = λ c h e. let w = g.offered c h e in (stays c h w.0, omega (arith, ints, w.1, (r c h).less w.0));
       relaxed = λ b c hb hc m _ s.
-          let mb = was-taken b hb m in
+          let mb = was_taken b hb m in
           let tb = taken b hb mb in
           ⊎_elim
           (λ (e : b ≡ a).
@@ -117,14 +117,14 @@ module _ (n : ℕ) (stands : ℕ → ℕ → Bool) (cost : ℕ → ℕ → ℤ) 
           (λ (e : b ≡ a → ⊥). let w = g.relaxed b c hb hc mb e s in (stays c hc w.0, omega (arith, ints, w.1, tb.0, (r c hc).less w.0)))
           (cases_eq b a);
       ordered = λ b c hb hc m one.
-          let mb = was-taken b hb m in
+          let mb = was_taken b hb m in
           let tb = taken b hb mb in
           ⊎_elim
           (λ s. omega (arith, ints, g.ordered b c hb hc mb (sym s.1 ∙ one), s.0, tb.0))
           (λ s. omega (arith, ints, s.4, tb.0, g.last b hb ha mb, fair c hc s.0))
           (r c hc).change;
       last = λ c h x. absurd (omega arith);
-      owned = λ c h m _. ⊎_elim (λ (e : c ≡ a). subst (λ (z : ℕ). o z < n) (sym e) oa) (λ (e : c ≡ a → ⊥). g.owned c h (was-taken c h m) e) (cases_eq c a);
+      owned = λ c h m _. ⊎_elim (λ (e : c ≡ a). subst (λ (z : ℕ). o z < n) (sym e) oa) (λ (e : c ≡ a → ⊥). g.owned c h (was_taken c h m) e) (cases_eq c a);
       source = λ c h m.
           ⊎_elim
           (λ s.
@@ -142,7 +142,7 @@ module _ (n : ℕ) (stands : ℕ → ℕ → Bool) (cost : ℕ → ℕ → ℤ) 
           (oa, (kept.owns a ha oa).0, omega (arith, ta.1), s.0, omega (arith, ints, s.4, ta.0)))))
           (r c h).change;
       sooner = λ c h m ne.
-          let mc = was-taken c h m in
+          let mc = was_taken c h m in
           let tc = taken c h mc in
           let q : stage' (p (via' c)) ≡ stage' (p (via c)) = ap (λ z. stage' (p z)) tc.2 in
           let ne' : via c ≡ start.root → ⊥ = λ e. ne (tc.2 ∙ e) in

@@ -8,17 +8,17 @@ use Rattle.cost.specs.Columns.{Within}
 use Rattle.cost.proofs.Weights.{weight}
 use Rattle.pairing.specs.Grid.{at}
 use Rattle.assign.specs.Search.{stage, Lowered}
-use Rattle.assign.proofs.Removing.{still-in, gone}
+use Rattle.assign.proofs.Removing.{still_in, gone}
 
 -- only open right blocks are not taken
-open-if-low : (is_open is-reached : Bool) (turn : ℕ) → cond is_open (cond is-reached 1 0) (turn + 2) < 2 → is_open ≡ true
-open-if-low true r turn h = refl
-open-if-low false r turn h = absurd (omega arith)
+open_if_low : (is_open is-reached : Bool) (turn : ℕ) → cond is_open (cond is-reached 1 0) (turn + 2) < 2 → is_open ≡ true
+open_if_low true r turn h = refl
+open_if_low false r turn h = absurd (omega arith)
 
-taken-if-high : (is_open is-reached : Bool) (turn : ℕ) → 2 ≤ cond is_open (cond is-reached 1 0) (turn + 2) → is_open ≡ false
-taken-if-high true true turn h = absurd (omega arith)
-taken-if-high true false turn h = absurd (omega arith)
-taken-if-high false r turn h = refl
+taken_if_high : (is_open is-reached : Bool) (turn : ℕ) → 2 ≤ cond is_open (cond is-reached 1 0) (turn + 2) → is_open ≡ false
+taken_if_high true true turn h = absurd (omega arith)
+taken_if_high true false turn h = absurd (omega arith)
+taken_if_high false r turn h = refl
 
 -- the taken right blocks of `rest` have their price v still to be lowered; d: the distances, `far`: what that of the goal is beyond its price
 pub record Lowering (n : ℕ) (open' rest : ℕ → Bool) (far : ℤ) (d : ℕ → ℤ) (v v' : ℕ → List ℤ) : Type 0 where
@@ -28,9 +28,9 @@ pub record Lowering (n : ℕ) (open' rest : ℕ → Bool) (far : ℤ) (d : ℕ �
   pub bound : (c : ℕ) → c < n → Within 500000000000 (v' c)
 
 module _ (n : ℕ) (open' : ℕ → Bool) (far : ℤ) (d : ℕ → ℤ) (v : ℕ → List ℤ) where
-  pub lowering-none : (all rest : ℕ → Bool) → n ≤ 64 → ((c : ℕ) → all c ≡ (ltb c 64 && ltb c n)) → ((c : ℕ) → rest c ≡ (all c && not (open' c)))
+  pub lowering_none : (all rest : ℕ → Bool) → n ≤ 64 → ((c : ℕ) → all c ≡ (ltb c 64 && ltb c n)) → ((c : ℕ) → rest c ≡ (all c && not (open' c)))
       → ((c : ℕ) → c < n → Within 500000000000 (v c)) → Lowering n open' rest far d v v
-  lowering-none all rest few is_all is bounded = record {
+  lowering_none all rest few is_all is bounded = record {
     waiting = λ c t.
         let w = and_parts (all c) (not (open' c)) (sym (is c) ∙ t) in
         (ltb-true c n (and_parts (ltb c 64) (ltb c n) (sym (is_all c) ∙ w.0)).1, not-true (open' c) w.1);
@@ -41,10 +41,10 @@ module _ (n : ℕ) (open' : ℕ → Bool) (far : ℤ) (d : ℕ → ℤ) (v : ℕ
   }
 
   module _ (rest : ℕ → Bool) (v' : ℕ → List ℤ) (so_far : Lowering n open' rest far d v v') where
-    pub lowering-take : (c : ℕ) (rest' : ℕ → Bool) (v'' : ℕ → List ℤ) → rest c ≡ true → ((j : ℕ) → rest' j ≡ (rest j && not (eqb j c)))
+    pub lowering_take : (c : ℕ) (rest' : ℕ → Bool) (v'' : ℕ → List ℤ) → rest c ≡ true → ((j : ℕ) → rest' j ≡ (rest j && not (eqb j c)))
         → weight (v'' c) ≡ d c -ℤ far → Within 500000000000 (v'' c) → ((j : ℕ) → (j ≡ c → ⊥) → v'' j ≡ v' j) → Lowering n open' rest' far d v v''
-    lowering-take c rest' v'' waits is new near others = record {
-      waiting = λ j t. so_far.waiting j (still-in rest rest' c is j t).0;
+    lowering_take c rest' v'' waits is new near others = record {
+      waiting = λ j t. so_far.waiting j (still_in rest rest' c is j t).0;
       fallen = λ j h shut f. ⊎_elim
           (λ (e : j ≡ c). subst (λ (z : ℕ). weight (v'' z) +ℤ far ≡ d z) (sym e) (omega (arith, ints)))
           (λ (e : j ≡ c → ⊥). ap (λ (z : List ℤ). weight z +ℤ far) (others j e) ∙ so_far.fallen j h shut (gone rest rest' c is j f e))
@@ -56,9 +56,9 @@ module _ (n : ℕ) (open' : ℕ → Bool) (far : ℤ) (d : ℕ → ℤ) (v : ℕ
           (cases_eq j c);
     }
 
-    pub lowering-done : (f : ℕ) (reached : ℕ → Bool) (turn : List ℕ) → ((c : ℕ) → rest c ≡ false) → far ≡ d f -ℤ weight (v f)
+    pub lowering_done : (f : ℕ) (reached : ℕ → Bool) (turn : List ℕ) → ((c : ℕ) → rest c ≡ false) → far ≡ d f -ℤ weight (v f)
         → Lowered n f d (stage open' reached turn) (λ c. weight (v c)) (λ c. weight (v' c))
-    lowering-done f reached turn none is = record {
-      fallen = λ c h m. omega (arith, ints, so_far.fallen c h (taken-if-high (open' c) (reached c) (at turn c) m) (none c));
-      same = λ c h m. ap weight (so_far.same c (open-if-low (open' c) (reached c) (at turn c) m));
+    lowering_done f reached turn none is = record {
+      fallen = λ c h m. omega (arith, ints, so_far.fallen c h (taken_if_high (open' c) (reached c) (at turn c) m) (none c));
+      same = λ c h m. ap weight (so_far.same c (open_if_low (open' c) (reached c) (at turn c) m));
     }

@@ -4,7 +4,7 @@ use Rattle.std.proofs.Common.{◌≡◌, ℕ, Bool, true, false, not, ◌&&◌, 
 use Rattle.std.proofs.lemmas.Int.{ints}
 use Rattle.std.proofs.lemmas.Bool.{cases_eq, both_ways}
 use Rattle.assign.specs.Offers.{Nearest}
-use Rattle.assign.proofs.Removing.{still-in, gone}
+use Rattle.assign.proofs.Removing.{still_in, gone}
 
 module _ (set : ℕ → Bool) (v d : ℕ → ℤ) where
   -- key is how far the best of those that are not in rest is beyond its price
@@ -14,13 +14,13 @@ module _ (set : ℕ → Bool) (v d : ℕ → ℤ) where
     pub is : key ≡ d best -ℤ v best
     pub least : (c : ℕ) → set c ≡ true → rest c ≡ false → (d best +ℤ v c) ≤ℤ (d c +ℤ v best)
 
-  pub nearing-none : (best : ℕ) (key : ℤ) → set best ≡ true → key ≡ d best -ℤ v best → Nearing set best key
-  nearing-none best key member is = record { part = λ c t. t; member = member; is = is; least = λ c s f. absurd (both_ways (set c) f s) }
+  pub nearing_none : (best : ℕ) (key : ℤ) → set best ≡ true → key ≡ d best -ℤ v best → Nearing set best key
+  nearing_none best key member is = record { part = λ c t. t; member = member; is = is; least = λ c s f. absurd (both_ways (set c) f s) }
 
   module _ (rest rest' : ℕ → Bool) (c : ℕ) (removed : (j : ℕ) → rest' j ≡ (rest j && not (eqb j c))) (in_rest : rest c ≡ true) (best : ℕ) (key : ℤ) (h : Nearing rest best key) where
-    pub nearing-keep : key ≤ℤ (d c -ℤ v c) → Nearing rest' best key
-    nearing-keep le = record {
-      part = λ j t. h.part j (still-in rest rest' c removed j t).0;
+    pub nearing_keep : key ≤ℤ (d c -ℤ v c) → Nearing rest' best key
+    nearing_keep le = record {
+      part = λ j t. h.part j (still_in rest rest' c removed j t).0;
       member = h.member;
       is = h.is;
       least = λ j s f. ⊎_elim
@@ -29,9 +29,9 @@ module _ (set : ℕ → Bool) (v d : ℕ → ℤ) where
           (cases_eq j c);
     }
 
-    pub nearing-take : (key' : ℤ) → key' ≡ d c -ℤ v c → key' <ℤ key → Nearing rest' c key'
-    nearing-take key' is less = record {
-      part = λ j t. h.part j (still-in rest rest' c removed j t).0;
+    pub nearing_take : (key' : ℤ) → key' ≡ d c -ℤ v c → key' <ℤ key → Nearing rest' c key'
+    nearing_take key' is less = record {
+      part = λ j t. h.part j (still_in rest rest' c removed j t).0;
       member = h.part c in_rest;
       is = is;
       least = λ j s f. ⊎_elim
@@ -40,5 +40,5 @@ module _ (set : ℕ → Bool) (v d : ℕ → ℤ) where
           (cases_eq j c);
     }
 
-  pub nearing-done : (rest : ℕ → Bool) (best : ℕ) (key : ℤ) → Nearing rest best key → ((c : ℕ) → rest c ≡ false) → Nearest set v d best
-  nearing-done rest best key h none = record { member = h.member; least = λ c s. h.least c s (none c) }
+  pub nearing_done : (rest : ℕ → Bool) (best : ℕ) (key : ℤ) → Nearing rest best key → ((c : ℕ) → rest c ≡ false) → Nearest set v d best
+  nearing_done rest best key h none = record { member = h.member; least = λ c s. h.least c s (none c) }

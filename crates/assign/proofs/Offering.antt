@@ -6,7 +6,7 @@ use Rattle.std.proofs.lemmas.Bool.{cases_eq, both_ways}
 use Rattle.cost.specs.Columns.{Within}
 use Rattle.cost.proofs.Weights.{weight}
 use Rattle.assign.specs.Offers.{Offered}
-use Rattle.assign.proofs.Removing.{still-in, gone}
+use Rattle.assign.proofs.Removing.{still_in, gone}
 
 module _ (shift : List ℤ) (cost : ℕ → List ℤ) (from : ℕ) (to reached : ℕ → Bool) (d : ℕ → List ℤ) (via : ℕ → ℕ) where
   -- how far the distance of c can be, if it was not farther where it had one
@@ -19,8 +19,8 @@ module _ (shift : List ℤ) (cost : ℕ → List ℤ) (from : ℕ) (to reached :
     pub done : (c : ℕ) → rest c ≡ false → Offered (weight shift) (λ c. weight (cost c)) from to reached (λ c. weight (d c)) via (λ c. weight (d' c)) via' c
     pub near : (c : ℕ) → rest c ≡ false → Near d' c
 
-  pub offering-none : Offering to d via
-  offering-none = record {
+  pub offering_none : Offering to d via
+  offering_none = record {
     part = λ c t. t;
     waits = λ c t. (refl, refl);
     done = λ c f. record { others = λ _. (refl, refl); change = λ t. absurd (both_ways (to c) f t); most = λ t. absurd (both_ways (to c) f t); less = λ t. absurd (both_ways (to c) f t) };
@@ -29,13 +29,13 @@ module _ (shift : List ℤ) (cost : ℕ → List ℤ) (from : ℕ) (to reached :
 
   module _ (rest rest' : ℕ → Bool) (c : ℕ) (removed : (j : ℕ) → rest' j ≡ (rest j && not (eqb j c))) (member : rest c ≡ true) (d' : ℕ → List ℤ) (via' : ℕ → ℕ) (h : Offering rest d' via') where
     -- c keeps its distance
-    pub offering-keep : reached c ≡ true → weight (d' c) ≤ℤ (weight shift +ℤ weight (cost c)) → Offering rest' d' via'
-    offering-keep r le =
+    pub offering_keep : reached c ≡ true → weight (d' c) ≤ℤ (weight shift +ℤ weight (cost c)) → Offering rest' d' via'
+    offering_keep r le =
         let w = h.waits c member in
         let same : weight (d' c) ≡ weight (d c) = ap weight w.0 in
         record {
-          part = λ j t. h.part j (still-in rest rest' c removed j t).0;
-          waits = λ j t. h.waits j (still-in rest rest' c removed j t).0;
+          part = λ j t. h.part j (still_in rest rest' c removed j t).0;
+          waits = λ j t. h.waits j (still_in rest rest' c removed j t).0;
           done = λ j f. ⊎_elim
               (λ (e : j ≡ c). subst (Offered (weight shift) (λ k. weight (cost k)) from to reached (λ k. weight (d k)) via (λ k. weight (d' k)) via') (sym e)
               (record { others = λ _. (same, w.1); change = λ _. inl (r, same, w.1); most = λ _. le; less = λ _ _. omega (arith, ints) }))
@@ -48,14 +48,14 @@ module _ (shift : List ℤ) (cost : ℕ → List ℤ) (from : ℕ) (to reached :
         }
 
     -- c takes the distance that it is offered
-    pub offering-take : (d'' : ℕ → List ℤ) (via'' : ℕ → ℕ) → ((j : ℕ) → (j ≡ c → ⊥) → (d'' j ≡ d' j) × (via'' j ≡ via' j)) → weight (d'' c) ≡ weight shift +ℤ weight (cost c) → via'' c ≡ from
+    pub offering_take : (d'' : ℕ → List ℤ) (via'' : ℕ → ℕ) → ((j : ℕ) → (j ≡ c → ⊥) → (d'' j ≡ d' j) × (via'' j ≡ via' j)) → weight (d'' c) ≡ weight shift +ℤ weight (cost c) → via'' c ≡ from
         → (reached c ≡ true → weight (d'' c) ≤ℤ weight (d' c)) → ((b : ℕ) → Within b shift → b ≤ 400000000000 → Within (b + 1000000000) (d'' c)) → Offering rest' d'' via''
-    offering-take d'' via'' others is by le small =
+    offering_take d'' via'' others is by le small =
         let w = h.waits c member in
         let same : weight (d' c) ≡ weight (d c) = ap weight w.0 in
         record {
-          part = λ j t. h.part j (still-in rest rest' c removed j t).0;
-          waits = λ j t. let s = still-in rest rest' c removed j t in let x = others j s.1 in let y = h.waits j s.0 in (x.0 ∙ y.0, x.1 ∙ y.1);
+          part = λ j t. h.part j (still_in rest rest' c removed j t).0;
+          waits = λ j t. let s = still_in rest rest' c removed j t in let x = others j s.1 in let y = h.waits j s.0 in (x.0 ∙ y.0, x.1 ∙ y.1);
           done = λ j f. ⊎_elim
               (λ (e : j ≡ c). subst (Offered (weight shift) (λ k. weight (cost k)) from to reached (λ k. weight (d k)) via (λ k. weight (d'' k)) via'') (sym e)
               (record { others = λ t. absurd (both_ways (to c) t (h.part c member)); change = λ _. inr (is, by); most = λ _. omega (arith, ints, is); less = λ _ r. omega (arith, ints, le r) }))

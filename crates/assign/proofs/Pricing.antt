@@ -7,29 +7,29 @@ use Rattle.std.proofs.lemmas.Int.{ints}
 use Rattle.std.proofs.lemmas.Bool.{cases_Bool, cases_eq, both_ways, or_left, or_right, or_cases}
 use Rattle.cost.specs.Columns.{Within, zeros}
 use Rattle.cost.proofs.Exact.{zeros_within}
-use Rattle.cost.proofs.Weights.{weight, weight-zeros}
-use Rattle.tables.specs.Said.{columnsAt}
-use Rattle.assign.specs.Weighed.{weightAt}
+use Rattle.cost.proofs.Weights.{weight, weight_zeros}
+use Rattle.tables.specs.Said.{columns_at}
+use Rattle.assign.specs.Weighed.{weight_at}
 use Rattle.assign.specs.Offers.{Offered}
 use Rattle.assign.specs.Pairs.{CheapestOf}
 
 -- a table that is cleared: it holds the value of zero everywhere
 module _ {K : Type 0} (meaning : K → List ℤ) (nought : K) (columns : ℕ) (nothing : meaning nought ≡ zeros columns) (k : ℕ) (table : List K) (cleared : table ≡ replicate k nought) where
-  zero-at : (c : ℕ) → c < k → columnsAt meaning table c ≡ zeros columns
+  zero-at : (c : ℕ) → c < k → columns_at meaning table c ≡ zeros columns
   zero-at c h =
-      ap (λ t. columnsAt meaning t c) cleared
+      ap (λ t. columns_at meaning t c) cleared
       ∙ get_or-map meaning (replicate k nought) c nought [] (subst (λ (z : ℕ). c < z) (sym (length-replicate k nought)) h) ∙ ap meaning (get_or-replicate k c nought nought h) ∙ nothing
 
-  pub cleared-within : (b c : ℕ) → c < k → Within b (columnsAt meaning table c)
-  cleared-within b c h = subst (Within b) (sym (zero-at c h)) (zeros_within b columns)
+  pub cleared_within : (b c : ℕ) → c < k → Within b (columns_at meaning table c)
+  cleared_within b c h = subst (Within b) (sym (zero-at c h)) (zeros_within b columns)
 
-  pub cleared-weighs : (c : ℕ) → c < k → weightAt meaning table c ≡ pos 0
-  cleared-weighs c h = ap weight (zero-at c h) ∙ weight-zeros columns
+  pub cleared_weighs : (c : ℕ) → c < k → weight_at meaning table c ≡ pos 0
+  cleared_weighs c h = ap weight (zero-at c h) ∙ weight_zeros columns
 
 module _ (n : ℕ) (stands : ℕ → ℕ → Bool) (cost : ℕ → ℕ → ℤ) where
   -- no left block has made an offer, and no right block has a price
-  pub cheapest-none : (priced : ℕ → Bool) (row : ℕ → ℕ) (v : ℕ → ℤ) → ((c : ℕ) → priced c ≡ false) → CheapestOf 0 n stands cost priced row v
-  cheapest-none priced row v none = record {
+  pub cheapest_none : (priced : ℕ → Bool) (row : ℕ → ℕ) (v : ℕ → ℤ) → ((c : ℕ) → priced c ≡ false) → CheapestOf 0 n stands cost priced row v
+  cheapest_none priced row v none = record {
     inside = λ c t. absurd (both_ways (priced c) (none c) t);
     low = λ c t. absurd (both_ways (priced c) (none c) t);
     stood = λ c t. absurd (both_ways (priced c) (none c) t);
@@ -42,11 +42,11 @@ module _ (n : ℕ) (stands : ℕ → ℕ → Bool) (cost : ℕ → ℕ → ℤ) 
       (to_is : (c : ℕ) → to c ≡ stands m c) (to_inside : (c : ℕ) → to c ≡ true → c < n) (own_is : (c : ℕ) → c < n → own c ≡ cost m c) (priced' : ℕ → Bool) (joined : (c : ℕ) → priced' c ≡ (priced c || to c))
       (row' : ℕ → ℕ) (v' : ℕ → ℤ) (offers : (c : ℕ) → Offered shift own m to priced v row v' row' c) where
     -- the price of c is what it costs with a left block that it stands with
-    Cost-of-one : ℕ → Type 0
-    Cost-of-one c = (c < n) × (row' c < m + 1) × (stands (row' c) c ≡ true) × (v' c ≡ cost (row' c) c)
+    CostOfOne : ℕ → Type 0
+    CostOfOne c = (c < n) × (row' c < m + 1) × (stands (row' c) c ≡ true) × (v' c ≡ cost (row' c) c)
 
-    keeps : (c : ℕ) → priced c ≡ true → v' c ≡ v c → row' c ≡ row c → Cost-of-one c
-    unfolding Cost-of-one
+    keeps : (c : ℕ) → priced c ≡ true → v' c ≡ v c → row' c ≡ row c → CostOfOne c
+    unfolding CostOfOne
     keeps c t e r =
         let low = so_far.low c t in (
           so_far.inside c t,
@@ -55,11 +55,11 @@ module _ (n : ℕ) (stands : ℕ → ℕ → Bool) (cost : ℕ → ℕ → ℤ) 
           e ∙ so_far.costs c t ∙ ap (λ z. cost z c) (sym r),
         )
 
-    takes : (c : ℕ) → to c ≡ true → v' c ≡ cost m c → row' c ≡ m → Cost-of-one c
-    unfolding Cost-of-one
+    takes : (c : ℕ) → to c ≡ true → v' c ≡ cost m c → row' c ≡ m → CostOfOne c
+    unfolding CostOfOne
     takes c t e r = (to_inside c t, omega arith, ap (λ z. stands z c) r ∙ sym (to_is c) ∙ t, e ∙ ap (λ z. cost z c) (sym r))
 
-    one : (c : ℕ) → priced' c ≡ true → Cost-of-one c
+    one : (c : ℕ) → priced' c ≡ true → CostOfOne c
     one c t = ⊎_elim
         (λ (y : to c ≡ true). ⊎_elim
         (λ w. keeps c w.0 w.1 w.2)
@@ -74,9 +74,9 @@ module _ (n : ℕ) (stands : ℕ → ℕ → Bool) (cost : ℕ → ℕ → ℤ) 
     falls : (c : ℕ) → priced c ≡ true → v' c ≤ℤ v c
     falls c t = ⊎_elim (λ (y : to c ≡ true). (offers c).less y t) (λ (f : to c ≡ false). omega (arith, ints, ((offers c).others f).0)) (cases_Bool (to c))
 
-    pub cheapest-more : CheapestOf (m + 1) n stands cost priced' row' v'
-    unfolding Cost-of-one
-    cheapest-more = record {
+    pub cheapest_more : CheapestOf (m + 1) n stands cost priced' row' v'
+    unfolding CostOfOne
+    cheapest_more = record {
       inside = λ c t. (one c t).0;
       low = λ c t. (one c t).1;
       stood = λ c t. (one c t).2;

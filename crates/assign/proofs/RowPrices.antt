@@ -21,12 +21,12 @@ pub record PricedBelow (k : ℕ) (cost : ℕ → ℕ → ℤ) (p : ℕ → ℕ) 
   pub bound : (l : ℕ) → l < k → Within 201000000000 (left l)
 
 module _ (cost : ℕ → ℕ → ℤ) (p : ℕ → ℕ) (right : ℕ → ℤ) where
-  pub priced-none : (left : ℕ → List ℤ) → PricedBelow 0 cost p right left
-  priced-none left = record { tight = λ l h. absurd (omega arith); bound = λ l h. absurd (omega arith) }
+  pub priced_none : (left : ℕ → List ℤ) → PricedBelow 0 cost p right left
+  priced_none left = record { tight = λ l h. absurd (omega arith); bound = λ l h. absurd (omega arith) }
 
-  pub priced-more : (k : ℕ) (left left' : ℕ → List ℤ) → PricedBelow k cost p right left → weight (left' k) ≡ cost k (p k) -ℤ right (p k) → Within 201000000000 (left' k)
+  pub priced_more : (k : ℕ) (left left' : ℕ → List ℤ) → PricedBelow k cost p right left → weight (left' k) ≡ cost k (p k) -ℤ right (p k) → Within 201000000000 (left' k)
       → ((l : ℕ) → (l ≡ k → ⊥) → left' l ≡ left l) → PricedBelow (k + 1) cost p right left'
-  priced-more k left left' so_far new near others = record {
+  priced_more k left left' so_far new near others = record {
     tight = λ l h. ⊎_elim
         (λ (e : l ≡ k). subst (λ (z : ℕ). weight (left' z) +ℤ right (p z) ≡ cost z (p z)) (sym e) (omega (arith, ints)))
         (λ (e : l ≡ k → ⊥). ap (λ (z : List ℤ). weight z +ℤ right (p l)) (others l e) ∙ so_far.tight l (omega arith))

@@ -5,21 +5,21 @@ use Rattle.std.proofs.lemmas.Int.{ints}
 use Rattle.std.proofs.lemmas.Bool.{cases_Bool, both_ways, lt-ltb}
 use Rattle.assign.specs.Search.{Kept, Grown}
 use Rattle.assign.specs.Offers.{Offered}
-use Rattle.assign.specs.Trees.{stageAtFirst}
+use Rattle.assign.specs.Trees.{stage_at_first}
 use Rattle.assign.proofs.Growing.{started}
-use Rattle.assign.proofs.Turns.{stage-reached, stage-none, reached-is}
+use Rattle.assign.proofs.Turns.{stage_reached, stage_none, reached_is}
 use Rattle.assign.proofs.Adding.{from_row}
 
-pub started-row : (n k : ℕ) (stands : ℕ → ℕ → Bool) (cost : ℕ → ℕ → ℤ) (out : ℕ → Bool) (p o : ℕ → ℕ) (v : ℕ → ℤ) → Kept n stands cost out p o v
+pub started_row : (n k : ℕ) (stands : ℕ → ℕ → Bool) (cost : ℕ → ℕ → ℤ) (out : ℕ → Bool) (p o : ℕ → ℕ) (v : ℕ → ℤ) → Kept n stands cost out p o v
     → (none : ℕ → Bool) → ((c : ℕ) → none c ≡ false) → (shift : ℤ) → shift ≡ pos 0 → (row : ℕ → ℤ) → ((c : ℕ) → c < n → row c ≡ cost k c)
     → (d₀ : ℕ → ℤ) (via₀ : ℕ → ℕ) (d : ℕ → ℤ) (via : ℕ → ℕ) → ((c : ℕ) → Offered shift row k (stands k) none d₀ via₀ d via c)
-    → Grown n stands cost out (from_row stands cost k) p o v d (stageAtFirst n (stands k)) via 0 n
-started-row n k stands cost out p o v kept none empty shift zero row row_is d₀ via₀ d via offers =
-    started n stands cost out (from_row stands cost k) p o v kept d (stageAtFirst n (stands k)) via
+    → Grown n stands cost out (from_row stands cost k) p o v d (stage_at_first n (stands k)) via 0 n
+started_row n k stands cost out p o v kept none empty shift zero row row_is d₀ via₀ d via offers =
+    started n stands cost out (from_row stands cost k) p o v kept d (stage_at_first n (stands k)) via
     (λ c h. ⊎_elim
-    (λ (r : stands k c ≡ true). omega (arith, stage-reached (λ j. ltb j n) (stands k) (replicate 64 0) c (lt-ltb c n h) r))
-    (λ (r : stands k c ≡ false). omega (arith, stage-none (λ j. ltb j n) (stands k) (replicate 64 0) c (lt-ltb c n h) r)) (cases_Bool (stands k c)))
-    (λ c h r. stage-reached (λ j. ltb j n) (stands k) (replicate 64 0) c (lt-ltb c n h) r)
+    (λ (r : stands k c ≡ true). omega (arith, stage_reached (λ j. ltb j n) (stands k) (replicate 64 0) c (lt-ltb c n h) r))
+    (λ (r : stands k c ≡ false). omega (arith, stage_none (λ j. ltb j n) (stands k) (replicate 64 0) c (lt-ltb c n h) r)) (cases_Bool (stands k c)))
+    (λ c h r. stage_reached (λ j. ltb j n) (stands k) (replicate 64 0) c (lt-ltb c n h) r)
     (λ c h e.
-    let r = (reached-is (λ j. ltb j n) (stands k) (replicate 64 0) c e).1 in
+    let r = (reached_is (λ j. ltb j n) (stands k) (replicate 64 0) c e).1 in
     ⊎_elim (λ w. absurd (both_ways (none c) (empty c) w.0)) (λ w. (w.1, r, omega (arith, ints, w.0, row_is c h))) ((offers c).change r))

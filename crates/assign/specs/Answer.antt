@@ -3,7 +3,7 @@ use Rattle.std.specs.Prelude.{◌≡◌, ℕ, ◌*◌, List, length, ℤ, Ok, Er
 use Rattle.pairing.specs.Grid.{Grid, Optimum}
 use Rattle.pairing.specs.Prices.{Greatest}
 use Rattle.pairing.specs.Largest.{Unpaired}
-use Rattle.tables.specs.Said.{columnsAt, gridOf, Bounded, Ordered}
+use Rattle.tables.specs.Said.{columns_at, grid_of, Bounded, Ordered}
 use Rattle.tables.specs.Fit.{Fit, Misfit, Sized}
 use Rattle.tables.specs.declared.Unfit.{Unfit}
 use Rattle.assign.specs.declared.Outcome.{Outcome}
@@ -22,7 +22,7 @@ pub record Same {K : Type 0} (partners : List ℕ) (left right : List K) (partne
 -- an optimum pairing of the grid, and the greatest valid prices with no right price above zero, all within 10^12
 pub record Solved {K : Type 0} (columns : ℕ) (meaning : K → List ℤ) (g : Grid) (partners : List ℕ) (left right : List K) : Type 0 where
   pub optimum : Optimum g partners
-  pub greatest : Greatest g (columnsAt meaning left) (columnsAt meaning right) partners
+  pub greatest : Greatest g (columns_at meaning left) (columns_at meaning right) partners
   pub left_near : Bounded meaning 1000000000000 g.size left
   pub right_near : Bounded meaning 1000000000000 g.size right
 
@@ -34,6 +34,6 @@ Answers columns meaning g partners left right partners' left' right' (Unmatched 
 abbrev pub Assigned : {K : Type 0} → ℕ → (K → List ℤ) → (n : ℕ) (costs : List K) (standing partners : List ℕ) (left right : List K) (partners' : List ℕ) (left' right' : List K) → Result Outcome Unfit → Type 0
 Assigned columns meaning n costs standing partners left right partners' left' right' (Ok outcome) =
     Fit n (Lengths n costs standing partners left right) (Ordered meaning (n * n) costs standing)
-    × Answers columns meaning (gridOf columns meaning n costs standing) partners left right partners' left' right' outcome
+    × Answers columns meaning (grid_of columns meaning n costs standing) partners left right partners' left' right' outcome
 Assigned columns meaning n costs standing partners left right partners' left' right' (Err e) =
     Misfit n (Lengths n costs standing partners left right) (Ordered meaning (n * n) costs standing) e × Same partners left right partners' left' right'

@@ -4,8 +4,8 @@ use Rattle.cost.specs.Columns.{Within}
 use Rattle.blockset.specs.declared.BlockSet.{BlockSet}
 use Rattle.pairing.specs.Grid.{at}
 use Rattle.matching.specs.Rows.{holds}
-use Rattle.tables.specs.Said.{columnsAt, Bounded}
-use Rattle.assign.specs.Weighed.{weightAt, costWeight}
+use Rattle.tables.specs.Said.{columns_at, Bounded}
+use Rattle.assign.specs.Weighed.{weight_at, cost_weight}
 use Rattle.assign.specs.Search.{Kept}
 
 -- The price of each right block is the least cost that it stands at with a left block below m, and `row` has a left block that it costs that with. `priced` has the right blocks
@@ -27,6 +27,6 @@ pub record Chosen (n : ℕ) (priced : ℕ → Bool) (row : ℕ → ℕ) (out : �
 
 -- a pairing with prices that go with it; the price of a right block that was never taken is still a cost, and no price is far
 pub record Paired {K : Type 0} (meaning : K → List ℤ) (rows : List BlockSet) (costs : List K) (out : ℕ → Bool) (partners owner : List ℕ) (right : List K) : Type 0 where
-  pub kept : Kept (length rows) (holds rows) (costWeight meaning (length rows) costs) out (at partners) (at owner) (weightAt meaning right)
+  pub kept : Kept (length rows) (holds rows) (cost_weight meaning (length rows) costs) out (at partners) (at owner) (weight_at meaning right)
   pub priced : Bounded meaning 500000000000 (length rows) right
-  pub unsold : (c : ℕ) → c < length rows → length rows ≤ at owner c → Within 1000000000 (columnsAt meaning right c)
+  pub unsold : (c : ℕ) → c < length rows → length rows ≤ at owner c → Within 1000000000 (columns_at meaning right c)

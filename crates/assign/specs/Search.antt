@@ -61,18 +61,18 @@ pub record Way (n f : ℕ) (out : ℕ → Bool) (stage via p o : ℕ → ℕ) : 
   pub source : (c : ℕ) → c < n → 2 ≤ stage c → out (via c) ≡ false → (2 ≤ stage (p (via c))) × (stage (p (via c)) < stage c)
 
 -- left block l is paired once k is
-abbrev pub Now-paired : (k : ℕ) (out : ℕ → Bool) → ℕ → Type 0
-Now-paired k out l = (out l ≡ false) ⊎ (l ≡ k)
+abbrev pub NowPaired : (k : ℕ) (out : ℕ → Bool) → ℕ → Type 0
+NowPaired k out l = (out l ≡ false) ⊎ (l ≡ k)
 
 -- the pairing after the exchange along the chain from f, which ends at k: a pair is an old one, or one of the chain
 pub record Flipped (n k f : ℕ) (out : ℕ → Bool) (stage via p o p' o' : ℕ → ℕ) : Type 0 where
   pub root : k < n
   pub unpaired : out k ≡ true
-  pub below : (l : ℕ) → l < n → Now-paired k out l → p' l < n
-  pub owned : (l : ℕ) → l < n → Now-paired k out l → o' (p' l) ≡ l
-  pub owns : (c : ℕ) → c < n → o' c < n → Now-paired k out (o' c) × (p' (o' c) ≡ c)
+  pub below : (l : ℕ) → l < n → NowPaired k out l → p' l < n
+  pub owned : (l : ℕ) → l < n → NowPaired k out l → o' (p' l) ≡ l
+  pub owns : (c : ℕ) → c < n → o' c < n → NowPaired k out (o' c) × (p' (o' c) ≡ c)
   pub free : (c : ℕ) → c < n → n ≤ o' c → (o' c ≡ o c) × (c ≢ f)
-  pub came : (l : ℕ) → l < n → Now-paired k out l → ((out l ≡ false) × (p' l ≡ p l)) ⊎ ((via (p' l) ≡ l) × (2 ≤ stage (p' l)))
+  pub came : (l : ℕ) → l < n → NowPaired k out l → ((out l ≡ false) × (p' l ≡ p l)) ⊎ ((via (p' l) ≡ l) × (2 ≤ stage (p' l)))
 
 -- the prices after a way to the free right block f is found: that of a taken right block falls to its distance short of that of f
 pub record Lowered (n f : ℕ) (d : ℕ → ℤ) (stage : ℕ → ℕ) (v v' : ℕ → ℤ) : Type 0 where

@@ -6,7 +6,7 @@
 #![tactic(auto)]
 
 ghost use Rattle.std.specs.Prelude.{◌≡◌, ℕ, ◌*◌, ◌≤◌, List, length, MatchOption};
-ghost use Rattle.grid.specs.Tables.{byte_of, saysStands};
+ghost use Rattle.grid.specs.Tables.{byte_of, says_stands};
 ghost use Rattle.pairing.specs.Grid.{Perfect};
 ghost use Rattle.pairing.specs.Largest.{Unpaired};
 ghost use Rattle.matching.specs.Rows.{holds};
@@ -87,7 +87,7 @@ pub fn optimum<K: Cost>(
 fn find_shortfall(standing: &[u8], rows: &mut [BlockSet]) -> Option<Shortfall>
     requires few { length rows.old ≤ 64 }
     requires stood { length standing.now ≡ length rows.old * length rows.old }
-    ensures made { StandingRows (length rows.new) (λ l r. saysStands (byte_of (length rows.new) standing.now l r)) rows.new }
+    ensures made { StandingRows (length rows.new) (λ l r. says_stands (byte_of (length rows.new) standing.now l r)) rows.new }
     ensures found { MatchOption result ((q : List ℕ) × Perfect (length rows.new) (holds rows.new) q) (λ s. Unpaired (length rows.new) (holds rows.new) s.crowd s.short) }
 {
     let Ok(()) = standing_rows(standing, rows) else {

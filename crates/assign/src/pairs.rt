@@ -6,7 +6,7 @@ ghost use Rattle.pairing.specs.Grid.{at, Perfect};
 ghost use Rattle.matching.specs.Rows.{holds};
 ghost use Rattle.assign.specs.Weighed.{Lent};
 ghost use Rattle.assign.specs.Search.{Way, Flipped};
-ghost use Rattle.assign.specs.Trees.{stageIn};
+ghost use Rattle.assign.specs.Trees.{stage_in};
 ghost use Rattle.assign.specs.Pairs.{Chosen, Paired};
 
 use crate::prices::lower;
@@ -47,8 +47,8 @@ pub fn flip(
     owner: &mut [u8; 64],
 ) -> usize
     requires few { length partners.old ≤ 64 }
-    requires way { Way (length partners.old) goal (has out) (stageIn tree.now) (at tree.now.via) (at partners.old) (at owner.old) }
-    ensures { Flipped (length partners.old) result goal (has out) (stageIn tree.now) (at tree.now.via) (at partners.old) (at owner.old) (at partners.new) (at owner.new) }
+    requires way { Way (length partners.old) goal (has out) (stage_in tree.now) (at tree.now.via) (at partners.old) (at owner.old) }
+    ensures { Flipped (length partners.old) result goal (has out) (stage_in tree.now) (at tree.now.via) (at partners.old) (at owner.old) (at partners.new) (at owner.new) }
 {
     let mut block = goal;
     'chain: loop {

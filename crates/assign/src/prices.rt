@@ -5,10 +5,10 @@ ghost use Rattle.cost.specs.Columns.{Within};
 ghost use Rattle.blockset.specs.Has.{has};
 ghost use Rattle.pairing.specs.Grid.{at};
 ghost use Rattle.matching.specs.Rows.{holds};
-ghost use Rattle.tables.specs.Said.{Bounded, columnsAt};
-ghost use Rattle.assign.specs.Weighed.{weightAt, costWeight, Lent};
+ghost use Rattle.tables.specs.Said.{Bounded, columns_at};
+ghost use Rattle.assign.specs.Weighed.{weight_at, cost_weight, Lent};
 ghost use Rattle.assign.specs.Search.{Lowered};
-ghost use Rattle.assign.specs.Trees.{stageIn};
+ghost use Rattle.assign.specs.Trees.{stage_in};
 ghost use Rattle.assign.specs.Pairs.{CheapestOf, Paired};
 ghost use Rattle.assign.specs.Prices.{Topmost};
 
@@ -31,7 +31,7 @@ fn clear<K: Cost>(table: &mut [K])
 pub fn price_cheapest<K: Cost>(costs: &[K], rows: &[BlockSet], right: &mut [K]) -> Cheapest
     requires lent { Lent K.meaning rows.now costs.now }
     requires rights { length right.old ≡ length rows.now }
-    ensures cheapest { CheapestOf (length rows.now) (length rows.now) (holds rows.now) (costWeight K.meaning (length rows.now) costs.now) (has result.priced) (at result.row) (weightAt K.meaning right.new) }
+    ensures cheapest { CheapestOf (length rows.now) (length rows.now) (holds rows.now) (cost_weight K.meaning (length rows.now) costs.now) (has result.priced) (at result.row) (weight_at K.meaning right.new) }
     ensures bound { Bounded K.meaning 1000000000 (length rows.now) right.new }
 {
     clear(right);
@@ -59,12 +59,12 @@ pub fn lower<K: Cost>(goal: usize, tree: &Tree, dist: &[K], right: &mut [K])
     requires few { length dist.now ≤ 64 }
     requires sized { length right.old ≡ length dist.now }
     requires inside { goal < length dist.now }
-    requires far { (c : ℕ) → c < length dist.now → has tree.now.open c ≡ false → Within 200000000000 (columnsAt K.meaning dist.now c) }
+    requires far { (c : ℕ) → c < length dist.now → has tree.now.open c ≡ false → Within 200000000000 (columns_at K.meaning dist.now c) }
     requires taken { has tree.now.open goal ≡ false }
-    requires unsold { Within 1000000000 (columnsAt K.meaning right.old goal) }
+    requires unsold { Within 1000000000 (columns_at K.meaning right.old goal) }
     requires priced { Bounded K.meaning 500000000000 (length dist.now) right.old }
-    ensures lowered { Lowered (length dist.now) goal (weightAt K.meaning dist.now) (stageIn tree.now) (weightAt K.meaning right.old) (weightAt K.meaning right.new) }
-    ensures same { (c : ℕ) → c < length dist.now → has tree.now.open c ≡ true → columnsAt K.meaning right.new c ≡ columnsAt K.meaning right.old c }
+    ensures lowered { Lowered (length dist.now) goal (weight_at K.meaning dist.now) (stage_in tree.now) (weight_at K.meaning right.old) (weight_at K.meaning right.new) }
+    ensures same { (c : ℕ) → c < length dist.now → has tree.now.open c ≡ true → columns_at K.meaning right.new c ≡ columns_at K.meaning right.old c }
     ensures bound { Bounded K.meaning 500000000000 (length dist.now) right.new }
 {
     let far = exact_difference(dist[goal], right[goal]);
@@ -89,7 +89,7 @@ fn price_rows<K: Cost>(
     requires rights { length right.now ≡ length rows.now }
     requires pairs { (l : ℕ) → l < length rows.now → holds rows.now l (at partners.now l) ≡ true }
     requires far { Bounded K.meaning 200000000000 (length rows.now) right.now }
-    ensures tight { (l : ℕ) → l < length rows.now → weightAt K.meaning left.new l +ℤ weightAt K.meaning right.now (at partners.now l) ≡ costWeight K.meaning (length rows.now) costs.now l (at partners.now l) }
+    ensures tight { (l : ℕ) → l < length rows.now → weight_at K.meaning left.new l +ℤ weight_at K.meaning right.now (at partners.now l) ≡ cost_weight K.meaning (length rows.now) costs.now l (at partners.now l) }
     ensures bound { Bounded K.meaning 201000000000 (length rows.now) left.new }
 {
     let n = rows.len();
@@ -114,7 +114,7 @@ pub fn price_greatest<K: Cost>(
     requires lefts { length left.old ≡ length rows.now }
     requires rights { length right.old ≡ length rows.now }
     requires paired { Paired K.meaning rows.now costs.now (λ _. false) partners.now owner.now right.old }
-    ensures topmost { Topmost K.meaning rows.now costs.now partners.now owner.now (weightAt K.meaning right.old) left.new right.new }
+    ensures topmost { Topmost K.meaning rows.now costs.now partners.now owner.now (weight_at K.meaning right.old) left.new right.new }
     ensures lefts { Bounded K.meaning 1000000000000 (length rows.now) left.new }
     ensures rights { Bounded K.meaning 1000000000000 (length rows.now) right.new }
 {

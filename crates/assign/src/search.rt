@@ -8,8 +8,8 @@ ghost use Rattle.cost.proofs.Weights.{weight};
 ghost use Rattle.blockset.specs.Has.{has};
 ghost use Rattle.pairing.specs.Grid.{at};
 ghost use Rattle.matching.specs.Rows.{holds};
-ghost use Rattle.tables.specs.Said.{columnsAt, Bounded};
-ghost use Rattle.assign.specs.Weighed.{weightAt, BoundedOn, Lent};
+ghost use Rattle.tables.specs.Said.{columns_at, Bounded};
+ghost use Rattle.assign.specs.Weighed.{weight_at, BoundedOn, Lent};
 ghost use Rattle.assign.specs.Offers.{Offered, Nearest};
 ghost use Rattle.assign.specs.Trees.{Grows};
 
@@ -35,8 +35,8 @@ pub fn offer<K: Cost>(
     requires inside { (c : ℕ) → has to c ≡ true → c < length costs.now }
     requires modest { BoundedOn K.meaning 1000000000 (has to) costs.now }
     requires near { Within 400000000000 (K.meaning shift) }
-    ensures offered { (c : ℕ) → Offered (weight (K.meaning shift)) (weightAt K.meaning costs.now) from (has to) (has reached) (weightAt K.meaning dist.old) (at via.old) (weightAt K.meaning dist.new) (at via.new) c }
-    ensures bound { (b c : ℕ) → Within b (K.meaning shift) → b ≤ 400000000000 → (has to c ≡ false → Within (b + 1000000000) (columnsAt K.meaning dist.old c)) → (has reached c ≡ true → Within (b + 1000000000) (columnsAt K.meaning dist.old c)) → Within (b + 1000000000) (columnsAt K.meaning dist.new c) }
+    ensures offered { (c : ℕ) → Offered (weight (K.meaning shift)) (weight_at K.meaning costs.now) from (has to) (has reached) (weight_at K.meaning dist.old) (at via.old) (weight_at K.meaning dist.new) (at via.new) c }
+    ensures bound { (b c : ℕ) → Within b (K.meaning shift) → b ≤ 400000000000 → (has to c ≡ false → Within (b + 1000000000) (columns_at K.meaning dist.old c)) → (has reached c ≡ true → Within (b + 1000000000) (columns_at K.meaning dist.old c)) → Within (b + 1000000000) (columns_at K.meaning dist.new c) }
 {
     let mut rest = to;
     while let Some(c) = rest.least() {
@@ -55,7 +55,7 @@ pub fn nearest<K: Cost>(set: BlockSet, dist: &[K], right: &[K]) -> Option<usize>
     requires inside { (c : ℕ) → has set c ≡ true → c < length dist.now }
     requires far { BoundedOn K.meaning 200000000000 (has set) dist.now }
     requires priced { Bounded K.meaning 500000000000 (length dist.now) right.now }
-    ensures { MatchOption result ((c : ℕ) → has set c ≡ false) (λ a. (a < length dist.now) × Nearest (has set) (weightAt K.meaning right.now) (weightAt K.meaning dist.now) a) }
+    ensures { MatchOption result ((c : ℕ) → has set c ≡ false) (λ a. (a < length dist.now) × Nearest (has set) (weight_at K.meaning right.now) (weight_at K.meaning dist.now) a) }
 {
     let mut best = set.least()?;
     let mut least = exact_difference(dist[best], right[best]);
@@ -90,7 +90,7 @@ pub fn grow<K: Cost>(
     requires near { BoundedOn K.meaning 1000000000 (has start) dist.old }
     requires priced { Bounded K.meaning 500000000000 (length rows.now) right.now }
     ensures grown { Grows K.meaning rows.now costs.now owner.now right.now (has start) via dist.old dist.new result }
-    ensures bound { (c : ℕ) → c < length rows.now → has result.open c ≡ false → Within 200000000000 (columnsAt K.meaning dist.new c) }
+    ensures bound { (c : ℕ) → c < length rows.now → has result.open c ≡ false → Within 200000000000 (columns_at K.meaning dist.new c) }
 {
     let n = rows.len();
     let mut open = BlockSet::all(n);

@@ -11,56 +11,56 @@ use Rattle.cost.specs.declared.plain_kind.Plain.{Plain}
 use Rattle.blockset.specs.declared.BlockSet.{BlockSet}
 use Rattle.pairing.specs.Grid.{Sane, Optimum}
 use Rattle.pairing.specs.Optima.{In, optima}
-use Rattle.pairing.proofs.Duality.{valid-alike}
-use Rattle.pairing.proofs.Listing.{in-perfects, perfects-ascend, optima-are}
+use Rattle.pairing.proofs.Duality.{valid_alike}
+use Rattle.pairing.proofs.Listing.{in_perfects, perfects_ascend, optima_are}
 use Rattle.matching.specs.Rows.{holds, Pairs, pairings}
 use Rattle.matching.specs.Fit.{Unfits}
 use Rattle.matching.specs.declared.Unfit.{Unfit}
 use Rattle.matching.specs.declared.Unfit.TheVariants.{Size, Length, Pairing}
 use Rattle.matching.specs.Answers.{Place}
-use Rattle.tables.specs.Said.{columnsAt, Ordered}
+use Rattle.tables.specs.Said.{columns_at, Ordered}
 use Rattle.tables.specs.Rows.{TightRows}
-use Rattle.tables.proofs.Orderly.{sane-ordered}
-use Rattle.tables.proofs.Tightness.{pairs-optimum}
+use Rattle.tables.proofs.Orderly.{sane_ordered}
+use Rattle.tables.proofs.Tightness.{pairs_optimum}
 use Rattle.bench_calls.specs.Settling.{column, grid, Found, Settled}
 
 -- the first of a list is in it
-first-in : (ps : List (List ℕ)) (q : List ℕ) → Place ps 0 q → In q ps
-first-in [] q h = absurd (omega (arith, h.0))
-first-in (p ∷ ps) q h = inl (sym h.1)
+first_in : (ps : List (List ℕ)) (q : List ℕ) → Place ps 0 q → In q ps
+first_in [] q h = absurd (omega (arith, h.0))
+first_in (p ∷ ps) q h = inl (sym h.1)
 
 module _ (n : ℕ) (costs : List Plain) (standing p : List ℕ) (left right : List Plain) (rows : List BlockSet) (few : n ≤ 64) (whole : length costs ≡ n * n)
     (ordered : Ordered column (n * n) costs standing) (solved : Found n costs standing p left right) (sized : length rows ≡ n)
-    (made : TightRows (grid n costs standing) (columnsAt column left) (columnsAt column right) rows) where
+    (made : TightRows (grid n costs standing) (columns_at column left) (columns_at column right) rows) where
   sane : Sane (grid n costs standing)
-  sane = sane-ordered column 1 (λ x. refl) n costs standing few whole ordered
+  sane = sane_ordered column 1 (λ x. refl) n costs standing few whole ordered
 
   are : (q : List ℕ) → Pairs rows q ↔ Optimum (grid n costs standing) q
-  are q = pairs-optimum (grid n costs standing) (columnsAt column left) (columnsAt column right) rows sane made sized p q solved.optimum.perfect solved.greatest.valid
+  are q = pairs_optimum (grid n costs standing) (columns_at column left) (columns_at column right) rows sane made sized p q solved.optimum.perfect solved.greatest.valid
 
   pub accepted : Pairs rows p
   accepted = (are p).1 solved.optimum
 
   listed : pairings rows ≡ optima (grid n costs standing)
   listed =
-      (optima-are true (grid n costs standing)).only (pairings rows) (perfects-ascend (length rows) (holds rows))
-      (λ q. (λ i. (are q).0 ((in-perfects (length rows) (holds rows) q).0 i), λ o. (in-perfects (length rows) (holds rows) q).1 ((are q).1 o)))
+      (optima_are true (grid n costs standing)).only (pairings rows) (perfects_ascend (length rows) (holds rows))
+      (λ q. (λ i. (are q).0 ((in_perfects (length rows) (holds rows) q).0 i), λ o. (in_perfects (length rows) (holds rows) q).1 ((are q).1 o)))
 
   pub settled : (q : List ℕ) → Place (pairings rows) 0 q → Settled n costs standing q left right
   settled q h =
-      let o : Optimum (grid n costs standing) q = (are q).0 ((in-perfects (length rows) (holds rows) q).0 (first-in (pairings rows) q h)) in
+      let o : Optimum (grid n costs standing) q = (are q).0 ((in_perfects (length rows) (holds rows) q).0 (first_in (pairings rows) q h)) in
       let g = solved.greatest in
       record {
         first = subst (λ ps. Place ps 0 q) listed h;
         greatest = record {
-          valid = (valid-alike true (grid n costs standing) (columnsAt column left) (columnsAt column right) p q sane solved.optimum.perfect g.valid o.perfect).0.0 o;
+          valid = (valid_alike true (grid n costs standing) (columns_at column left) (columns_at column right) p q sane solved.optimum.perfect g.valid o.perfect).0.0 o;
           low = g.low;
-          most = λ left' right' v. g.most left' right' ((valid-alike true (grid n costs standing) left' right' q p sane o.perfect v solved.optimum.perfect).0.0 solved.optimum);
+          most = λ left' right' v. g.most left' right' ((valid_alike true (grid n costs standing) left' right' q p sane o.perfect v solved.optimum.perfect).0.0 solved.optimum);
         };
       }
 
 -- rows that fit a perfect pairing over them are not refused
-pub never-refused : (rows : List BlockSet) (p : List ℕ) → length rows ≤ 64 → length p ≡ length rows → Pairs rows p → (e : Unfit) → Unfits rows p e → ⊥
-never-refused rows p few same pairs Size h = omega (arith, few, h)
-never-refused rows p few same pairs Length h = h.1 same
-never-refused rows p few same pairs Pairing h = h.2 pairs
+pub never_refused : (rows : List BlockSet) (p : List ℕ) → length rows ≤ 64 → length p ≡ length rows → Pairs rows p → (e : Unfit) → Unfits rows p e → ⊥
+never_refused rows p few same pairs Size h = omega (arith, few, h)
+never_refused rows p few same pairs Length h = h.1 same
+never_refused rows p few same pairs Pairing h = h.2 pairs

@@ -7,7 +7,7 @@ use Rattle.pairing.specs.Prices.{Greatest}
 use Rattle.pairing.specs.Largest.{Unpaired}
 use Rattle.pairing.specs.Optima.{optima}
 use Rattle.matching.specs.Answers.{Place}
-use Rattle.tables.specs.Said.{columnsAt, gridOf, Ordered}
+use Rattle.tables.specs.Said.{columns_at, grid_of, Ordered}
 use Rattle.tables.specs.Fit.{Fit, Misfit}
 use Rattle.tables.specs.declared.Unfit.{Unfit}
 use Rattle.assign.specs.Answer.{Lengths, Same, Solved}
@@ -18,7 +18,7 @@ column x = railed x.0 ∷ []
 
 -- the grid that the pair tables state
 abbrev pub grid : ℕ → List Plain → List ℕ → Grid
-grid n costs standing = gridOf 1 column n costs standing
+grid n costs standing = grid_of 1 column n costs standing
 
 -- the tables fit and are in order
 abbrev pub Usable : ℕ → List Plain → (standing partners : List ℕ) (left right : List Plain) → Type 0
@@ -42,4 +42,4 @@ Found n costs standing = Solved 1 column (grid n costs standing)
 -- the first of all optimum pairings, and the greatest prices
 pub record Settled (n : ℕ) (costs : List Plain) (standing partners : List ℕ) (left right : List Plain) : Type 0 where
   pub first : Place (optima (grid n costs standing)) 0 partners
-  pub greatest : Greatest (grid n costs standing) (columnsAt column left) (columnsAt column right) partners
+  pub greatest : Greatest (grid n costs standing) (columns_at column left) (columns_at column right) partners

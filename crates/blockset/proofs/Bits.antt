@@ -44,11 +44,11 @@ bit-pow zero (suc j) = bit-zero j ∙ sym (ne_eqb (suc j) 0 (λ e. omega arith))
 bit-pow (suc i) zero = let e : 2 ^ suc i % 2 ≡ 0 = omega (arith, pow-suc 2 i) in ap (λ x. eqb x 1) e ∙ sym (ne_eqb 0 (suc i) (λ e. omega arith))
 bit-pow (suc i) (suc j) = let e : 2 ^ suc i / 2 ≡ 2 ^ i = omega (arith, pow-suc 2 i) in ap (λ x. bit x j) e ∙ bit-pow i j ∙ grind (arith, nat_tests)
 
-pub bit-ones : (n j : ℕ) → bit (2 ^ n - 1) j ≡ ltb j n
+pub bit_ones : (n j : ℕ) → bit (2 ^ n - 1) j ≡ ltb j n
 unfolding bit
-bit-ones zero j = bit-zero j ∙ sym (le-ltb j 0 (omega arith))
-bit-ones (suc n) zero = let e : (2 ^ suc n - 1) % 2 ≡ 1 = omega (arith, pow-suc 2 n, pow_pos n) in ap (λ x. eqb x 1) e ∙ sym (lt-ltb 0 (suc n) (omega arith))
-bit-ones (suc n) (suc j) = let e : (2 ^ suc n - 1) / 2 ≡ 2 ^ n - 1 = omega (arith, pow-suc 2 n, pow_pos n) in ap (λ x. bit x j) e ∙ bit-ones n j ∙ grind (arith, nat_tests)
+bit_ones zero j = bit-zero j ∙ sym (le-ltb j 0 (omega arith))
+bit_ones (suc n) zero = let e : (2 ^ suc n - 1) % 2 ≡ 1 = omega (arith, pow-suc 2 n, pow_pos n) in ap (λ x. eqb x 1) e ∙ sym (lt-ltb 0 (suc n) (omega arith))
+bit_ones (suc n) (suc j) = let e : (2 ^ suc n - 1) / 2 ≡ 2 ^ n - 1 = omega (arith, pow-suc 2 n, pow_pos n) in ap (λ x. bit x j) e ∙ bit_ones n j ∙ grind (arith, nat_tests)
 
 -- above the bits of m
 pub bit_past : (w m i : ℕ) → m < 2 ^ w → w ≤ i → bit m i ≡ false
@@ -57,15 +57,15 @@ bit_past zero m i h l = let e : m ≡ 0 = omega arith in ap (λ x. bit x i) e �
 bit_past (suc w) m zero h l = absurd (omega arith)
 bit_past (suc w) m (suc i) h l = bit_past w (m / 2) i (omega (arith, pow-suc 2 w)) (omega arith)
 
-low-not : (x : ℕ) → x < 2 → eqb (1 - x) 1 ≡ not (eqb x 1)
-low-not x h = grind (arith, nat_tests)
+low_not : (x : ℕ) → x < 2 → eqb (1 - x) 1 ≡ not (eqb x 1)
+low_not x h = grind (arith, nat_tests)
 
 pub bit_not : (w m i : ℕ) → m < 2 ^ w → i < w → bit (2 ^ w - 1 - m) i ≡ not (bit m i)
 unfolding bit
 bit_not zero m i h l = absurd (omega arith)
 bit_not (suc w) m zero h l =
     let e : (2 ^ suc w - 1 - m) % 2 ≡ 1 - m % 2 = omega (arith, pow-suc 2 w) in
-    ap (λ x. eqb x 1) e ∙ low-not (m % 2) (omega arith)
+    ap (λ x. eqb x 1) e ∙ low_not (m % 2) (omega arith)
 bit_not (suc w) m (suc i) h l =
     let e : (2 ^ suc w - 1 - m) / 2 ≡ 2 ^ w - 1 - m / 2 = omega (arith, pow-suc 2 w) in
     ap (λ x. bit x i) e ∙ bit_not w (m / 2) i (omega (arith, pow-suc 2 w)) (omega arith)
@@ -79,24 +79,24 @@ unfolding bit
 bit_is m zero = let e : m % 2 ≡ m / 1 % 2 = omega arith in ap (λ x. eqb x 1) e
 bit_is m (suc i) = bit_is (m / 2) i ∙ ap (λ x. eqb (x % 2) 1) (shr-shr m 1 i ∙ ap (λ x. m / 2 ^ x) (omega arith))
 
-pub none-set : (w m : ℕ) → m < 2 ^ w → ((i : ℕ) → bit m i ≡ false) → m ≡ 0
+pub none_set : (w m : ℕ) → m < 2 ^ w → ((i : ℕ) → bit m i ≡ false) → m ≡ 0
 unfolding bit
-none-set zero m h f = omega arith
-none-set (suc w) m h f =
-    let e = none-set w (m / 2) (omega (arith, pow-suc 2 w)) (λ i. f (suc i)) in
+none_set zero m h f = omega arith
+none_set (suc w) m h f =
+    let e = none_set w (m / 2) (omega (arith, pow-suc 2 w)) (λ i. f (suc i)) in
     let low : m % 2 ≡ 1 → ⊥ = eqb-false (m % 2) 1 (f 0) in
     omega arith
 
 -- the lowest bit that is set
-lowest-at : (m d t k : ℕ) → m % 2 ≡ d → (t < k → bit (m / 2) t ≡ true) → under d t < suc k → bit m (under d t) ≡ true
+lowest_at : (m d t k : ℕ) → m % 2 ≡ d → (t < k → bit (m / 2) t ≡ true) → under d t < suc k → bit m (under d t) ≡ true
 unfolding bit
-lowest-at m zero t k e ih h = ih (omega arith)
-lowest-at m (suc d) t k e ih h = let e : m % 2 ≡ 1 = omega arith in ap (λ x. eqb x 1) e
+lowest_at m zero t k e ih h = ih (omega arith)
+lowest_at m (suc d) t k e ih h = let e : m % 2 ≡ 1 = omega arith in ap (λ x. eqb x 1) e
 
 pub lowest : (k m : ℕ) → count_trailing_zeros k m < k → bit m (count_trailing_zeros k m) ≡ true
 unfolding count_trailing_zeros
 lowest zero m h = absurd (omega arith)
-lowest (suc k) m h = lowest-at m (m % 2) (count_trailing_zeros k (m / 2)) k refl (lowest k (m / 2)) h
+lowest (suc k) m h = lowest_at m (m % 2) (count_trailing_zeros k (m / 2)) k refl (lowest k (m / 2)) h
 
 below_at : (m d t j : ℕ) → m % 2 ≡ d → ((i : ℕ) → i < t → bit (m / 2) i ≡ false) → j < under d t → bit m j ≡ false
 unfolding bit
@@ -104,26 +104,26 @@ below_at m zero t zero e ih h = ap (λ x. eqb x 1) e
 below_at m zero t (suc j) e ih h = ih j (omega arith)
 below_at m (suc d) t j e ih h = absurd (omega arith)
 
-pub below-lowest : (k m j : ℕ) → j < count_trailing_zeros k m → bit m j ≡ false
+pub below_lowest : (k m j : ℕ) → j < count_trailing_zeros k m → bit m j ≡ false
 unfolding count_trailing_zeros
-below-lowest zero m j h = absurd (omega arith)
-below-lowest (suc k) m j h = below_at m (m % 2) (count_trailing_zeros k (m / 2)) j refl (below-lowest k (m / 2)) h
+below_lowest zero m j h = absurd (omega arith)
+below_lowest (suc k) m j h = below_at m (m % 2) (count_trailing_zeros k (m / 2)) j refl (below_lowest k (m / 2)) h
 
 -- a number with a bit below 2 ^ w
-pub lowest-lt : (w m : ℕ) → m < 2 ^ w → (m ≡ 0 → ⊥) → count_trailing_zeros w m < w
+pub lowest_lt : (w m : ℕ) → m < 2 ^ w → (m ≡ 0 → ⊥) → count_trailing_zeros w m < w
 unfolding count_trailing_zeros
-lowest-lt zero m h ne = absurd (ne (omega arith))
-lowest-lt (suc w) m h ne = under-lt (m % 2) (λ e. lowest-lt w (m / 2) (omega (arith, pow-suc 2 w)) (λ z. ne (omega arith)))
+lowest_lt zero m h ne = absurd (ne (omega arith))
+lowest_lt (suc w) m h ne = under_lt (m % 2) (λ e. lowest_lt w (m / 2) (omega (arith, pow-suc 2 w)) (λ z. ne (omega arith)))
   where
-    under-lt : (d : ℕ) → (d ≡ 0 → count_trailing_zeros w (m / 2) < w) → under d (count_trailing_zeros w (m / 2)) < suc w
-    under-lt zero ih = omega (arith, ih refl)
-    under-lt (suc d) ih = omega arith
+    under_lt : (d : ℕ) → (d ≡ 0 → count_trailing_zeros w (m / 2) < w) → under d (count_trailing_zeros w (m / 2)) < suc w
+    under_lt zero ih = omega (arith, ih refl)
+    under_lt (suc d) ih = omega arith
 
-pub ones-members : (w m : ℕ) → m < 2 ^ w → ones m ≡ members w (bit m)
+pub ones_members : (w m : ℕ) → m < 2 ^ w → ones m ≡ members w (bit m)
 unfolding bit ones members
-ones-members zero m h = let e : m ≡ 0 = omega arith in ap ones e ∙ refl
-ones-members (suc w) m h =
-    let ih = ones-members w (m / 2) (omega (arith, pow-suc 2 w)) in
+ones_members zero m h = let e : m ≡ 0 = omega arith in ap ones e ∙ refl
+ones_members (suc w) m h =
+    let ih = ones_members w (m / 2) (omega (arith, pow-suc 2 w)) in
     let low : cond (eqb (m % 2) 1) 1 0 ≡ m % 2 = one (m % 2) (omega arith) in
     omega (arith, ones_step m)
   where

@@ -21,8 +21,8 @@ unfolding has
 has_block s j t = ltb-true j 64 (and_parts (ltb j 64) (bit s.0 j) t).0
 
 -- the bits of a & !b, as far as there are blocks
-pub bits-without : (a b j : ℕ) → b < 2 ^ 64 → (ltb j 64 && bit (bit_and a (18446744073709551615 - b)) j) ≡ (ltb j 64 && (bit a j && not (bit b j)))
-bits-without a b j h = elim (cases_lt j 64) [
+pub bits_without : (a b j : ℕ) → b < 2 ^ 64 → (ltb j 64 && bit (bit_and a (18446744073709551615 - b)) j) ≡ (ltb j 64 && (bit a j && not (bit b j)))
+bits_without a b j h = elim (cases_lt j 64) [
   | inl l ↦ ap (λ x. ltb j 64 && x) (bit-minus 64 a b j h l)
   | inr l ↦ let e = le-ltb j 64 l in ap (λ x. x && bit (bit_and a (18446744073709551615 - b)) j) e ∙ sym (ap (λ x. x && (bit a j && not (bit b j))) e)
 ]
@@ -36,6 +36,6 @@ pub and-and : (t a b : Bool) → (t && (a && b)) ≡ ((t && a) && (t && b))
 and-and true a b = refl
 and-and false a b = refl
 
-pub and-less : (t a b : Bool) → (t && (a && not b)) ≡ ((t && a) && not (t && b))
-and-less true a b = refl
-and-less false a b = refl
+pub and_less : (t a b : Bool) → (t && (a && not b)) ≡ ((t && a) && not (t && b))
+and_less true a b = refl
+and_less false a b = refl

@@ -1,7 +1,7 @@
 //! Sets of blocks. A block is a number below 64, so that a set of them is one 64-bit number.
 #![tactic(auto)]
 
-ghost use Rattle.std.specs.Prelude.{◌≡◌, ℕ, ◌<◌, true, false, not, ◌&&◌, ◌||◌, Decides, MatchOption, ◌==◌, nat_lt};
+ghost use Rattle.std.specs.Prelude.{◌≡◌, ℕ, ◌<◌, true, false, not, ◌&&◌, ◌||◌, IsTrue, ◌↔◌, MatchOption, ◌==◌, nat_lt};
 ghost use Rattle.blockset.specs.Sets.{members, bit};
 ghost use Rattle.blockset.specs.Has.{has};
 
@@ -62,7 +62,7 @@ impl BlockSet {
     }
 
     pub fn is_empty(self) -> bool
-        ensures { Decides result ((j : ℕ) → has self j ≡ false) }
+        ensures { IsTrue result ↔ ((j : ℕ) → has self j ≡ false) }
     {
         self.0 == 0
     }

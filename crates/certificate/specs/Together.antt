@@ -1,13 +1,13 @@
 -- What lent tables that hold together are: a sound grid, a perfect pairing in it, and prices that prove the pairing optimum.
 use Rattle.std.specs.Prelude.{◌≡◌, ℕ, ◌*◌, ◌<◌, ◌≤◌, Bool, true, List, length, ℤ}
 use Rattle.cost.specs.Columns.{sums}
-use Rattle.grid.specs.Tables.{byte_of, saysStands}
-use Rattle.pairing.specs.Grid.{Grid, Upto, Perfect, Perfect-in}
+use Rattle.grid.specs.Tables.{byte_of, says_stands}
+use Rattle.pairing.specs.Grid.{Grid, Upto, Perfect, PerfectIn}
 use Rattle.pairing.specs.Prices.{Tight, Valid}
-use Rattle.tables.specs.Said.{columnsAt, gridOf, Bounded, Ordered}
+use Rattle.tables.specs.Said.{columns_at, grid_of, Bounded, Ordered}
 
 -- pair tables of at most 64 blocks a plane, with a place for each pair, that are in order
-pub record In-order {K : Type 0} (meaning : K → List ℤ) (n : ℕ) (costs : List K) (standing : List ℕ) : Type 0 where
+pub record InOrder {K : Type 0} (meaning : K → List ℤ) (n : ℕ) (costs : List K) (standing : List ℕ) : Type 0 where
   pub few : n ≤ 64
   pub costs_fit : length costs ≡ n * n
   pub standing_fit : length standing ≡ n * n
@@ -17,7 +17,7 @@ pub record In-order {K : Type 0} (meaning : K → List ℤ) (n : ℕ) (costs : L
 pub record Paired (n : ℕ) (standing partners : List ℕ) : Type 0 where
   pub few : n ≤ 64
   pub standing_fit : length standing ≡ n * n
-  pub perfect : Perfect n (λ l r. saysStands (byte_of n standing l r)) partners
+  pub perfect : Perfect n (λ l r. says_stands (byte_of n standing l r)) partners
 
 -- a price for each of n blocks, within 10^12 in each column
 pub record Priced {K : Type 0} (meaning : K → List ℤ) (n : ℕ) (prices : List K) : Type 0 where
@@ -33,13 +33,13 @@ abbrev pub Under : Grid → (left right : ℕ → List ℤ) → Type 0
 Under g left right = (l : ℕ) → l < g.size → RowUnder g.size (g.stands l) (left l) right (g.cost l)
 
 -- a perfect pairing whose pairs are all tight
-abbrev pub Tight-pairing : Grid → (left right : ℕ → List ℤ) → List ℕ → Type 0
-Tight-pairing g left right p = Perfect-in g p × Tight g left right p
+abbrev pub TightPairing : Grid → (left right : ℕ → List ℤ) → List ℕ → Type 0
+TightPairing g left right p = PerfectIn g p × Tight g left right p
 
 -- The tables hold together.
 pub record Together {K : Type 0} (columns : ℕ) (meaning : K → List ℤ) (n : ℕ) (costs : List K) (standing partners : List ℕ) (left right : List K) : Type 0 where
-  pub in_order : In-order meaning n costs standing
-  pub perfect : Perfect-in (gridOf columns meaning n costs standing) partners
+  pub in_order : InOrder meaning n costs standing
+  pub perfect : PerfectIn (grid_of columns meaning n costs standing) partners
   pub left_priced : Priced meaning n left
   pub right_priced : Priced meaning n right
-  pub valid : Valid (gridOf columns meaning n costs standing) (columnsAt meaning left) (columnsAt meaning right) partners
+  pub valid : Valid (grid_of columns meaning n costs standing) (columns_at meaning left) (columns_at meaning right) partners

@@ -7,24 +7,24 @@ use Rattle.std.proofs.ByRecursion.{Decides-by_and}
 use Rattle.cost.specs.Columns.{railed, Within, within, columnwise, zeros, plus, minus}
 use Rattle.cost.specs.Laws.{Exact}
 
-pub railed-same : (z : ℤ) → nat_abs z ≤ 1000000000000000 → railed z ≡ z
-railed-same (pos n) h = ap pos (omega arith)
-railed-same (negsuc n) h = ap negsuc (omega arith)
+pub railed_same : (z : ℤ) → nat_abs z ≤ 1000000000000000 → railed z ≡ z
+railed_same (pos n) h = ap pos (omega arith)
+railed_same (negsuc n) h = ap negsuc (omega arith)
 
 -- what lies on the rail is not moved again
-railed-twice : (z : ℤ) → railed (railed z) ≡ railed z
-railed-twice (pos n) = ap pos (omega arith)
-railed-twice (negsuc n) = ap negsuc (omega arith)
+railed_twice : (z : ℤ) → railed (railed z) ≡ railed z
+railed_twice (pos n) = ap pos (omega arith)
+railed_twice (negsuc n) = ap negsuc (omega arith)
 
 -- so a number that was bounded means itself
-pub bounded-means : (x z : ℤ) → x ≡ railed z → ◌≡◌ {A = List ℤ} (railed x ∷ []) (railed z ∷ [])
-bounded-means x z e = ap (λ t. railed t ∷ []) e ∙ ap (λ t. t ∷ []) (railed-twice z)
+pub bounded_means : (x z : ℤ) → x ≡ railed z → ◌≡◌ {A = List ℤ} (railed x ∷ []) (railed z ∷ [])
+bounded_means x z e = ap (λ t. railed t ∷ []) e ∙ ap (λ t. t ∷ []) (railed_twice z)
 
-abs-plus : (x y : ℤ) → nat_abs (x +ℤ y) ≤ nat_abs x + nat_abs y
-abs-plus x y = omega (arith, ints)
+abs_plus : (x y : ℤ) → nat_abs (x +ℤ y) ≤ nat_abs x + nat_abs y
+abs_plus x y = omega (arith, ints)
 
-abs-minus : (x y : ℤ) → nat_abs (x -ℤ y) ≤ nat_abs x + nat_abs y
-abs-minus x y = omega (arith, ints)
+abs_minus : (x y : ℤ) → nat_abs (x -ℤ y) ≤ nat_abs x + nat_abs y
+abs_minus x y = omega (arith, ints)
 
 -- one column operation whose result is at most as large as both numbers together
 module _ (f : ℤ → ℤ → ℤ) (small : (x y : ℤ) → nat_abs (f x y) ≤ nat_abs x + nat_abs y) where
@@ -33,22 +33,22 @@ module _ (f : ℤ → ℤ → ℤ) (small : (x y : ℤ) → nat_abs (f x y) ≤ 
   columnwise-within a b (x ∷ xs) [] h k = tt
   columnwise-within a b (x ∷ xs) (y ∷ ys) h k = (omega (arith, small x y, h.0, k.0), columnwise-within a b xs ys h.1 k.1)
 
-  pub columnwise-exact : (a b : ℕ) (xs ys : List ℤ) → a + b ≤ 1000000000000000 → Within a xs → Within b ys → columnwise (λ x y. railed (f x y)) xs ys ≡ columnwise f xs ys
-  columnwise-exact a b [] ys l h k = refl
-  columnwise-exact a b (x ∷ xs) [] l h k = refl
-  columnwise-exact a b (x ∷ xs) (y ∷ ys) l h k =
-      let e : railed (f x y) ≡ f x y = railed-same (f x y) (omega (arith, small x y, h.0, k.0)) in
-      let t : columnwise (λ u v. railed (f u v)) xs ys ≡ columnwise f xs ys = columnwise-exact a b xs ys l h.1 k.1 in
+  pub columnwise_exact : (a b : ℕ) (xs ys : List ℤ) → a + b ≤ 1000000000000000 → Within a xs → Within b ys → columnwise (λ x y. railed (f x y)) xs ys ≡ columnwise f xs ys
+  columnwise_exact a b [] ys l h k = refl
+  columnwise_exact a b (x ∷ xs) [] l h k = refl
+  columnwise_exact a b (x ∷ xs) (y ∷ ys) l h k =
+      let e : railed (f x y) ≡ f x y = railed_same (f x y) (omega (arith, small x y, h.0, k.0)) in
+      let t : columnwise (λ u v. railed (f u v)) xs ys ≡ columnwise f xs ys = columnwise_exact a b xs ys l h.1 k.1 in
       cc
 
 pub plus-within : (a b : ℕ) (xs ys : List ℤ) → Within a xs → Within b ys → Within (a + b) (plus xs ys)
-plus-within = columnwise-within ◌+ℤ◌ abs-plus
+plus-within = columnwise-within ◌+ℤ◌ abs_plus
 
 pub minus-within : (a b : ℕ) (xs ys : List ℤ) → Within a xs → Within b ys → Within (a + b) (minus xs ys)
-minus-within = columnwise-within ◌-ℤ◌ abs-minus
+minus-within = columnwise-within ◌-ℤ◌ abs_minus
 
 pub exact : Exact 1000000000000000
-exact a b xs ys l h k = (columnwise-exact ◌+ℤ◌ abs-plus a b xs ys l h k, columnwise-exact ◌-ℤ◌ abs-minus a b xs ys l h k)
+exact a b xs ys l h k = (columnwise_exact ◌+ℤ◌ abs_plus a b xs ys l h k, columnwise_exact ◌-ℤ◌ abs_minus a b xs ys l h k)
 
 pub length-columnwise : (f : ℤ → ℤ → ℤ) (xs ys : List ℤ) → length xs ≡ length ys → length (columnwise f xs ys) ≡ length xs
 length-columnwise f [] ys e = refl
@@ -64,5 +64,5 @@ zeros_within a zero = tt
 zeros_within a (suc n) = (omega arith, zeros_within a n)
 
 -- the test tells the fact
-pub within-tells : (k : ℕ) (xs : List ℤ) → Decides (within k xs) (Within k xs)
-within-tells k xs = Decides-by_and (λ x. leb (nat_abs x) k) (λ x. nat_abs x ≤ k) (within k) (λ x. (leb-true (nat_abs x) k, le-leb (nat_abs x) k)) refl (λ _ _. refl) xs
+pub within_tells : (k : ℕ) (xs : List ℤ) → Decides (within k xs) (Within k xs)
+within_tells k xs = Decides-by_and (λ x. leb (nat_abs x) k) (λ x. nat_abs x ≤ k) (within k) (λ x. (leb-true (nat_abs x) k, le-leb (nat_abs x) k)) refl (λ _ _. refl) xs

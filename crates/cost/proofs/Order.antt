@@ -23,95 +23,95 @@ head x y rest =
     cond_both (lt_z x y) Less (cond (lt_z y x) Greater rest) (Head x y rest) (λ t. below (omega (arith, ints)) refl)
     (λ f. cond_both (lt_z y x) Greater rest (Head x y rest) (λ t. above (omega (arith, ints)) refl) (λ g. same (omega (arith, ints)) refl))
 
-head-below : (x y : ℤ) (rest : Ordering) → x <ℤ y → headed x y rest ≡ Less
-head-below x y rest l = let t : lt_z x y ≡ true = grind (arith, ints) in cond-true (lt_z x y) _ _ t
+head_below : (x y : ℤ) (rest : Ordering) → x <ℤ y → headed x y rest ≡ Less
+head_below x y rest l = let t : lt_z x y ≡ true = grind (arith, ints) in cond-true (lt_z x y) _ _ t
 
-head-above : (x y : ℤ) (rest : Ordering) → y <ℤ x → headed x y rest ≡ Greater
-head-above x y rest l =
+head_above : (x y : ℤ) (rest : Ordering) → y <ℤ x → headed x y rest ≡ Greater
+head_above x y rest l =
     let f : lt_z x y ≡ false = grind (arith, ints) in
     let t : lt_z y x ≡ true = grind (arith, ints) in
     cond-false (lt_z x y) _ _ f ∙ cond-true (lt_z y x) _ _ t
 
-head-same : (x y : ℤ) (rest : Ordering) → x ≡ y → headed x y rest ≡ rest
-head-same x y rest e =
+head_same : (x y : ℤ) (rest : Ordering) → x ≡ y → headed x y rest ≡ rest
+head_same x y rest e =
     let f : lt_z x y ≡ false = grind (arith, ints) in
     let g : lt_z y x ≡ false = grind (arith, ints) in
     cond-false (lt_z x y) _ _ f ∙ cond-false (lt_z y x) _ _ g
 
-pub lex-mirror : (xs ys : List ℤ) → length xs ≡ length ys → lex ys xs ≡ ordering_reverse (lex xs ys)
-lex-mirror [] [] e = refl
-lex-mirror [] (y ∷ ys) e = absurd (omega arith)
-lex-mirror (x ∷ xs) [] e = absurd (omega arith)
-lex-mirror (x ∷ xs) (y ∷ ys) e =
+pub lex_mirror : (xs ys : List ℤ) → length xs ≡ length ys → lex ys xs ≡ ordering_reverse (lex xs ys)
+lex_mirror [] [] e = refl
+lex_mirror [] (y ∷ ys) e = absurd (omega arith)
+lex_mirror (x ∷ xs) [] e = absurd (omega arith)
+lex_mirror (x ∷ xs) (y ∷ ys) e =
     elim (head x y (lex xs ys)) [
-      | below l o ↦ head-above y x _ l ∙ sym (ap ordering_reverse o)
-      | same i o ↦ head-same y x _ (sym i) ∙ lex-mirror xs ys (omega arith) ∙ sym (ap ordering_reverse o)
-      | above l o ↦ head-below y x _ l ∙ sym (ap ordering_reverse o)
+      | below l o ↦ head_above y x _ l ∙ sym (ap ordering_reverse o)
+      | same i o ↦ head_same y x _ (sym i) ∙ lex_mirror xs ys (omega arith) ∙ sym (ap ordering_reverse o)
+      | above l o ↦ head_below y x _ l ∙ sym (ap ordering_reverse o)
     ]
 
 never : (o : Ordering) → o ≡ Less → o ≡ Greater → ⊥
 never o p q = let z : ◌≡◌ {A = ℕ} 0 1 = cc in omega arith
 
-never-equal : (o : Ordering) → o ≡ Less → o ≡ Equal → ⊥
-never-equal o p q = let z : ◌≡◌ {A = ℕ} 0 1 = cc in omega arith
+never_equal : (o : Ordering) → o ≡ Less → o ≡ Equal → ⊥
+never_equal o p q = let z : ◌≡◌ {A = ℕ} 0 1 = cc in omega arith
 
-never-greater : (o : Ordering) → o ≡ Greater → o ≡ Equal → ⊥
-never-greater o p q = let z : ◌≡◌ {A = ℕ} 0 1 = cc in omega arith
+never_greater : (o : Ordering) → o ≡ Greater → o ≡ Equal → ⊥
+never_greater o p q = let z : ◌≡◌ {A = ℕ} 0 1 = cc in omega arith
 
-pub lex-same : (xs ys : List ℤ) → length xs ≡ length ys → lex xs ys ≡ Equal → xs ≡ ys
-lex-same [] [] e h = refl
-lex-same [] (y ∷ ys) e h = absurd (omega arith)
-lex-same (x ∷ xs) [] e h = absurd (omega arith)
-lex-same (x ∷ xs) (y ∷ ys) e h =
+pub lex_same : (xs ys : List ℤ) → length xs ≡ length ys → lex xs ys ≡ Equal → xs ≡ ys
+lex_same [] [] e h = refl
+lex_same [] (y ∷ ys) e h = absurd (omega arith)
+lex_same (x ∷ xs) [] e h = absurd (omega arith)
+lex_same (x ∷ xs) (y ∷ ys) e h =
     elim (head x y (lex xs ys)) [
-      | below l o ↦ absurd (never-equal _ o h)
-      | same i o ↦ let t : xs ≡ ys = lex-same xs ys (omega arith) (sym o ∙ h) in cc
-      | above l o ↦ absurd (never-greater _ o h)
+      | below l o ↦ absurd (never_equal _ o h)
+      | same i o ↦ let t : xs ≡ ys = lex_same xs ys (omega arith) (sym o ∙ h) in cc
+      | above l o ↦ absurd (never_greater _ o h)
     ]
 
-pub lex-refl : (xs : List ℤ) → lex xs xs ≡ Equal
-lex-refl [] = refl
-lex-refl (x ∷ xs) = head-same x x _ refl ∙ lex-refl xs
+pub lex_refl : (xs : List ℤ) → lex xs xs ≡ Equal
+lex_refl [] = refl
+lex_refl (x ∷ xs) = head_same x x _ refl ∙ lex_refl xs
 
-less-chain : (xs ys zs : List ℤ) → length xs ≡ length ys → length ys ≡ length zs → lex xs ys ≡ Less → lex ys zs ≡ Less → lex xs zs ≡ Less
-less-chain [] ys zs e f h k = absurd (never-equal _ h refl)
-less-chain (x ∷ xs) [] zs e f h k = absurd (omega arith)
-less-chain (x ∷ xs) (y ∷ ys) [] e f h k = absurd (omega arith)
-less-chain (x ∷ xs) (y ∷ ys) (z ∷ zs) e f h k =
+less_chain : (xs ys zs : List ℤ) → length xs ≡ length ys → length ys ≡ length zs → lex xs ys ≡ Less → lex ys zs ≡ Less → lex xs zs ≡ Less
+less_chain [] ys zs e f h k = absurd (never_equal _ h refl)
+less_chain (x ∷ xs) [] zs e f h k = absurd (omega arith)
+less_chain (x ∷ xs) (y ∷ ys) [] e f h k = absurd (omega arith)
+less_chain (x ∷ xs) (y ∷ ys) (z ∷ zs) e f h k =
     elim (head x y (lex xs ys)) [
       | below l _ ↦ elim (head y z (lex ys zs)) [
-        | below m _ ↦ head-below x z _ (omega (arith, ints))
-        | same j _ ↦ head-below x z _ (omega (arith, ints))
+        | below m _ ↦ head_below x z _ (omega (arith, ints))
+        | same j _ ↦ head_below x z _ (omega (arith, ints))
         | above _ p ↦ absurd (never _ k p)
       ]
       | same i o ↦ elim (head y z (lex ys zs)) [
-        | below m _ ↦ head-below x z _ (omega (arith, ints))
-        | same j p ↦ head-same x z _ (i ∙ j) ∙ less-chain xs ys zs (omega arith) (omega arith) (sym o ∙ h) (sym p ∙ k)
+        | below m _ ↦ head_below x z _ (omega (arith, ints))
+        | same j p ↦ head_same x z _ (i ∙ j) ∙ less_chain xs ys zs (omega arith) (omega arith) (sym o ∙ h) (sym p ∙ k)
         | above _ p ↦ absurd (never _ k p)
       ]
       | above _ o ↦ absurd (never _ h o)
     ]
 
 pub mirrored : (order : Ordering) → Mirrored order (ordering_reverse order)
-mirrored order xs ys e h = (lex-mirror xs ys e ∙ ap ordering_reverse h, λ q. lex-same xs ys e (h ∙ q))
+mirrored order xs ys e h = (lex_mirror xs ys e ∙ ap ordering_reverse h, λ q. lex_same xs ys e (h ∙ q))
 
 pub chained : (order : Ordering) → Chained order order
-chained Less xs ys zs e f h k = less-chain xs ys zs e f h k
-chained Equal xs ys zs e f h k = ap (λ t. lex t zs) (lex-same xs ys e h) ∙ k
+chained Less xs ys zs e f h k = less_chain xs ys zs e f h k
+chained Equal xs ys zs e f h k = ap (λ t. lex t zs) (lex_same xs ys e h) ∙ k
 chained Greater xs ys zs e f h k =
-    lex-mirror zs xs (sym (e ∙ f)) ∙ ap ordering_reverse (less-chain zs ys xs (sym f) (sym e) (lex-mirror ys zs f ∙ ap ordering_reverse k) (lex-mirror xs ys e ∙ ap ordering_reverse h))
+    lex_mirror zs xs (sym (e ∙ f)) ∙ ap ordering_reverse (less_chain zs ys xs (sym f) (sym e) (lex_mirror ys zs f ∙ ap ordering_reverse k) (lex_mirror xs ys e ∙ ap ordering_reverse h))
 
 -- the same added to both sides changes no comparison of first columns
-lex-shift : (xs ys zs : List ℤ) → length xs ≡ length ys → length ys ≡ length zs → lex (plus xs zs) (plus ys zs) ≡ lex xs ys
-lex-shift [] ys zs e f = refl
-lex-shift (x ∷ xs) [] zs e f = absurd (omega arith)
-lex-shift (x ∷ xs) (y ∷ ys) [] e f = absurd (omega arith)
-lex-shift (x ∷ xs) (y ∷ ys) (z ∷ zs) e f =
+lex_shift : (xs ys zs : List ℤ) → length xs ≡ length ys → length ys ≡ length zs → lex (plus xs zs) (plus ys zs) ≡ lex xs ys
+lex_shift [] ys zs e f = refl
+lex_shift (x ∷ xs) [] zs e f = absurd (omega arith)
+lex_shift (x ∷ xs) (y ∷ ys) [] e f = absurd (omega arith)
+lex_shift (x ∷ xs) (y ∷ ys) (z ∷ zs) e f =
     elim (head x y (lex xs ys)) [
-      | below l o ↦ head-below (x +ℤ z) (y +ℤ z) _ (omega (arith, ints)) ∙ sym o
-      | same i o ↦ head-same (x +ℤ z) (y +ℤ z) _ (ap (λ t. t +ℤ z) i) ∙ lex-shift xs ys zs (omega arith) (omega arith) ∙ sym o
-      | above l o ↦ head-above (x +ℤ z) (y +ℤ z) _ (omega (arith, ints)) ∙ sym o
+      | below l o ↦ head_below (x +ℤ z) (y +ℤ z) _ (omega (arith, ints)) ∙ sym o
+      | same i o ↦ head_same (x +ℤ z) (y +ℤ z) _ (ap (λ t. t +ℤ z) i) ∙ lex_shift xs ys zs (omega arith) (omega arith) ∙ sym o
+      | above l o ↦ head_above (x +ℤ z) (y +ℤ z) _ (omega (arith, ints)) ∙ sym o
     ]
 
 pub shifted : (order : Ordering) → Shifted order order
-shifted order xs ys zs e f h = lex-shift xs ys zs e f ∙ h
+shifted order xs ys zs e f h = lex_shift xs ys zs e f ∙ h

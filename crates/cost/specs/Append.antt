@@ -42,6 +42,6 @@ and_assoc : (x y z : Bool) → (x && (y && z)) ≡ ((x && y) && z)
 and_assoc true y z = refl
 and_assoc false y z = refl
 
-pub test-append : (k : ℕ) (a b : List ℤ) → within k (a ++ b) ≡ (within k a && within k b)
-test-append k [] b = refl
-test-append k (x ∷ a) b = ap (λ t. nat_le (unsigned_abs x) k && t) (test-append k a b) ∙ and_assoc (nat_le (unsigned_abs x) k) (within k a) (within k b)
+pub test_append : (k : ℕ) (a b : List ℤ) → within k (a ++ b) ≡ (within k a && within k b)
+test_append k [] b = refl
+test_append k (x ∷ a) b = ap (λ t. nat_le (unsigned_abs x) k && t) (test_append k a b) ∙ and_assoc (nat_le (unsigned_abs x) k) (within k a) (within k b)

@@ -2,7 +2,7 @@
 #![tactic(auto)]
 
 ghost use Rattle.std.specs.Prelude.{◌≡◌, ◌*◌, ◌≤◌, length};
-ghost use Rattle.grid.specs.Tables.{place_of, fitting, saysStands, saysDisturbed, placeOrderly, orderly, standingPairs};
+ghost use Rattle.grid.specs.Tables.{place_of, fitting, says_stands, says_disturbed, place_orderly, orderly, standing_pairs};
 
 use cost::Cost;
 
@@ -35,21 +35,21 @@ pub fn place(n: u16, left: u16, right: u16) -> usize
 
 /// Whether a standing byte says that its pair stands.
 pub fn stands(byte: u8) -> bool
-    ensures { result ≡ saysStands byte }
+    ensures { result ≡ says_stands byte }
 {
     byte == 1
 }
 
 /// Whether a standing byte says neither that its pair stands nor that it is absent.
 pub fn disturbed(byte: u8) -> bool
-    ensures { result ≡ saysDisturbed byte }
+    ensures { result ≡ says_disturbed byte }
 {
     byte > 1
 }
 
 // Whether a place is in order.
 fn place_in_order<K: Cost>(cost: K, byte: u8) -> bool
-    ensures { result ≡ placeOrderly (K.meaning cost) byte }
+    ensures { result ≡ place_orderly (K.meaning cost) byte }
 {
     !disturbed(byte) && (!stands(byte) || cost.within(COST_LIMIT))
 }
@@ -69,7 +69,7 @@ pub fn in_order<K: Cost>(costs: &[K], standing: &[u8]) -> bool
 
 /// How many pairs stand.
 pub fn standing_pairs(standing: &[u8]) -> usize
-    ensures value { result ≡ standingPairs standing.now }
+    ensures value { result ≡ standing_pairs standing.now }
     ensures bound { result ≤ length standing.now }
 {
     let mut pairs = 0;

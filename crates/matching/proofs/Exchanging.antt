@@ -22,26 +22,26 @@ module _ (n : ℕ) (p : List ℕ) (out reached : ℕ → Bool) (from rank : List
     pub member : reached block ≡ true
     pub moved : (l : ℕ) → l < n → (at q l ≡ at p l) ⊎ ((reached (at q l) ≡ true) × (at from (at q l) ≡ l))
 
-  height-out : (l : ℕ) → out l ≡ true → height l ≡ 0
-  height-out l t = cond-true (out l) 0 (suc (at rank (at p l))) t
+  height_out : (l : ℕ) → out l ≡ true → height l ≡ 0
+  height_out l t = cond-true (out l) 0 (suc (at rank (at p l))) t
 
-  height-in : (l : ℕ) → out l ≡ false → height l ≡ suc (at rank (at p l))
-  height-in l f = cond-false (out l) 0 (suc (at rank (at p l))) f
+  height_in : (l : ℕ) → out l ≡ false → height l ≡ suc (at rank (at p l))
+  height_in l f = cond-false (out l) 0 (suc (at rank (at p l))) f
 
   module _ (w : Ways n p out reached from rank) where
     -- the left block that a right block is reached from
     passes : (c : ℕ) → reached c ≡ true → (passed (at from c) ≡ true) × (height (at from c) < 66) × (height (at from c) < suc (suc (at rank c)))
     passes c t = elim (w.back c t) [
-      | inl r ↦ (or_left (out (at from c)) _ r, omega (arith, height-out (at from c) r), omega (arith, height-out (at from c) r))
+      | inl r ↦ (or_left (out (at from c)) _ r, omega (arith, height_out (at from c) r), omega (arith, height_out (at from c) r))
       | inr v ↦ (
         or_right (out (at from c)) _ v.1,
-        omega (arith, height-in (at from c) v.0, w.ranked (at p (at from c)) v.1),
-        omega (arith, height-in (at from c) v.0, v.2),
+        omega (arith, height_in (at from c) v.0, w.ranked (at p (at from c)) v.1),
+        omega (arith, height_in (at from c) v.0, v.2),
       )
     ]
 
-    pub exchange-start : (c : ℕ) → Apart n p out → reached c ≡ true → ((l : ℕ) → l < n → out l ≡ false → at p l ≡ c → ⊥) → Exchanging p c
-    exchange-start c part t free = record {
+    pub exchange_start : (c : ℕ) → Apart n p out → reached c ≡ true → ((l : ℕ) → l < n → out l ≡ false → at p l ≡ c → ⊥) → Exchanging p c
+    exchange_start c part t free = record {
       hole = record {
         part = part;
         inside = w.small c t;
@@ -57,8 +57,8 @@ module _ (n : ℕ) (p : List ℕ) (out reached : ℕ → Bool) (from rank : List
     }
 
     module _ (q : List ℕ) (block : ℕ) (x : Exchanging q block) where
-      at-l : at (set q (at from block) block) (at from block) ≡ block
-      at-l = get_or-set_same q (at from block) block 0 (omega (arith, x.hole.part.len, x.hole.taker))
+      at_l : at (set q (at from block) block) (at from block) ≡ block
+      at_l = get_or-set_same q (at from block) block 0 (omega (arith, x.hole.part.len, x.hole.taker))
 
       at_other : (m : ℕ) → (m ≡ at from block → ⊥) → at (set q (at from block) block) m ≡ at q m
       at_other m ne = get_or-set_other q (at from block) m block 0 ne
@@ -66,7 +66,7 @@ module _ (n : ℕ) (p : List ℕ) (out reached : ℕ → Bool) (from rank : List
       -- the left block that takes the right block, and the others
       taken : (m : ℕ) → m ≡ at from block → (reached (at (set q (at from block) block) m) ≡ true) × (at from (at (set q (at from block) block) m) ≡ m)
       taken m e =
-          let is : at (set q (at from block) block) m ≡ block = ap (at (set q (at from block) block)) e ∙ at-l in
+          let is : at (set q (at from block) block) m ≡ block = ap (at (set q (at from block) block)) e ∙ at_l in
           (ap reached is ∙ x.member, ap (at from) is ∙ sym e)
 
       changed : (m : ℕ) → m < n → (at (set q (at from block) block) m ≡ at p m) ⊎ ((reached (at (set q (at from block) block) m) ≡ true) × (at from (at (set q (at from block) block) m) ≡ m))
@@ -80,17 +80,17 @@ module _ (n : ℕ) (p : List ℕ) (out reached : ℕ → Bool) (from rank : List
         onward : (reached (at p (at from block)) ≡ true) × (at rank (at p (at from block)) < at rank block)
         onward = elim (w.back block x.member) [ inl t ↦ absurd (both_ways (out (at from block)) f t) | inr v ↦ (v.1, v.2) ]
 
-        pub exchange-less : at rank (at q (at from block)) < at rank block
-        exchange-less = rw same onward.1
+        pub exchange_less : at rank (at q (at from block)) < at rank block
+        exchange_less = rw same onward.1
 
-        pub exchange-more : Exchanging (set q (at from block) block) (at q (at from block))
-        exchange-more =
+        pub exchange_more : Exchanging (set q (at from block) block) (at q (at from block))
+        exchange_more =
             let c = at p (at from block) in
             let t : reached (at p (at from block)) ≡ true = onward.0 in
             let less : height (at from (at p (at from block))) < height (at from block) =
             elim (w.back c t) [
-              | inl r ↦ omega (arith, height-out (at from c) r, height-in (at from block) f)
-              | inr v ↦ omega (arith, height-in (at from c) v.0, height-in (at from block) f, v.2)
+              | inl r ↦ omega (arith, height_out (at from c) r, height_in (at from block) f)
+              | inr v ↦ omega (arith, height_in (at from c) v.0, height_in (at from block) f, v.2)
             ] in
             record {
               hole = subst (λ m. Hole n (λ _ _. true) p out out passed height 66 (set q (at from block) block) (at q (at from block)) m) (ap (at from) (sym same))
@@ -100,8 +100,8 @@ module _ (n : ℕ) (p : List ℕ) (out reached : ℕ → Bool) (from rank : List
             }
 
       -- the chain ends
-      pub exchange-done : out (at from block) ≡ true → Filled n p (set q (at from block) block) out reached from (at from block)
-      exchange-done t = record {
+      pub exchange_done : out (at from block) ≡ true → Filled n p (set q (at from block) block) out reached from (at from block)
+      exchange_done t = record {
         inside = x.hole.taker;
         was_out = t;
         part = λ out' less. took n (λ _ _. true) p out out passed height 66 q block (at from block) x.hole out' less;
@@ -109,5 +109,5 @@ module _ (n : ℕ) (p : List ℕ) (out reached : ℕ → Bool) (from rank : List
           | inl e ↦ inr (taken m e)
           | inr ne ↦ elim (x.moved m i) [ inl e ↦ inl (ne, at_other m ne ∙ e) | inr v ↦ inr (ap reached (at_other m ne) ∙ v.0, ap (at from) (at_other m ne) ∙ v.1) ]
         ];
-        kept = λ m i o ne. at_other m ne ∙ x.hole.ahead m i (omega (arith, height-out m o));
+        kept = λ m i o ne. at_other m ne ∙ x.hole.ahead m i (omega (arith, height_out m o));
       }

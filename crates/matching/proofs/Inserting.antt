@@ -15,8 +15,8 @@ module _ (C D : ℕ → Bool) (c : ℕ) (is : (j : ℕ) → D j ≡ (eqb j c || 
   pub new_in : D c ≡ true
   new_in = is c ∙ or_left (eqb c c) (C c) (eq-eqb c c refl)
 
-  pub old-in : (j : ℕ) → C j ≡ true → D j ≡ true
-  old-in j t = is j ∙ or_right (eqb j c) (C j) t
+  pub old_in : (j : ℕ) → C j ≡ true → D j ≡ true
+  old_in j t = is j ∙ or_right (eqb j c) (C j) t
 
-  pub old-from : (j : ℕ) → D j ≡ true → (j ≡ c → ⊥) → C j ≡ true
-  old-from j t ne = elim (or_cases (eqb j c) (C j) (sym (is j) ∙ t)) [ inl e ↦ absurd (ne (eqb-true j c e)) | inr e ↦ e ]
+  pub old_from : (j : ℕ) → D j ≡ true → (j ≡ c → ⊥) → C j ≡ true
+  old_from j t ne = elim (or_cases (eqb j c) (C j) (sym (is j) ∙ t)) [ inl e ↦ absurd (ne (eqb-true j c e)) | inr e ↦ e ]

@@ -22,32 +22,32 @@ pub record Next (rows : List BlockSet) (before after : List ℕ) : Type 0 where
 abbrev pub Less : ℕ → List ℕ → List ℕ → Type 0
 Less l p q = (k : ℕ) × (k < l) × Agree k p q × (at p k < at q k)
 
-pub less-before : (n : ℕ) (p q : List ℕ) → length p ≡ n → length q ≡ n → Less n p q → Before p q
-less-before zero p q e f w = absurd (omega (arith, w.1))
-less-before (suc n) [] q e f w = absurd (omega arith)
-less-before (suc n) (x ∷ p) [] e f w = absurd (omega arith)
-less-before (suc n) (x ∷ p) (y ∷ q) e f (zero, b, a, h) = inl h
-less-before (suc n) (x ∷ p) (y ∷ q) e f (suc k, b, a, h) = inr (sym (a 0 (omega arith)), less-before n p q (omega arith) (omega arith) (k, omega arith, λ i j. a (suc i) (omega arith), h))
+pub less_before : (n : ℕ) (p q : List ℕ) → length p ≡ n → length q ≡ n → Less n p q → Before p q
+less_before zero p q e f w = absurd (omega (arith, w.1))
+less_before (suc n) [] q e f w = absurd (omega arith)
+less_before (suc n) (x ∷ p) [] e f w = absurd (omega arith)
+less_before (suc n) (x ∷ p) (y ∷ q) e f (zero, b, a, h) = inl h
+less_before (suc n) (x ∷ p) (y ∷ q) e f (suc k, b, a, h) = inr (sym (a 0 (omega arith)), less_before n p q (omega arith) (omega arith) (k, omega arith, λ i j. a (suc i) (omega arith), h))
 
-pub before-less : (n : ℕ) (p q : List ℕ) → length p ≡ n → length q ≡ n → Before p q → Less n p q
-before-less n [] [] e f w = absurd w
-before-less n [] (y ∷ q) e f w = absurd (omega arith)
-before-less n (x ∷ p) [] e f w = absurd w
-before-less zero (x ∷ p) (y ∷ q) e f w = absurd (omega arith)
-before-less (suc n) (x ∷ p) (y ∷ q) e f (inl h) = (0, omega arith, λ i j. absurd (omega arith), h)
-before-less (suc n) (x ∷ p) (y ∷ q) e f (inr h) =
-    let w = before-less n p q (omega arith) (omega arith) h.1 in
-    (suc w.0, omega (arith, w.1), agree-cons w.0 w.2, w.3)
+pub before_less : (n : ℕ) (p q : List ℕ) → length p ≡ n → length q ≡ n → Before p q → Less n p q
+before_less n [] [] e f w = absurd w
+before_less n [] (y ∷ q) e f w = absurd (omega arith)
+before_less n (x ∷ p) [] e f w = absurd w
+before_less zero (x ∷ p) (y ∷ q) e f w = absurd (omega arith)
+before_less (suc n) (x ∷ p) (y ∷ q) e f (inl h) = (0, omega arith, λ i j. absurd (omega arith), h)
+before_less (suc n) (x ∷ p) (y ∷ q) e f (inr h) =
+    let w = before_less n p q (omega arith) (omega arith) h.1 in
+    (suc w.0, omega (arith, w.1), agree_cons w.0 w.2, w.3)
   where
-    agree-cons : (k : ℕ) → Agree k p q → Agree (suc k) (x ∷ p) (y ∷ q)
-    agree-cons k a zero j = sym h.0
-    agree-cons k a (suc i) j = a i (omega arith)
+    agree_cons : (k : ℕ) → Agree k p q → Agree (suc k) (x ∷ p) (y ∷ q)
+    agree_cons k a zero j = sym h.0
+    agree_cons k a (suc i) j = a i (omega arith)
 
 pub agree_same : (n : ℕ) (p q : List ℕ) → length p ≡ n → length q ≡ n → Agree n p q → q ≡ p
 agree_same n p q e f a = ext_get_or 0 q p (f ∙ sym e) (λ i h. a i (omega arith))
 
-pub agree-more : (l : ℕ) (p q : List ℕ) → Agree l p q → at q l ≡ at p l → Agree (l + 1) p q
-agree-more l p q a e i h = elim (cases_eq i l) [ inl s ↦ rw s e | inr ne ↦ a i (omega arith) ]
+pub agree_more : (l : ℕ) (p q : List ℕ) → Agree l p q → at q l ≡ at p l → Agree (l + 1) p q
+agree_more l p q a e i h = elim (cases_eq i l) [ inl s ↦ rw s e | inr ne ↦ a i (omega arith) ]
 
 -- no pairing that agrees with p below l comes after it
 abbrev pub Exhausted : (rows : List BlockSet) (l : ℕ) (p : List ℕ) → Type 0
@@ -59,8 +59,8 @@ module _ (rows : List BlockSet) where
   Settling low l start p = Pairs rows p × Agree low start p × ((q : List ℕ) → Pairs rows q → Agree low start q → Agree l p q ⊎ Less l p q)
 
   module _ (low l : ℕ) (start p p' : List ℕ) (s : Settling low l start p) (le : low ≤ l) (inside : l < length rows) where
-    pub settle-more : Improved rows l 0 p p' → Settling low (l + 1) start p'
-    settle-more w = (
+    pub settle_more : Improved rows l 0 p p' → Settling low (l + 1) start p'
+    settle_more w = (
       w.pairs,
       λ i h. w.kept i (omega arith) ∙ s.1 i h,
       λ q g a.
@@ -69,12 +69,12 @@ module _ (rows : List BlockSet) where
             | inl b ↦
                 let c : Agree l p' q = λ i h. b i h ∙ sym (w.kept i h) in
                 let no_more = w.least q g b (omega arith) in
-                elim (cases_eq (at q l) (at p' l)) [ inl e ↦ inl (agree-more l p' q c e) | inr ne ↦ inr (l, omega arith, c, omega arith) ]
+                elim (cases_eq (at q l) (at p' l)) [ inl e ↦ inl (agree_more l p' q c e) | inr ne ↦ inr (l, omega arith, c, omega arith) ]
           ],
     )
 
-    pub settle-never : Unimproved rows l 0 p p' → ⊥
-    settle-never w = omega (arith, w.none p s.0 (λ i h. refl))
+    pub settle_never : Unimproved rows l 0 p p' → ⊥
+    settle_never w = omega (arith, w.none p s.0 (λ i h. refl))
 
   pub settled : (low : ℕ) (start p : List ℕ) → Settling low (length rows) start p → Settled rows low start p
   settled low start p s = record {
@@ -82,47 +82,47 @@ module _ (rows : List BlockSet) where
     kept = s.1;
     first = λ q g a. elim (s.2 q g a) [
       | inl b ↦ inl (agree_same (length rows) p q s.0.len g.len b)
-      | inr v ↦ inr (less-before (length rows) p q s.0.len g.len v)
+      | inr v ↦ inr (less_before (length rows) p q s.0.len g.len v)
     ];
   }
 
-  pub exhausted-start : (p : List ℕ) → Pairs rows p → Exhausted rows (length rows) p
-  exhausted-start p h q g a b = let w = before-less (length rows) p q h.len g.len b in omega (arith, w.3, a w.0 w.1)
+  pub exhausted_start : (p : List ℕ) → Pairs rows p → Exhausted rows (length rows) p
+  exhausted_start p h q g a b = let w = before_less (length rows) p q h.len g.len b in omega (arith, w.3, a w.0 w.1)
 
   module _ (l : ℕ) (p : List ℕ) (h : Pairs rows p) (inside : l < length rows) (e : Exhausted rows (l + 1) p) where
-    pub exhausted-more : (p' : List ℕ) → Unimproved rows l (at p l + 1) p p' → Exhausted rows l p
-    exhausted-more p' w q g a b =
+    pub exhausted_more : (p' : List ℕ) → Unimproved rows l (at p l + 1) p p' → Exhausted rows l p
+    exhausted_more p' w q g a b =
         let top = w.none q g a in
-        let v = before-less (length rows) p q h.len g.len b in
+        let v = before_less (length rows) p q h.len g.len b in
         elim (cases_eq (at q l) (at p l)) [
-          | inl s ↦ e q g (agree-more l p q a s) b
+          | inl s ↦ e q g (agree_more l p q a s) b
           | inr ne ↦ elim (cases_order v.0 l) [
             | inl s ↦ omega (arith, v.3, ap (at p) s, ap (at q) s)
             | inr o ↦ elim o [ inl lt ↦ omega (arith, v.3, a v.0 lt) | inr gt ↦ ne (v.2 l gt) ]
           ]
         ]
 
-    pub next-is : (p₁ p₂ : List ℕ) → Improved rows l (at p l + 1) p p₁ → Settled rows (l + 1) p₁ p₂ → Next rows p p₂
-    next-is p₁ p₂ w s =
+    pub next_is : (p₁ p₂ : List ℕ) → Improved rows l (at p l + 1) p p₁ → Settled rows (l + 1) p₁ p₂ → Next rows p p₂
+    next_is p₁ p₂ w s =
         let same : Agree l p p₂ = λ i j. s.kept i (omega arith) ∙ w.kept i j in
         let top : at p₂ l ≡ at p₁ l = s.kept l (omega arith) in
         let n = length rows in
         record {
           pairs = s.pairs;
-          later = less-before n p p₂ h.len s.pairs.len (l, inside, same, omega (arith, w.above));
+          later = less_before n p p₂ h.len s.pairs.len (l, inside, same, omega (arith, w.above));
           first = λ q g b.
-              let v = before-less n p q h.len g.len b in
+              let v = before_less n p q h.len g.len b in
               elim (cases_order v.0 l) [
                 | inl z ↦
                     let a : Agree l p q = λ i j. v.2 i (omega arith) in
                     let up : at p l < at q l = omega (arith, v.3, ap (at p) z, ap (at q) z) in
                     let most = w.least q g a (omega arith) in
                     elim (cases_eq (at q l) (at p₁ l)) [
-                      | inl s₁ ↦ s.first q g (agree-more l p₁ q (λ i j. a i j ∙ sym (w.kept i j)) s₁)
-                      | inr ne ↦ inr (less-before n p₂ q s.pairs.len g.len (l, inside, λ i j. a i j ∙ sym (same i j), omega arith))
+                      | inl s₁ ↦ s.first q g (agree_more l p₁ q (λ i j. a i j ∙ sym (w.kept i j)) s₁)
+                      | inr ne ↦ inr (less_before n p₂ q s.pairs.len g.len (l, inside, λ i j. a i j ∙ sym (same i j), omega arith))
                     ]
                 | inr o ↦ elim o [
-                  | inl lt ↦ inr (less-before n p₂ q s.pairs.len g.len (v.0, v.1, λ i j. v.2 i j ∙ sym (same i (omega arith)), omega (arith, v.3, same v.0 lt)))
+                  | inl lt ↦ inr (less_before n p₂ q s.pairs.len g.len (v.0, v.1, λ i j. v.2 i j ∙ sym (same i (omega arith)), omega (arith, v.3, same v.0 lt)))
                   | inr gt ↦ absurd (e q g (λ i j. v.2 i (omega arith)) b)
                 ]
               ];

@@ -6,25 +6,25 @@ use Rattle.std.proofs.Common.{◌≡◌, ℕ, suc, ◌<◌, ◌≤◌, Bool, tru
 use Rattle.std.proofs.lemmas.List.{get_or-set_same, get_or-set_other, length-set}
 use Rattle.std.proofs.lemmas.Bool.{cases_eq, both_ways, and_from, and_parts, not_from_false, ne_eqb}
 use Rattle.blockset.specs.Sets.{members}
-use Rattle.blockset.proofs.Members.{members-with, members-le, members-within}
+use Rattle.blockset.proofs.Members.{members_with, members-le, members-within}
 use Rattle.pairing.specs.Grid.{at}
-use Rattle.matching.specs.Search.{Reached-by, Complete}
-use Rattle.matching.proofs.Inserting.{new_in, old-in, old-from}
+use Rattle.matching.specs.Search.{ReachedBy, Complete}
+use Rattle.matching.proofs.Inserting.{new_in, old_in, old_from}
 
 module _ (n : ℕ) (along : ℕ → ℕ → Bool) (roots held goals : ℕ → Bool) (row : List ℕ) where
   pub record Searching (pending reached : ℕ → Bool) (from rank : List ℕ) : Type 0 where
-    pub ways : Reached-by n along roots held row reached from rank
-    pub sized-from : length from ≡ 64
-    pub sized-rank : length rank ≡ 64
+    pub ways : ReachedBy n along roots held row reached from rank
+    pub sized_from : length from ≡ 64
+    pub sized_rank : length rank ≡ 64
     pub inside : (l : ℕ) → pending l ≡ true → l < n
     pub waiting : (l : ℕ) → pending l ≡ true → (roots l ≡ true) ⊎ ((d : ℕ) × (reached d ≡ true) × (held d ≡ true) × (at row d ≡ l))
     pub rooted : (l c : ℕ) → roots l ≡ true → along l c ≡ true → (reached c ≡ true) ⊎ (pending l ≡ true)
     pub onward : (d c : ℕ) → reached d ≡ true → held d ≡ true → along (at row d) c ≡ true → (reached c ≡ true) ⊎ (pending (at row d) ≡ true)
-    pub no-goal : (c : ℕ) → reached c ≡ true → goals c ≡ false
+    pub no_goal : (c : ℕ) → reached c ≡ true → goals c ≡ false
 
-  pub search-start : (pending reached : ℕ → Bool) (from rank : List ℕ) → length from ≡ 64 → length rank ≡ 64 → ((l : ℕ) → roots l ≡ true → l < n)
+  pub search_start : (pending reached : ℕ → Bool) (from rank : List ℕ) → length from ≡ 64 → length rank ≡ 64 → ((l : ℕ) → roots l ≡ true → l < n)
       → ((l : ℕ) → pending l ≡ roots l) → ((c : ℕ) → reached c ≡ false) → Searching pending reached from rank
-  search-start pending reached from rank sf sr inside is none =
+  search_start pending reached from rank sf sr inside is none =
       let nothing : (c : ℕ) → reached c ≡ true → ⊥ = λ c t. both_ways (reached c) (none c) t in
       record {
         ways = record {
@@ -34,32 +34,32 @@ module _ (n : ℕ) (along : ℕ → ℕ → Bool) (roots held goals : ℕ → Bo
           back = λ c t. absurd (nothing c t);
           ranked = λ c t. absurd (nothing c t);
         };
-        sized-from = sf;
-        sized-rank = sr;
+        sized_from = sf;
+        sized_rank = sr;
         inside = λ l t. inside l (sym (is l) ∙ t);
         waiting = λ l t. inl (sym (is l) ∙ t);
         rooted = λ l c t _. inr (is l ∙ t);
         onward = λ d c t. absurd (nothing d t);
-        no-goal = λ c t. absurd (nothing c t);
+        no_goal = λ c t. absurd (nothing c t);
       }
 
   module _ (pending reached : ℕ → Bool) (from rank : List ℕ) (s : Searching pending reached from rank) where
-    pub search-done : ((l : ℕ) → pending l ≡ false) → Complete along roots held row reached
-    search-done none = record {
+    pub search_done : ((l : ℕ) → pending l ≡ false) → Complete along roots held row reached
+    search_done none = record {
       rooted = λ l c t a. elim (s.rooted l c t a) [ inl e ↦ e | inr e ↦ absurd (both_ways (pending l) (none l) e) ];
       onward = λ d c t h a. elim (s.onward d c t h a) [ inl e ↦ e | inr e ↦ absurd (both_ways (pending (at row d)) (none (at row d)) e) ];
     }
 
     -- left block l leads to nothing new
-    pub search-retired : (l : ℕ) (pending' : ℕ → Bool) → ((c : ℕ) → along l c ≡ true → reached c ≡ true) → ((j : ℕ) → pending' j ≡ (pending j && not (eqb j l)))
+    pub search_retired : (l : ℕ) (pending' : ℕ → Bool) → ((c : ℕ) → along l c ≡ true → reached c ≡ true) → ((j : ℕ) → pending' j ≡ (pending j && not (eqb j l)))
         → Searching pending' reached from rank
-    search-retired l pending' closed is =
+    search_retired l pending' closed is =
         let was : (j : ℕ) → pending' j ≡ true → pending j ≡ true = λ j t. (and_parts (pending j) (not (eqb j l)) (sym (is j) ∙ t)).0 in
         let stays : (j : ℕ) → pending j ≡ true → (j ≡ l → ⊥) → pending' j ≡ true = λ j t ne. is j ∙ and_from (pending j) (not (eqb j l)) t (not_from_false _ (ne_eqb j l ne)) in
         record {
           ways = s.ways;
-          sized-from = s.sized-from;
-          sized-rank = s.sized-rank;
+          sized_from = s.sized_from;
+          sized_rank = s.sized_rank;
           inside = λ j t. s.inside j (was j t);
           waiting = λ j t. s.waiting j (was j t);
           rooted = λ j c t a. elim (cases_eq j l) [
@@ -70,73 +70,73 @@ module _ (n : ℕ) (along : ℕ → ℕ → Bool) (roots held goals : ℕ → Bo
             | inl e ↦ inl (closed c (subst (λ x. along x c ≡ true) e a))
             | inr ne ↦ elim (s.onward d c t h a) [ inl e ↦ inl e | inr e ↦ inr (stays (at row d) e ne) ]
           ];
-          no-goal = s.no-goal;
+          no_goal = s.no_goal;
         }
 
     module _ (l c : ℕ) (p : pending l ≡ true) (few : n ≤ 64) (low : c < n) (a : along l c ≡ true) (out : reached c ≡ false) (reached' : ℕ → Bool) (is : (j : ℕ) → reached' j ≡ (eqb j c || reached j)) where
       more : (j : ℕ) → reached j ≡ true → reached' j ≡ true
-      more = old-in reached reached' c is
+      more = old_in reached reached' c is
 
       old : (j : ℕ) → reached' j ≡ true → (j ≡ c → ⊥) → reached j ≡ true
-      old = old-from reached reached' c is
+      old = old_from reached reached' c is
 
       apart : (j : ℕ) → reached j ≡ true → j ≡ c → ⊥
       apart j t e = both_ways (reached j) (ap reached e ∙ out) t
 
-      pub search-grown : members 64 reached' ≡ suc (members 64 reached)
-      search-grown = members-with 64 reached reached' c (omega arith) out is
+      pub search_grown : members 64 reached' ≡ suc (members 64 reached)
+      search_grown = members_with 64 reached reached' c (omega arith) out is
 
-      from-here : at (set from c l) c ≡ l
-      from-here = get_or-set_same from c l 0 (omega (arith, s.sized-from))
+      from_here : at (set from c l) c ≡ l
+      from_here = get_or-set_same from c l 0 (omega (arith, s.sized_from))
 
       from_old : (j : ℕ) → (j ≡ c → ⊥) → at (set from c l) j ≡ at from j
       from_old j ne = get_or-set_other from c j l 0 ne
 
-      rank-here : at (set rank c (members 64 reached)) c ≡ members 64 reached
-      rank-here = get_or-set_same rank c (members 64 reached) 0 (omega (arith, s.sized-rank))
+      rank_here : at (set rank c (members 64 reached)) c ≡ members 64 reached
+      rank_here = get_or-set_same rank c (members 64 reached) 0 (omega (arith, s.sized_rank))
 
-      rank-old : (j : ℕ) → (j ≡ c → ⊥) → at (set rank c (members 64 reached)) j ≡ at rank j
-      rank-old j ne = get_or-set_other rank c j (members 64 reached) 0 ne
+      rank_old : (j : ℕ) → (j ≡ c → ⊥) → at (set rank c (members 64 reached)) j ≡ at rank j
+      rank_old j ne = get_or-set_other rank c j (members 64 reached) 0 ne
 
       Back : ℕ → ℕ → Type 0
       Back m x = (roots m ≡ true) ⊎ ((d : ℕ) × (reached' d ≡ true) × (held d ≡ true) × (at row d ≡ m) × (at (set rank c (members 64 reached)) d < at (set rank c (members 64 reached)) x))
 
-      back-here : Back l c
+      back_here : Back l c
       unfolding Back
-      back-here = elim (s.waiting l p) [
+      back_here = elim (s.waiting l p) [
         | inl t ↦ inl t
-        | inr w ↦ inr (w.0, more w.0 w.1, w.2, w.3, rw (rank-here, rank-old w.0 (apart w.0 w.1)) (s.ways.ranked w.0 w.1))
+        | inr w ↦ inr (w.0, more w.0 w.1, w.2, w.3, rw (rank_here, rank_old w.0 (apart w.0 w.1)) (s.ways.ranked w.0 w.1))
       ]
 
-      back-old : (x : ℕ) → reached x ≡ true → Back (at from x) x
+      back_old : (x : ℕ) → reached x ≡ true → Back (at from x) x
       unfolding Back
-      back-old x t = elim (s.ways.back x t) [
+      back_old x t = elim (s.ways.back x t) [
         | inl f ↦ inl f
-        | inr w ↦ inr (w.0, more w.0 w.1, w.2, w.3, rw (rank-old x (apart x t), rank-old w.0 (apart w.0 w.1)) w.4)
+        | inr w ↦ inr (w.0, more w.0 w.1, w.2, w.3, rw (rank_old x (apart x t), rank_old w.0 (apart w.0 w.1)) w.4)
       ]
 
-      pub search-ways : Reached-by n along roots held row reached' (set from c l) (set rank c (members 64 reached))
+      pub search_ways : ReachedBy n along roots held row reached' (set from c l) (set rank c (members 64 reached))
       unfolding Back
-      search-ways = record {
-        high = λ x t. elim (cases_eq x c) [ inl e ↦ rw (e, from-here) (s.inside l p) | inr ne ↦ rw (from_old x ne) (s.ways.high x (old x t ne)) ];
+      search_ways = record {
+        high = λ x t. elim (cases_eq x c) [ inl e ↦ rw (e, from_here) (s.inside l p) | inr ne ↦ rw (from_old x ne) (s.ways.high x (old x t ne)) ];
         small = λ x t. elim (cases_eq x c) [ inl e ↦ rw e low | inr ne ↦ s.ways.small x (old x t ne) ];
-        by = λ x t. elim (cases_eq x c) [ inl e ↦ rw (e, from-here) a | inr ne ↦ rw (from_old x ne) (s.ways.by x (old x t ne)) ];
-        back = λ x t. elim (cases_eq x c) [ inl e ↦ rw (e, from-here) back-here | inr ne ↦ rw (from_old x ne) (back-old x (old x t ne)) ];
-        ranked = λ x t. elim (cases_eq x c) [ inl e ↦ rw (e, rank-here) (omega (arith, search-grown)) | inr ne ↦ rw (rank-old x ne) (omega (arith, search-grown, s.ways.ranked x (old x t ne))) ];
+        by = λ x t. elim (cases_eq x c) [ inl e ↦ rw (e, from_here) a | inr ne ↦ rw (from_old x ne) (s.ways.by x (old x t ne)) ];
+        back = λ x t. elim (cases_eq x c) [ inl e ↦ rw (e, from_here) back_here | inr ne ↦ rw (from_old x ne) (back_old x (old x t ne)) ];
+        ranked = λ x t. elim (cases_eq x c) [ inl e ↦ rw (e, rank_here) (omega (arith, search_grown)) | inr ne ↦ rw (rank_old x ne) (omega (arith, search_grown, s.ways.ranked x (old x t ne))) ];
       }
 
       -- no more right blocks are reached than there are
-      pub search-least : members 64 reached' ≤ n
-      search-least = omega (arith, members-within 64 n reached' few search-ways.small, members-le n reached')
+      pub search_least : members 64 reached' ≤ n
+      search_least = omega (arith, members-within 64 n reached' few search_ways.small, members-le n reached')
 
       -- right block c is reached, and the left block that has it, if any, is pending
-      pub search-more : (pending' : ℕ → Bool) → goals c ≡ false → ((j : ℕ) → pending j ≡ true → pending' j ≡ true) → (held c ≡ true → pending' (at row c) ≡ true)
+      pub search_more : (pending' : ℕ → Bool) → goals c ≡ false → ((j : ℕ) → pending j ≡ true → pending' j ≡ true) → (held c ≡ true → pending' (at row c) ≡ true)
           → ((j : ℕ) → pending' j ≡ true → (pending j ≡ true) ⊎ ((held c ≡ true) × (j ≡ at row c) × (j < n)))
           → Searching pending' reached' (set from c l) (set rank c (members 64 reached))
-      search-more pending' free keeps next only = record {
-        ways = search-ways;
-        sized-from = length-set from c l ∙ s.sized-from;
-        sized-rank = length-set rank c (members 64 reached) ∙ s.sized-rank;
+      search_more pending' free keeps next only = record {
+        ways = search_ways;
+        sized_from = length-set from c l ∙ s.sized_from;
+        sized_rank = length-set rank c (members 64 reached) ∙ s.sized_rank;
         inside = λ j t. elim (only j t) [ inl e ↦ s.inside j e | inr e ↦ e.2 ];
         waiting = λ j t. elim (only j t) [
           | inl e ↦ elim (s.waiting j e) [ inl r ↦ inl r | inr w ↦ inr (w.0, more w.0 w.1, w.2, w.3) ]
@@ -147,5 +147,5 @@ module _ (n : ℕ) (along : ℕ → ℕ → Bool) (roots held goals : ℕ → Bo
           | inl e ↦ inr (subst (λ y. pending' (at row y) ≡ true) (sym e) (next (sym (ap held e) ∙ h)))
           | inr ne ↦ elim (s.onward d x (old d t ne) h b) [ inl e ↦ inl (more x e) | inr e ↦ inr (keeps (at row d) e) ]
         ];
-        no-goal = λ x t. elim (cases_eq x c) [ inl e ↦ ap goals e ∙ free | inr ne ↦ s.no-goal x (old x t ne) ];
+        no_goal = λ x t. elim (cases_eq x c) [ inl e ↦ ap goals e ∙ free | inr ne ↦ s.no_goal x (old x t ne) ];
       }

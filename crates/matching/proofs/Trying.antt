@@ -11,15 +11,15 @@ use Rattle.blockset.proofs.Holding.{has_block}
 use Rattle.blockset.proofs.Members.{members-le}
 use Rattle.pairing.specs.Grid.{at, Perfect}
 use Rattle.pairing.specs.Chains.{Agree, Chain, here, step}
-use Rattle.pairing.proofs.Sending.{sends-if-chain}
+use Rattle.pairing.proofs.Sending.{sends_if_chain_lem}
 use Rattle.matching.specs.declared.Bounds.{Bounds}
 use Rattle.matching.specs.Rows.{holds, Pairs}
-use Rattle.matching.specs.Search.{Apart, Holding, along, Reached-by, Complete, Ways, Filled}
+use Rattle.matching.specs.Search.{Apart, Holding, along, ReachedBy, Complete, Ways, Filled}
 
 -- the ways of a search, told by the pairing
-pub ways-from : (n k : ℕ) (along : ℕ → ℕ → Bool) (p : List ℕ) (out held : ℕ → Bool) (row : List ℕ) (reached : ℕ → Bool) (from rank : List ℕ)
-    → Holding k n p out held row → Reached-by n along out held row reached from rank → Ways n p out reached from rank
-ways-from n k along p out held row reached from rank h w = record {
+pub ways_from : (n k : ℕ) (along : ℕ → ℕ → Bool) (p : List ℕ) (out held : ℕ → Bool) (row : List ℕ) (reached : ℕ → Bool) (from rank : List ℕ)
+    → Holding k n p out held row → ReachedBy n along out held row reached from rank → Ways n p out reached from rank
+ways_from n k along p out held row reached from rank h w = record {
   high = w.high;
   small = w.small;
   back = λ c t. elim (w.back c t) [
@@ -43,28 +43,28 @@ module _ (n l : ℕ) (tight : ℕ → ℕ → Bool) (p : List ℕ) where
     pub shut : (m x : ℕ) → l ≤ m → m < n → l ≤ x → x < n → live (at p m) ≡ false → tight m (at p x) ≡ true → live (at p x) ≡ false
 
   module _ (live : ℕ → Bool) (t : Trying live) where
-    stays-shut : (r : ℕ) → live r ≡ false → (c : ℕ) → Chain n l tight p r c → (x : ℕ) → l ≤ x → x < n → at p x ≡ c → live c ≡ false
-    stays-shut r f _ here x low high e = f
-    stays-shut r f _ (step m c le lt w ok) x low high e =
-        ap live (sym e) ∙ t.shut m x le lt low high (stays-shut r f (at p m) w m le lt refl) (ap (tight m) e ∙ ok)
+    stays_shut : (r : ℕ) → live r ≡ false → (c : ℕ) → Chain n l tight p r c → (x : ℕ) → l ≤ x → x < n → at p x ≡ c → live c ≡ false
+    stays_shut r f _ here x low high e = f
+    stays_shut r f _ (step m c le lt w ok) x low high e =
+        ap live (sym e) ∙ t.shut m x le lt low high (stays_shut r f (at p m) w m le lt refl) (ap (tight m) e ∙ ok)
 
     -- what a pairing gives l is live
-    pub sent-live : Perfect n tight p → l < n → (q : List ℕ) → Perfect n tight q → Agree l p q → live (at q l) ≡ true
-    sent-live h i q g a = elim (cases_Bool (live (at q l))) [
+    pub sent_live : Perfect n tight p → l < n → (q : List ℕ) → Perfect n tight q → Agree l p q → live (at q l) ≡ true
+    sent_live h i q g a = elim (cases_Bool (live (at q l))) [
       | inl o ↦ o
       | inr f ↦
-          let chain = ((sends-if-chain true n l tight p h l (at q l) (omega arith) i (g.below l i)).0.1 (q, g, a, refl)).1 in
-          absurd (both_ways (live (at p l)) (stays-shut (at q l) f (at p l) chain l (omega arith) i refl) t.own)
+          let chain = ((sends_if_chain_lem true n l tight p h l (at q l) (omega arith) i (g.below l i)).0.1 (q, g, a, refl)).1 in
+          absurd (both_ways (live (at p l)) (stays_shut (at q l) f (at p l) chain l (omega arith) i refl) t.own)
     ]
 
-    pub sent-candidate : (floor : ℕ) → Perfect n tight p → l < n → (q : List ℕ) → Perfect n tight q → Agree l p q → floor ≤ at q l → candidate tight l floor live (at q l) ≡ true
-    sent-candidate floor h i q g a up = and_from _ _ (and_from _ _ (g.standing l i) (sent-live h i q g a)) (not_from_false _ (high (at q l) up))
+    pub sent_candidate : (floor : ℕ) → Perfect n tight p → l < n → (q : List ℕ) → Perfect n tight q → Agree l p q → floor ≤ at q l → candidate tight l floor live (at q l) ≡ true
+    sent_candidate floor h i q g a up = and_from _ _ (and_from _ _ (g.standing l i) (sent_live h i q g a)) (not_from_false _ (high (at q l) up))
       where
         high : (x : ℕ) → floor ≤ x → ltb x floor ≡ false
         high x le = grind (arith, nat_tests)
 
-pub candidate-above : (tight : ℕ → ℕ → Bool) (l floor : ℕ) (live : ℕ → Bool) (c : ℕ) → candidate tight l floor live c ≡ true → (tight l c ≡ true) × (live c ≡ true) × (floor ≤ c)
-candidate-above tight l floor live c t =
+pub candidate_above : (tight : ℕ → ℕ → Bool) (l floor : ℕ) (live : ℕ → Bool) (c : ℕ) → candidate tight l floor live c ≡ true → (tight l c ≡ true) × (live c ≡ true) × (floor ≤ c)
+candidate_above tight l floor live c t =
     let a = and_parts (tight l c && live c) (not (ltb c floor)) t in
     let b = and_parts (tight l c) (live c) a.0 in
     (b.0, b.1, ltb-false c floor (not-true _ a.1))
@@ -74,19 +74,19 @@ module _ (alone : ℕ → Bool) (l : ℕ) (small : l < 64) (is : (j : ℕ) → a
   pub one_in : alone l ≡ true
   one_in = is l ∙ and_from _ _ (lt-ltb l 64 small) (eq-eqb l l refl)
 
-  pub one-is : (j : ℕ) → alone j ≡ true → j ≡ l
-  one-is j t = eqb-true j l (and_parts (ltb j 64) (eqb j l) (sym (is j) ∙ t)).1
+  pub one_is : (j : ℕ) → alone j ≡ true → j ≡ l
+  one_is j t = eqb-true j l (and_parts (ltb j 64) (eqb j l) (sym (is j) ∙ t)).1
 
-  pub one-not : (j : ℕ) → (j ≡ l → ⊥) → alone j ≡ false
-  one-not j ne = elim (cases_Bool (alone j)) [ inl t ↦ absurd (ne (one-is j t)) | inr f ↦ f ]
+  pub one_not : (j : ℕ) → (j ≡ l → ⊥) → alone j ≡ false
+  one_not j ne = elim (cases_Bool (alone j)) [ inl t ↦ absurd (ne (one_is j t)) | inr f ↦ f ]
 
-  pub one-other : (j : ℕ) → alone j ≡ false → j ≡ l → ⊥
-  one-other j f e = both_ways (alone j) f (ap alone e ∙ one_in)
+  pub one_other : (j : ℕ) → alone j ≡ false → j ≡ l → ⊥
+  one_other j f e = both_ways (alone j) f (ap alone e ∙ one_in)
 
 module _ (rows : List BlockSet) (p : List ℕ) (l : ℕ) (few : length rows ≤ 64) (h : Pairs rows p) (i : l < length rows)
     (alone held : ℕ → Bool) (row : List ℕ) (is-alone : (j : ℕ) → alone j ≡ (ltb j 64 && eqb j l)) (has-rows : Holding l (length rows) p alone held row) where
-  small-l : l < 64
-  small-l = omega arith
+  small_l : l < 64
+  small_l = omega arith
 
   -- before the first search all right blocks of left blocks from l on are live
   pub trying_start : (live goals : ℕ → Bool) → ((j : ℕ) → goals j ≡ (ltb j 64 && eqb j (at p l))) → ((j : ℕ) → live j ≡ (held j || goals j)) → Trying (length rows) l (holds rows) p live
@@ -94,12 +94,12 @@ module _ (rows : List BlockSet) (p : List ℕ) (l : ℕ) (few : length rows ≤ 
       let low : at p l < 64 = omega (arith, h.below l i) in
       let all_live : (m : ℕ) → l ≤ m → m < length rows → live (at p m) ≡ true = λ m le lt. elim (cases_eq m l) [
         | inl e ↦ is_live (at p m) ∙ or_right (held (at p m)) _ (ap (λ x. goals (at p x)) e ∙ one_in goals (at p l) low is-goals)
-        | inr ne ↦ is_live (at p m) ∙ or_left (held (at p m)) _ (has-rows.all m le lt (one-not alone l small-l is-alone m ne))
+        | inr ne ↦ is_live (at p m) ∙ or_left (held (at p m)) _ (has-rows.all m le lt (one_not alone l small_l is-alone m ne))
       ] in
       record {
         within = λ c t. elim (or_cases (held c) (goals c) (sym (is_live c) ∙ t)) [
           | inl e ↦ (at row c, has-rows.low c e, has-rows.high c e, has-rows.owner c e)
-          | inr e ↦ (l, omega arith, i, sym (one-is goals (at p l) low is-goals c e))
+          | inr e ↦ (l, omega arith, i, sym (one_is goals (at p l) low is-goals c e))
         ];
         own = all_live l (omega arith) i;
         shut = λ m x le lt _ _ f _. absurd (both_ways (live (at p m)) f (all_live m le lt));
@@ -111,32 +111,32 @@ module _ (rows : List BlockSet) (p : List ℕ) (l : ℕ) (few : length rows ≤ 
     small_r : r < 64
     small_r = has_block _ r ok
 
-    pub along-inside : (m c : ℕ) → along rows b m c ≡ true → c < length rows
-    along-inside m c a =
+    pub along_inside : (m c : ℕ) → along rows b m c ≡ true → c < length rows
+    along_inside m c a =
         let w = t.within in
         let e = (and_parts (holds rows m c) _ a).1 in
         let o : live c ≡ true = elim (cases_Bool (has b.roots m)) [
-          | inl x ↦ ap live (one-is (has b.offer) r small_r offer-is c (sym (cond-true _ _ _ x) ∙ e)) ∙ r-live
+          | inl x ↦ ap live (one_is (has b.offer) r small_r offer-is c (sym (cond-true _ _ _ x) ∙ e)) ∙ r-live
           | inr x ↦ sym (live-is c) ∙ sym (cond-false _ _ _ x) ∙ e
         ] in
         let v = w c o in
         subst (λ x. x < length rows) v.3 (h.below v.0 v.2)
 
     -- a pair of another left block to an live right block
-    along-live : (m c : ℕ) → (m ≡ l → ⊥) → holds rows m c ≡ true → live c ≡ true → along rows b m c ≡ true
-    along-live m c ne x o = and_from (holds rows m c) _ x (cond-false _ _ _ (roots-are m ∙ one-not alone l small-l is-alone m ne) ∙ live-is c ∙ o)
+    along_live : (m c : ℕ) → (m ≡ l → ⊥) → holds rows m c ≡ true → live c ≡ true → along rows b m c ≡ true
+    along_live m c ne x o = and_from (holds rows m c) _ x (cond-false _ _ _ (roots-are m ∙ one_not alone l small_l is-alone m ne) ∙ live-is c ∙ o)
 
-    pub along-offer : along rows b l r ≡ true
-    along-offer = and_from (holds rows l r) _ ok (cond-true _ _ _ (roots-are l ∙ one_in alone l small-l is-alone) ∙ one_in (has b.offer) r small_r offer-is)
+    pub along_offer : along rows b l r ≡ true
+    along_offer = and_from (holds rows l r) _ ok (cond-true _ _ _ (roots-are l ∙ one_in alone l small_l is-alone) ∙ one_in (has b.offer) r small_r offer-is)
 
-    module _ (reached : ℕ → Bool) (from rank : List ℕ) (w : Reached-by (length rows) (along rows b) (has b.roots) held row reached from rank) where
+    module _ (reached : ℕ → Bool) (from rank : List ℕ) (w : ReachedBy (length rows) (along rows b) (has b.roots) held row reached from rank) where
       -- the search was in vain: what it reached is shut
-      pub trying-more : Complete (along rows b) (has b.roots) held row reached → ((c : ℕ) → reached c ≡ true → has b.goals c ≡ false) → (live' : ℕ → Bool)
+      pub trying_more : Complete (along rows b) (has b.roots) held row reached → ((c : ℕ) → reached c ≡ true → has b.goals c ≡ false) → (live' : ℕ → Bool)
           → ((j : ℕ) → live' j ≡ (live j && not (reached j))) → Trying (length rows) l (holds rows) p live'
-      trying-more d no-goal live' is =
+      trying_more d no_goal live' is =
           let low : at p l < 64 = omega (arith, h.below l i) in
           let goal-in : has b.goals (at p l) ≡ true = one_in (has b.goals) (at p l) low goals-are in
-          let own-not : reached (at p l) ≡ false = elim (cases_Bool (reached (at p l))) [ inl x ↦ absurd (both_ways _ (no-goal (at p l) x) goal-in) | inr x ↦ x ] in
+          let own-not : reached (at p l) ≡ false = elim (cases_Bool (reached (at p l))) [ inl x ↦ absurd (both_ways _ (no_goal (at p l) x) goal-in) | inr x ↦ x ] in
           let off : (j : ℕ) → live j ≡ false → live' j ≡ false = λ j f. (let e = is j in grind arith) in
           let gone : (j : ℕ) → reached j ≡ true → live' j ≡ false = λ j f. (let e = is j in grind arith) in
           record {
@@ -147,11 +147,11 @@ module _ (rows : List BlockSet) (p : List ℕ) (l : ℕ) (few : length rows ≤ 
               | inl z ↦
                   let seen : reached (at p m) ≡ true = elim (cases_Bool (reached (at p m))) [ inl y ↦ y | inr y ↦ absurd (both_ways (live' (at p m)) f (is (at p m) ∙ and_from _ _ z (not_from_false _ y))) ] in
                   let ne : m ≡ l → ⊥ = λ e. both_ways (reached (at p m)) (ap (λ y. reached (at p y)) e ∙ own-not) seen in
-                  let had : held (at p m) ≡ true = has-rows.all m le lt (one-not alone l small-l is-alone m ne) in
+                  let had : held (at p m) ≡ true = has-rows.all m le lt (one_not alone l small_l is-alone m ne) in
                   let whose : at row (at p m) ≡ m = h.once (at row (at p m)) m (has-rows.high (at p m) had) lt (has-rows.owner (at p m) had) in
                   elim (cases_Bool (live (at p x))) [
                     | inr y ↦ off (at p x) y
-                    | inl y ↦ gone (at p x) (d.onward (at p m) (at p x) seen had (subst (λ k. along rows b k (at p x) ≡ true) (sym whose) (along-live m (at p x) ne ok' y)))
+                    | inl y ↦ gone (at p x) (d.onward (at p m) (at p x) seen had (subst (λ k. along rows b k (at p x) ≡ true) (sym whose) (along_live m (at p x) ne ok' y)))
                   ]
             ];
           }
@@ -159,11 +159,11 @@ module _ (rows : List BlockSet) (p : List ℕ) (l : ℕ) (few : length rows ≤ 
       -- the search came to l's own right block, and the pairs along the chain were exchanged
       pub sent : (q : List ℕ) (paired : ℕ) → Filled (length rows) p q alone reached from paired → Pairs rows q × Agree l p q × (at q l ≡ r)
       sent q paired f =
-          let is-l : paired ≡ l = one-is alone l small-l is-alone paired f.was_out in
-          let whole : Apart (length rows) q (λ _. false) = f.part (λ _. false) (λ x _ ne. one-not alone l small-l is-alone x (λ e. ne (e ∙ sym is-l))) in
+          let is-l : paired ≡ l = one_is alone l small_l is-alone paired f.was_out in
+          let whole : Apart (length rows) q (λ _. false) = f.part (λ _. false) (λ x _ ne. one_not alone l small_l is-alone x (λ e. ne (e ∙ sym is-l))) in
           let by : (c : ℕ) → reached c ≡ true → holds rows (at from c) c ≡ true = λ c x. (and_parts (holds rows (at from c) c) _ (w.by c x)).0 in
           let later : (c : ℕ) → reached c ≡ true → l ≤ at from c = λ c x. elim (w.back c x) [
-            | inl e ↦ (let z = one-is alone l small-l is-alone (at from c) (sym (roots-are (at from c)) ∙ e) in omega arith)
+            | inl e ↦ (let z = one_is alone l small_l is-alone (at from c) (sym (roots-are (at from c)) ∙ e) in omega arith)
             | inr v ↦ omega (arith, has-rows.low v.0 v.2, v.3)
           ] in (
             record {
@@ -177,6 +177,6 @@ module _ (rows : List BlockSet) (p : List ℕ) (l : ℕ) (few : length rows ≤ 
               | inl e ↦ absurd (e.0 (sym is-l))
               | inr e ↦
                   let a : along rows b l (at q l) ≡ true = subst (λ x. along rows b x (at q l) ≡ true) e.1 (w.by (at q l) e.0) in
-                  one-is (has b.offer) r small_r offer-is (at q l) (sym (cond-true _ _ _ (roots-are l ∙ one_in alone l small-l is-alone)) ∙ (and_parts (holds rows l (at q l)) _ a).1)
+                  one_is (has b.offer) r small_r offer-is (at q l) (sym (cond-true _ _ _ (roots-are l ∙ one_in alone l small_l is-alone)) ∙ (and_parts (holds rows l (at q l)) _ a).1)
             ],
           )

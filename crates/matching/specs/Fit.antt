@@ -26,8 +26,8 @@ abbrev pub Unfits : List BlockSet → List ℕ → Unfit → Type 0
 Unfits rows p = Misfit (length rows) (length p ≡ length rows) (Pairs rows p)
 
 -- the same with a table that has to have a place for each pair
-abbrev pub Unfits-table : List BlockSet → List ℕ → List ℕ → Unfit → Type 0
-Unfits-table rows p table = Misfit (length rows) ((length table ≡ length rows * length rows) × (length p ≡ length rows)) (Pairs rows p)
+abbrev pub UnfitsTable : List BlockSet → List ℕ → List ℕ → Unfit → Type 0
+UnfitsTable rows p table = Misfit (length rows) ((length table ≡ length rows * length rows) × (length p ≡ length rows)) (Pairs rows p)
 
 -- rows, and a list of any content
 abbrev pub Sized : List BlockSet → List ℕ → Type 0

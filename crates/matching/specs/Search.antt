@@ -1,5 +1,5 @@
 -- What a search along alternating chains finds: which right blocks it reaches, and from where.
-use Rattle.std.specs.Prelude.{◌≡◌, ℕ, ◌<◌, ◌≤◌, Bool, true, false, cond, ◌&&◌, ◌⊎◌, List, length, Some, None, Decides, Option, ◌≢◌}
+use Rattle.std.specs.Prelude.{◌≡◌, ℕ, ◌<◌, ◌≤◌, Bool, true, false, cond, ◌&&◌, ◌⊎◌, List, length, Some, None, IsTrue, ◌↔◌, Option, ◌≢◌}
 use Rattle.blockset.specs.declared.BlockSet.{BlockSet}
 use Rattle.blockset.specs.Has.{has}
 use Rattle.blockset.specs.Sets.{members}
@@ -27,7 +27,7 @@ along rows b l c = holds rows l c && cond (has b.roots l) (has b.offer c) (has b
 
 -- Right blocks that are reached, and for each the left block `from` that it is reached from by a pair of `along`: a root, or one that has a right block
 -- reached before. The rank of a right block tells how many were reached before it.
-pub record Reached-by (n : ℕ) (along : ℕ → ℕ → Bool) (roots held : ℕ → Bool) (row : List ℕ) (reached : ℕ → Bool) (from rank : List ℕ) : Type 0 where
+pub record ReachedBy (n : ℕ) (along : ℕ → ℕ → Bool) (roots held : ℕ → Bool) (row : List ℕ) (reached : ℕ → Bool) (from rank : List ℕ) : Type 0 where
   pub high : (c : ℕ) → reached c ≡ true → at from c < n
   pub small : (c : ℕ) → reached c ≡ true → c < n
   pub by : (c : ℕ) → reached c ≡ true → along (at from c) c ≡ true
@@ -63,4 +63,4 @@ pub record Filled (n : ℕ) (before after : List ℕ) (out reached : ℕ → Boo
 
 -- each right block of the left blocks below m has a set that tells which right blocks chains from it lead to
 abbrev pub Led : ℕ → List BlockSet → List ℕ → List BlockSet → Type 0
-Led m rows p led = (l c : ℕ) → l < m → c < length rows → Decides (holds led (at p l) c) (Chain (length rows) 0 (holds rows) p (at p l) c)
+Led m rows p led = (l c : ℕ) → l < m → c < length rows → (IsTrue (holds led (at p l) c) ↔ Chain (length rows) 0 (holds rows) p (at p l) c)

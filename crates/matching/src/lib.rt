@@ -9,14 +9,14 @@
 //! each right block at most once, so it takes at most 2n steps of a few set operations each.
 #![tactic(auto)]
 
-ghost use Rattle.std.specs.Prelude.{◌≡◌, ℕ, ◌+◌, ◌*◌, ◌<◌, ◌≤◌, true, false, ◌&&◌, ◌||◌, length, if◌then◌else◌, Decides, MatchBool, MatchOption, MatchResult, ◌≢◌, nat_lt};
+ghost use Rattle.std.specs.Prelude.{◌≡◌, ℕ, ◌+◌, ◌*◌, ◌<◌, ◌≤◌, true, false, ◌&&◌, ◌||◌, length, if◌then◌else◌, IsTrue, ◌↔◌, MatchBool, MatchOption, MatchResult, ◌≢◌, nat_lt};
 ghost use Rattle.blockset.specs.Has.{has};
 ghost use Rattle.pairing.specs.Grid.{at};
 ghost use Rattle.matching.specs.Rows.{holds, Pairs, pairings};
-ghost use Rattle.matching.specs.Fit.{Fits, Unfits, Unfits-table, Sized, Missized};
-ghost use Rattle.matching.specs.Search.{Apart, Holding, along, Reached-by, Ended, Ways, Filled, Led};
+ghost use Rattle.matching.specs.Fit.{Fits, Unfits, UnfitsTable, Sized, Missized};
+ghost use Rattle.matching.specs.Search.{Apart, Holding, along, ReachedBy, Ended, Ways, Filled, Led};
 ghost use Rattle.matching.specs.Steps.{Improved, Unimproved, Settled};
-ghost use Rattle.matching.specs.Answers.{Place, Steps, Marked, Pairs-most};
+ghost use Rattle.matching.specs.Answers.{Place, Steps, Marked, PairsMost};
 
 use blockset::BlockSet;
 
@@ -128,7 +128,7 @@ fn search(rows: &[BlockSet], holders: &Holders, bounds: Bounds) -> Reach
     requires roots { (l : ℕ) → has bounds.roots l ≡ true → l < length rows.now }
     requires inside { (l c : ℕ) → along rows.now bounds l c ≡ true → c < length rows.now }
     requires held { (c : ℕ) → has holders.now.held c ≡ true → at holders.now.row c < length rows.now }
-    ensures reached { Reached-by (length rows.now) (along rows.now bounds) (has bounds.roots) (has holders.now.held) holders.now.row (has result.reached) result.from result.rank }
+    ensures reached { ReachedBy (length rows.now) (along rows.now bounds) (has bounds.roots) (has holders.now.held) holders.now.row (has result.reached) result.from result.rank }
     ensures goal { Ended (along rows.now bounds) (has bounds.roots) (has holders.now.held) (has bounds.goals) holders.now.row (has result.reached) result.goal }
 {
     let mut reached = BlockSet::empty();
@@ -261,7 +261,7 @@ fn advance(rows: &[BlockSet], p: &mut [u16]) -> Step
 fn is_pairing(rows: &[BlockSet], p: &[u16]) -> bool
     requires small { length rows.now ≤ 64 }
     requires sized { length p.now ≡ length rows.now }
-    ensures { Decides result (Pairs rows.now p.now) }
+    ensures { IsTrue result ↔ Pairs rows.now p.now }
 {
     let mut free = BlockSet::all(rows.len());
     for (l, row) in rows.iter().enumerate() {
@@ -351,7 +351,7 @@ fn mark_row(marks: &mut [u8], row: BlockSet, own: usize, led: &[BlockSet])
 /// Writes 1 for each pair that some perfect pairing over the rows has, and 0 for every other pair: place l × n + r of the table is that
 /// of left block l and right block r. `p` has to be a perfect pairing over the rows. It takes n searches.
 pub fn marks(rows: &[BlockSet], p: &[u16], table: &mut [u8]) -> Result<(), Unfit>
-    ensures { MatchResult result (λ _. Fits rows.now p.now × (length table.old ≡ length rows.now * length rows.now) × Marked rows.now table.new) (λ e. Unfits-table rows.now p.now table.old e × (table.new ≡ table.old)) }
+    ensures { MatchResult result (λ _. Fits rows.now p.now × (length table.old ≡ length rows.now * length rows.now) × Marked rows.now table.new) (λ e. UnfitsTable rows.now p.now table.old e × (table.new ≡ table.old)) }
 {
     let n = rows.len();
     if n > 64 {
@@ -389,7 +389,7 @@ fn crowd_of(p: &[u16], out: BlockSet, reached: BlockSet) -> BlockSet
 fn pair_most(rows: &[BlockSet], p: &mut [u16]) -> Found
     requires small { length rows.now ≤ 64 }
     requires sized { length p.old ≡ length rows.now }
-    ensures { Pairs-most rows.now p.old p.new result }
+    ensures { PairsMost rows.now p.old p.new result }
 {
     let all = BlockSet::all(rows.len());
     let mut out = all;
@@ -422,7 +422,7 @@ fn pair_most(rows: &[BlockSet], p: &mut [u16]) -> Found
 /// Makes `p`, whatever it holds, a largest pairing over the rows: a perfect one if there is one. Else the answer says which left blocks it
 /// leaves out, at whose places `p` is as it was, and why no pairing is perfect. Right blocks from n on in a row do not matter.
 pub fn largest(rows: &[BlockSet], p: &mut [u16]) -> Result<Found, Unfit>
-    ensures { MatchResult result (λ f. Sized rows.now p.old × Pairs-most rows.now p.old p.new f) (λ e. Missized rows.now p.old e × (p.new ≡ p.old)) }
+    ensures { MatchResult result (λ f. Sized rows.now p.old × PairsMost rows.now p.old p.new f) (λ e. Missized rows.now p.old e × (p.new ≡ p.old)) }
 {
     if rows.len() > 64 {
         Err(Unfit::Size)

@@ -8,10 +8,10 @@ use Rattle.std.proofs.lemmas.Bool.{cond-false}
 use Rattle.std.proofs.lemmas.Bool.Decides.{nat_tests}
 use Rattle.orderfile.specs.declared.record.StatedPair.{StatedPair}
 use Rattle.orderfile.specs.declared.record.Stage.TheVariants.{Start, Sized}
-use Rattle.orderfile.specs.Format.{SoundPair, sizeField, pairField, endField, eightBytes, tag_of, length_of, extent, value_of, overruns, pairIn}
-use Rattle.orderfile.specs.Faults.{fieldFault}
-use Rattle.orderfile.specs.Records.{sizeIn}
-use Rattle.orderfile.proofs.Bytes.{spelled, bytes-spell, spelled-bytes}
+use Rattle.orderfile.specs.Format.{SoundPair, size_field, pair_field, end_field, eight_bytes, tag_of, length_of, extent, value_of, overruns, pair_in}
+use Rattle.orderfile.specs.Faults.{field_fault}
+use Rattle.orderfile.specs.Records.{size_in}
+use Rattle.orderfile.proofs.Bytes.{spelled, bytes_spell, spelled_bytes}
 
 -- each number of a list is a byte
 abbrev pub Bytes : List ℕ → Type 0
@@ -19,11 +19,11 @@ Bytes xs = (i : ℕ) → get_or xs i 0 < 256
 
 -- sound fields have no fault
 
-pub size-sound : (n : ℕ) (more : List ℕ) (at : ℕ) → 1 ≤ n → n ≤ 64 → fieldFault Start (sizeField n ++ more) at ≡ None
-size-sound n more at some few = grind (arith, nat_tests)
+pub size_sound : (n : ℕ) (more : List ℕ) (at : ℕ) → 1 ≤ n → n ≤ 64 → field_fault Start (size_field n ++ more) at ≡ None
+size_sound n more at some few = grind (arith, nat_tests)
 
-pub end-sound : (n : ℕ) (more : List ℕ) (at : ℕ) → fieldFault (Sized n) (endField ++ more) at ≡ None
-end-sound n more at = grind (arith, nat_tests)
+pub end_sound : (n : ℕ) (more : List ℕ) (at : ℕ) → field_fault (Sized n) (end_field ++ more) at ≡ None
+end_sound n more at = grind (arith, nat_tests)
 
 -- a number within 10^9 fits 64 bits
 pub fits : (z : ℤ) → nat_abs z ≤ 1000000000 → SFits w64 z
@@ -34,18 +34,18 @@ bits_fit : (z : ℤ) → nat_abs z ≤ 1000000000 → of_z w64 z < 1844674407370
 bits_fit (pos k) small = omega arith
 bits_fit (negsuc k) small = omega arith
 
-pub pair-stated : (p : StatedPair) (more : List ℕ) → nat_abs p.cost ≤ 1000000000 → pairIn (value_of (pairField p ++ more)) ≡ p
-pair-stated p more small =
+pub pair_stated : (p : StatedPair) (more : List ℕ) → nat_abs p.cost ≤ 1000000000 → pair_in (value_of (pair_field p ++ more)) ≡ p
+pair_stated p more small =
     let e : to_z w64 (spelled (of_z w64 p.cost / 72057594037927936 % 256) (of_z w64 p.cost / 281474976710656 % 256) (of_z w64 p.cost / 1099511627776 % 256) (of_z w64 p.cost / 4294967296 % 256)
-    (of_z w64 p.cost / 16777216 % 256) (of_z w64 p.cost / 65536 % 256) (of_z w64 p.cost / 256 % 256) (of_z w64 p.cost % 256)) ≡ p.cost = ap (to_z w64) (bytes-spell (of_z w64 p.cost) (bits_fit p.cost small)) ∙ to_z-of_z w64 p.cost (fits p.cost small) in
+    (of_z w64 p.cost / 16777216 % 256) (of_z w64 p.cost / 65536 % 256) (of_z w64 p.cost / 256 % 256) (of_z w64 p.cost % 256)) ≡ p.cost = ap (to_z w64) (bytes_spell (of_z w64 p.cost) (bits_fit p.cost small)) ∙ to_z-of_z w64 p.cost (fits p.cost small) in
     ap (λ z. record { left = p.left; right = p.right; cost = z }) e
 
-pub pair-sound : (n : ℕ) (p : StatedPair) (more : List ℕ) (at : ℕ) → SoundPair n p → fieldFault (Sized n) (pairField p ++ more) at ≡ None
-pair-sound n p more at s =
-    let e = pair-stated p more s.cost_within in
-    let blocks : (leb n (pairIn (value_of (pairField p ++ more))).left || leb n (pairIn (value_of (pairField p ++ more))).right) ≡ false = grind (arith, nat_tests, s.left_below, s.right_below) in
-    let cost : ltb 1000000000 (nat_abs (pairIn (value_of (pairField p ++ more))).cost) ≡ false = ap (λ q. ltb 1000000000 (nat_abs q.cost)) e ∙ grind (arith, nat_tests, s.cost_within) in
-    let whole : overruns (pairField p ++ more) ≡ false = grind (arith, nat_tests) in
+pub pair_sound : (n : ℕ) (p : StatedPair) (more : List ℕ) (at : ℕ) → SoundPair n p → field_fault (Sized n) (pair_field p ++ more) at ≡ None
+pair_sound n p more at s =
+    let e = pair_stated p more s.cost_within in
+    let blocks : (leb n (pair_in (value_of (pair_field p ++ more))).left || leb n (pair_in (value_of (pair_field p ++ more))).right) ≡ false = grind (arith, nat_tests, s.left_below, s.right_below) in
+    let cost : ltb 1000000000 (nat_abs (pair_in (value_of (pair_field p ++ more))).cost) ≡ false = ap (λ q. ltb 1000000000 (nat_abs q.cost)) e ∙ grind (arith, nat_tests, s.cost_within) in
+    let whole : overruns (pair_field p ++ more) ≡ false = grind (arith, nat_tests) in
     cond-false _ _ _ whole ∙ cond-false _ _ _ blocks ∙ cond-false _ _ _ cost
 
 -- fields without a fault are the bytes of what they state
@@ -64,49 +64,49 @@ peel (suc k) i xs h =
 
 -- a whole field
 module _ (rest : List ℕ) (whole : overruns rest ≡ false) where
-  pub header-fits : 3 ≤ length rest
-  header-fits = grind (arith, nat_tests)
+  pub header_fits : 3 ≤ length rest
+  header_fits = grind (arith, nat_tests)
 
   pub extent-fits : extent rest ≤ length rest
   extent-fits = grind (arith, nat_tests)
 
-  pub value-length : length (value_of rest) ≡ length_of rest
-  value-length = simp (length-take, length-drop) (omega (arith, header-fits, extent-fits))
+  pub value_length : length (value_of rest) ≡ length_of rest
+  value_length = simp (length-take, length-drop) (omega (arith, header_fits, extent-fits))
 
-  value-at : (i : ℕ) → i < length_of rest → get_or (value_of rest) i 0 ≡ get_or rest (3 + i) 0
-  value-at i h = get_or-take (length_of rest) (drop 3 rest) i 0 h ∙ get_or-drop 3 rest i 0
+  value_at : (i : ℕ) → i < length_of rest → get_or (value_of rest) i 0 ≡ get_or rest (3 + i) 0
+  value_at i h = get_or-take (length_of rest) (drop 3 rest) i 0 h ∙ get_or-drop 3 rest i 0
 
   -- the two bytes of a length below 256
-  length-bytes : (k : ℕ) → k < 256 → length (value_of rest) ≡ k → (get_or rest 1 0 ≡ 0) × (get_or rest 2 0 ≡ k)
-  length-bytes k h e = (omega (arith, value-length), omega (arith, value-length))
+  length_bytes : (k : ℕ) → k < 256 → length (value_of rest) ≡ k → (get_or rest 1 0 ≡ 0) × (get_or rest 2 0 ≡ k)
+  length_bytes k h e = (omega (arith, value_length), omega (arith, value_length))
 
-  pub size-bytes : tag_of rest ≡ 1 → length (value_of rest) ≡ 1 → rest ≡ sizeField (sizeIn (value_of rest)) ++ drop 4 rest
+  pub size_bytes : tag_of rest ≡ 1 → length (value_of rest) ≡ 1 → rest ≡ size_field (size_in (value_of rest)) ++ drop 4 rest
   unfolding firsts
-  size-bytes tag long =
-      let two = length-bytes 1 (omega arith) long in
-      let v0 : get_or (value_of rest) 0 0 ≡ get_or rest 3 0 = value-at 0 (omega (arith, value-length)) in
-      let front : firsts 4 0 rest ≡ sizeField (sizeIn (value_of rest)) = cc (tag, two.0, two.1, v0) in
-      peel 4 0 rest (omega (arith, value-length, extent-fits)) ∙ ap (λ t. t ++ drop 4 rest) front
+  size_bytes tag long =
+      let two = length_bytes 1 (omega arith) long in
+      let v0 : get_or (value_of rest) 0 0 ≡ get_or rest 3 0 = value_at 0 (omega (arith, value_length)) in
+      let front : firsts 4 0 rest ≡ size_field (size_in (value_of rest)) = cc (tag, two.0, two.1, v0) in
+      peel 4 0 rest (omega (arith, value_length, extent-fits)) ∙ ap (λ t. t ++ drop 4 rest) front
 
-  pub end-bytes : tag_of rest ≡ 3 → length (value_of rest) ≡ 0 → rest ≡ endField ++ drop 3 rest
+  pub end_bytes : tag_of rest ≡ 3 → length (value_of rest) ≡ 0 → rest ≡ end_field ++ drop 3 rest
   unfolding firsts
-  end-bytes tag long =
-      let two = length-bytes 0 (omega arith) long in
-      let front : firsts 3 0 rest ≡ endField = cc (tag, two.0, two.1) in
-      peel 3 0 rest header-fits ∙ ap (λ t. t ++ drop 3 rest) front
+  end_bytes tag long =
+      let two = length_bytes 0 (omega arith) long in
+      let front : firsts 3 0 rest ≡ end_field = cc (tag, two.0, two.1) in
+      peel 3 0 rest header_fits ∙ ap (λ t. t ++ drop 3 rest) front
 
-  pub pair-bytes : Bytes rest → tag_of rest ≡ 2 → length (value_of rest) ≡ 10 → rest ≡ pairField (pairIn (value_of rest)) ++ drop 13 rest
+  pub pair_bytes : Bytes rest → tag_of rest ≡ 2 → length (value_of rest) ≡ 10 → rest ≡ pair_field (pair_in (value_of rest)) ++ drop 13 rest
   unfolding firsts
-  pair-bytes bytes tag long =
+  pair_bytes bytes tag long =
       let v = value_of rest in
-      let ten : length_of rest ≡ 10 = sym value-length ∙ long in
-      let at : (i : ℕ) → i < 10 → get_or v i 0 ≡ get_or rest (3 + i) 0 = λ i h. value-at i (omega (arith, ten)) in
+      let ten : length_of rest ≡ 10 = sym value_length ∙ long in
+      let at : (i : ℕ) → i < 10 → get_or v i 0 ≡ get_or rest (3 + i) 0 = λ i h. value_at i (omega (arith, ten)) in
       let low : (i : ℕ) → i < 10 → get_or v i 0 < 256 = λ i h. omega (arith, at i h, bytes (3 + i)) in
       let number : ℕ = spelled (get_or v 2 0) (get_or v 3 0) (get_or v 4 0) (get_or v 5 0) (get_or v 6 0) (get_or v 7 0) (get_or v 8 0) (get_or v 9 0) in
       let small : number < 18446744073709551616 = omega (arith, low 2 (omega arith), low 3 (omega arith), low 4 (omega arith), low 5 (omega arith), low 6 (omega arith), low 7 (omega arith), low 8 (omega arith), low 9 (omega arith)) in
-      let spells : eightBytes (of_z w64 (to_z w64 number)) ≡ get_or v 2 0 ∷ get_or v 3 0 ∷ get_or v 4 0 ∷ get_or v 5 0 ∷ get_or v 6 0 ∷ get_or v 7 0 ∷ get_or v 8 0 ∷ get_or v 9 0 ∷ [] =
-      ap eightBytes (of_z-to_z w64 number small) ∙ spelled-bytes _ _ _ _ _ _ _ _ (low 2 (omega arith)) (low 3 (omega arith)) (low 4 (omega arith)) (low 5 (omega arith)) (low 6 (omega arith)) (low 7 (omega arith)) (low 8 (omega arith)) (low 9 (omega arith)) in
-      let two = length-bytes 10 (omega arith) long in
+      let spells : eight_bytes (of_z w64 (to_z w64 number)) ≡ get_or v 2 0 ∷ get_or v 3 0 ∷ get_or v 4 0 ∷ get_or v 5 0 ∷ get_or v 6 0 ∷ get_or v 7 0 ∷ get_or v 8 0 ∷ get_or v 9 0 ∷ [] =
+      ap eight_bytes (of_z-to_z w64 number small) ∙ spelled_bytes _ _ _ _ _ _ _ _ (low 2 (omega arith)) (low 3 (omega arith)) (low 4 (omega arith)) (low 5 (omega arith)) (low 6 (omega arith)) (low 7 (omega arith)) (low 8 (omega arith)) (low 9 (omega arith)) in
+      let two = length_bytes 10 (omega arith) long in
       let front : firsts 13 0 rest ≡ 2 ∷ 0 ∷ 10 ∷ get_or v 0 0 ∷ get_or v 1 0 ∷ get_or v 2 0 ∷ get_or v 3 0 ∷ get_or v 4 0 ∷ get_or v 5 0 ∷ get_or v 6 0 ∷ get_or v 7 0 ∷ get_or v 8 0 ∷ get_or v 9 0 ∷ [] =
       cc (tag, two.0, two.1, at 0 (omega arith), at 1 (omega arith), at 2 (omega arith), at 3 (omega arith), at 4 (omega arith), at 5 (omega arith), at 6 (omega arith), at 7 (omega arith), at 8 (omega arith), at 9 (omega arith)) in
       peel 13 0 rest (omega (arith, ten, extent-fits)) ∙ ap (λ t. t ++ drop 13 rest) (front ∙ ap (λ t. 2 ∷ 0 ∷ 10 ∷ get_or v 0 0 ∷ get_or v 1 0 ∷ t) (sym spells))

@@ -8,12 +8,12 @@ use Rattle.std.proofs.lemmas.Bool.Decides.{nat_tests}
 use Rattle.std.specs.List.{AllByRecursion}
 use Rattle.cost.specs.Columns.{railed}
 use Rattle.cost.specs.declared.plain_kind.Plain.{Plain}
-use Rattle.grid.specs.Tables.{place_of, saysStands, byte_of, standingPairs}
-use Rattle.grid.proofs.Orderly.{orderly-at, orderly-cost, standing-more, standing-all}
+use Rattle.grid.specs.Tables.{place_of, says_stands, byte_of, standing_pairs}
+use Rattle.grid.proofs.Orderly.{orderly-at, orderly_cost, standing_more, standing_all}
 use Rattle.orderfile.specs.declared.record.StatedPair.{StatedPair}
 use Rattle.orderfile.specs.Loading.{plain}
-use Rattle.orderfile.specs.Saving.{plainOrderly, times, Standing, Names, pair_at, listed}
-use Rattle.orderfile.proofs.Cells.{place-left, place-right}
+use Rattle.orderfile.specs.Saving.{plain_orderly, times, Standing, Names, pair_at, listed}
+use Rattle.orderfile.proofs.Cells.{place_left, place_right}
 
 -- a place is that of its own pair
 place_is : (n k : ℕ) → place_of n (k / n) (k % n) ≡ k
@@ -21,91 +21,91 @@ place_is n k = div-add-mod' k n
 
 module _ (n : ℕ) (some : 1 ≤ n) (costs : List Plain) (standing : List ℕ) where
   -- the test whether the pair at place k is that of l and r
-  at-other-place : (k l r : ℕ) → r < n → (k ≡ place_of n l r → ⊥) → (eqb (pair_at n costs k).left l && eqb (pair_at n costs k).right r) ≡ false
-  at-other-place k l r hr other =
+  at_other_place : (k l r : ℕ) → r < n → (k ≡ place_of n l r → ⊥) → (eqb (pair_at n costs k).left l && eqb (pair_at n costs k).right r) ≡ false
+  at_other_place k l r hr other =
       ⊎_elim
       (λ e. let both = and_parts (eqb (k / n) l) (eqb (k % n) r) e in
       absurd (other (sym (place_is n k) ∙ ap (λ x. place_of n x (k % n)) (eqb-true _ _ both.0) ∙ ap (place_of n l) (eqb-true _ _ both.1))))
       (λ e. e)
       (cases_Bool (eqb (k / n) l && eqb (k % n) r))
 
-  at-own-place : (l r : ℕ) → r < n → (eqb (pair_at n costs (place_of n l r)).left l && eqb (pair_at n costs (place_of n l r)).right r) ≡ true
-  at-own-place l r hr = and_from _ _ (eq-eqb _ _ (place-left n l r hr)) (eq-eqb _ _ (place-right n l r hr))
+  at_own_place : (l r : ℕ) → r < n → (eqb (pair_at n costs (place_of n l r)).left l && eqb (pair_at n costs (place_of n l r)).right r) ≡ true
+  at_own_place l r hr = and_from _ _ (eq-eqb _ _ (place_left n l r hr)) (eq-eqb _ _ (place_right n l r hr))
 
   -- a step of the listing, by whether the place stands
-  listed-yes : (k m : ℕ) → saysStands (get_or standing k 0) ≡ true → listed n costs standing k (suc m) ≡ pair_at n costs k ∷ listed n costs standing (k + 1) m
-  listed-yes k m e = cond-true _ _ _ e
+  listed_yes : (k m : ℕ) → says_stands (get_or standing k 0) ≡ true → listed n costs standing k (suc m) ≡ pair_at n costs k ∷ listed n costs standing (k + 1) m
+  listed_yes k m e = cond-true _ _ _ e
 
-  listed-no : (k m : ℕ) → saysStands (get_or standing k 0) ≡ false → listed n costs standing k (suc m) ≡ listed n costs standing (k + 1) m
-  listed-no k m e = cond-false _ _ _ e
+  listed_no : (k m : ℕ) → says_stands (get_or standing k 0) ≡ false → listed n costs standing k (suc m) ≡ listed n costs standing (k + 1) m
+  listed_no k m e = cond-false _ _ _ e
 
   -- places behind the pair's do not name it
-  named-not : (l r : ℕ) → r < n → (k m : ℕ) → place_of n l r < k → times l r (listed n costs standing k m) ≡ 0
-  named-not l r hr k zero h = refl
-  named-not l r hr k (suc m) h =
-      let rest : times l r (listed n costs standing (k + 1) m) ≡ 0 = named-not l r hr (k + 1) m (omega arith) in
+  named_not : (l r : ℕ) → r < n → (k m : ℕ) → place_of n l r < k → times l r (listed n costs standing k m) ≡ 0
+  named_not l r hr k zero h = refl
+  named_not l r hr k (suc m) h =
+      let rest : times l r (listed n costs standing (k + 1) m) ≡ 0 = named_not l r hr (k + 1) m (omega arith) in
       ⊎_elim
-      (λ yes'. ap (times l r) (listed-yes k m yes') ∙ ap (λ b. cond b 1 0 + times l r (listed n costs standing (k + 1) m)) (at-other-place k l r hr (λ e. omega arith)) ∙ omega (arith, rest))
-      (λ no'. ap (times l r) (listed-no k m no') ∙ rest)
-      (cases_Bool (saysStands (get_or standing k 0)))
+      (λ yes'. ap (times l r) (listed_yes k m yes') ∙ ap (λ b. cond b 1 0 + times l r (listed n costs standing (k + 1) m)) (at_other_place k l r hr (λ e. omega arith)) ∙ omega (arith, rest))
+      (λ no'. ap (times l r) (listed_no k m no') ∙ rest)
+      (cases_Bool (says_stands (get_or standing k 0)))
 
   -- places up to the pair's and on name it once, if it stands
-  pub named-once : (l r : ℕ) → r < n → (k m : ℕ) → k ≤ place_of n l r → place_of n l r < k + m → times l r (listed n costs standing k m) ≡ cond (saysStands (byte_of n standing l r)) 1 0
-  named-once l r hr k zero low high = absurd (omega arith)
-  named-once l r hr k (suc m) low high =
+  pub named_once : (l r : ℕ) → r < n → (k m : ℕ) → k ≤ place_of n l r → place_of n l r < k + m → times l r (listed n costs standing k m) ≡ cond (says_stands (byte_of n standing l r)) 1 0
+  named_once l r hr k zero low high = absurd (omega arith)
+  named_once l r hr k (suc m) low high =
       let here = place_of n l r in
       ⊎_elim
-      (λ same. let none : times l r (listed n costs standing (k + 1) m) ≡ 0 = named-not l r hr (k + 1) m (omega (arith, same)) in
+      (λ same. let none : times l r (listed n costs standing (k + 1) m) ≡ 0 = named_not l r hr (k + 1) m (omega (arith, same)) in
       ⊎_elim
-      (λ yes'. ap (times l r) (listed-yes k m yes')
-      ∙ ap (λ b. cond b 1 0 + times l r (listed n costs standing (k + 1) m)) (ap (λ j. eqb (pair_at n costs j).left l && eqb (pair_at n costs j).right r) same ∙ at-own-place l r hr)
-      ∙ ap (λ t. 1 + t) none ∙ sym (cond-true _ _ _ (ap (λ j. saysStands (get_or standing j 0)) (sym same) ∙ yes')))
-      (λ no'. ap (times l r) (listed-no k m no') ∙ none ∙ sym (cond-false _ _ _ (ap (λ j. saysStands (get_or standing j 0)) (sym same) ∙ no')))
-      (cases_Bool (saysStands (get_or standing k 0))))
-      (λ other. let rest : times l r (listed n costs standing (k + 1) m) ≡ cond (saysStands (byte_of n standing l r)) 1 0 = named-once l r hr (k + 1) m (omega (arith, other)) (omega arith) in
+      (λ yes'. ap (times l r) (listed_yes k m yes')
+      ∙ ap (λ b. cond b 1 0 + times l r (listed n costs standing (k + 1) m)) (ap (λ j. eqb (pair_at n costs j).left l && eqb (pair_at n costs j).right r) same ∙ at_own_place l r hr)
+      ∙ ap (λ t. 1 + t) none ∙ sym (cond-true _ _ _ (ap (λ j. says_stands (get_or standing j 0)) (sym same) ∙ yes')))
+      (λ no'. ap (times l r) (listed_no k m no') ∙ none ∙ sym (cond-false _ _ _ (ap (λ j. says_stands (get_or standing j 0)) (sym same) ∙ no')))
+      (cases_Bool (says_stands (get_or standing k 0))))
+      (λ other. let rest : times l r (listed n costs standing (k + 1) m) ≡ cond (says_stands (byte_of n standing l r)) 1 0 = named_once l r hr (k + 1) m (omega (arith, other)) (omega arith) in
       ⊎_elim
-      (λ yes'. ap (times l r) (listed-yes k m yes') ∙ ap (λ b. cond b 1 0 + times l r (listed n costs standing (k + 1) m)) (at-other-place k l r hr other) ∙ zero-add _ ∙ rest)
-      (λ no'. ap (times l r) (listed-no k m no') ∙ rest)
-      (cases_Bool (saysStands (get_or standing k 0))))
+      (λ yes'. ap (times l r) (listed_yes k m yes') ∙ ap (λ b. cond b 1 0 + times l r (listed n costs standing (k + 1) m)) (at_other_place k l r hr other) ∙ zero-add _ ∙ rest)
+      (λ no'. ap (times l r) (listed_no k m no') ∙ rest)
+      (cases_Bool (says_stands (get_or standing k 0))))
       (cases_eq k here)
 
   -- how many there are
-  pub listed-count : (k m : ℕ) → k + m ≡ length standing → length (listed n costs standing k m) ≡ standingPairs (drop k standing)
-  listed-count k zero e = sym (standing-all standing k (omega arith))
-  listed-count k (suc m) e =
-      let rest : length (listed n costs standing (k + 1) m) ≡ standingPairs (drop (k + 1) standing) = listed-count (k + 1) m (omega arith) in
-      let more = standing-more standing k (omega arith) in
+  pub listed_count : (k m : ℕ) → k + m ≡ length standing → length (listed n costs standing k m) ≡ standing_pairs (drop k standing)
+  listed_count k zero e = sym (standing_all standing k (omega arith))
+  listed_count k (suc m) e =
+      let rest : length (listed n costs standing (k + 1) m) ≡ standing_pairs (drop (k + 1) standing) = listed_count (k + 1) m (omega arith) in
+      let more = standing_more standing k (omega arith) in
       ⊎_elim
-      (λ yes'. ap length (listed-yes k m yes') ∙ omega (arith, rest, more ∙ ap (λ b. cond b 1 0 + standingPairs (drop (k + 1) standing)) yes'))
-      (λ no'. ap length (listed-no k m no') ∙ omega (arith, rest, more ∙ ap (λ b. cond b 1 0 + standingPairs (drop (k + 1) standing)) no'))
-      (cases_Bool (saysStands (get_or standing k 0)))
+      (λ yes'. ap length (listed_yes k m yes') ∙ omega (arith, rest, more ∙ ap (λ b. cond b 1 0 + standing_pairs (drop (k + 1) standing)) yes'))
+      (λ no'. ap length (listed_no k m no') ∙ omega (arith, rest, more ∙ ap (λ b. cond b 1 0 + standing_pairs (drop (k + 1) standing)) no'))
+      (cases_Bool (says_stands (get_or standing k 0)))
 
 -- a plain cost that its kind finds within 10^9 is a number within 10^9
 small : (z : ℤ) → (leb (nat_abs (railed z)) 1000000000 && true) ≡ true → nat_abs z ≤ 1000000000
 small (pos k) e = grind (arith, nat_tests)
 small (negsuc k) e = grind (arith, nat_tests)
 
-module _ (n : ℕ) (some : 1 ≤ n) (costs : List Plain) (standing : List ℕ) (ec : length costs ≡ n * n) (eb : length standing ≡ n * n) (good : plainOrderly costs standing ≡ true) where
-  standing-at : (k : ℕ) → k < n * n → saysStands (get_or standing k 0) ≡ true → Standing n costs standing (pair_at n costs k)
-  standing-at k h stands =
+module _ (n : ℕ) (some : 1 ≤ n) (costs : List Plain) (standing : List ℕ) (ec : length costs ≡ n * n) (eb : length standing ≡ n * n) (good : plain_orderly costs standing ≡ true) where
+  standing_at : (k : ℕ) → k < n * n → says_stands (get_or standing k 0) ≡ true → Standing n costs standing (pair_at n costs k)
+  standing_at k h stands =
       let placed = place_is n k in
       let fine = orderly-at (λ p. railed p.0 ∷ []) costs standing (plain (pos 0)) k (omega arith) (omega arith) good in
-      let cost : (leb (nat_abs (railed (get_or costs k (plain (pos 0))).0)) 1000000000 && true) ≡ true = orderly-cost (get_or standing k 0) (railed (get_or costs k (plain (pos 0))).0 ∷ []) fine stands in
+      let cost : (leb (nat_abs (railed (get_or costs k (plain (pos 0))).0)) 1000000000 && true) ≡ true = orderly_cost (get_or standing k 0) (railed (get_or costs k (plain (pos 0))).0 ∷ []) fine stands in
       record {
         sound = record { left_below = div_below k n n (omega arith) h; right_below = mod_below k n (omega arith); cost_within = small (get_or costs k (plain (pos 0))).0 cost };
-        stands = ap (λ j. cond (saysStands (get_or standing j 0)) (Some (get_or costs j (plain (pos 0)))) None) placed ∙ cond-true _ _ _ stands;
+        stands = ap (λ j. cond (says_stands (get_or standing j 0)) (Some (get_or costs j (plain (pos 0)))) None) placed ∙ cond-true _ _ _ stands;
       }
 
-  only-standing : (k m : ℕ) → k + m ≤ n * n → AllByRecursion (Standing n costs standing) (listed n costs standing k m)
-  only-standing k zero h = tt
-  only-standing k (suc m) h =
+  only_standing : (k m : ℕ) → k + m ≤ n * n → AllByRecursion (Standing n costs standing) (listed n costs standing k m)
+  only_standing k zero h = tt
+  only_standing k (suc m) h =
       ⊎_elim
-      (λ yes'. subst (λ (ps : List StatedPair). AllByRecursion (Standing n costs standing) ps) (sym (listed-yes n some costs standing k m yes')) (standing-at k (omega arith) yes', only-standing (k + 1) m (omega arith)))
-      (λ no'. subst (λ (ps : List StatedPair). AllByRecursion (Standing n costs standing) ps) (sym (listed-no n some costs standing k m no')) (only-standing (k + 1) m (omega arith)))
-      (cases_Bool (saysStands (get_or standing k 0)))
+      (λ yes'. subst (λ (ps : List StatedPair). AllByRecursion (Standing n costs standing) ps) (sym (listed_yes n some costs standing k m yes')) (standing_at k (omega arith) yes', only_standing (k + 1) m (omega arith)))
+      (λ no'. subst (λ (ps : List StatedPair). AllByRecursion (Standing n costs standing) ps) (sym (listed_no n some costs standing k m no')) (only_standing (k + 1) m (omega arith)))
+      (cases_Bool (says_stands (get_or standing k 0)))
 
-  pub names-all : Names n costs standing (listed n costs standing 0 (n * n))
-  names-all = record {
-    once = λ l r hl hr. named-once n some costs standing l r hr 0 (n * n) (omega arith) (omega (arith, mul-add-lt l n r n hl hr));
-    only = only-standing 0 (n * n) (omega arith);
+  pub names_all : Names n costs standing (listed n costs standing 0 (n * n))
+  names_all = record {
+    once = λ l r hl hr. named_once n some costs standing l r hr 0 (n * n) (omega arith) (omega (arith, mul-add-lt l n r n hl hr));
+    only = only_standing 0 (n * n) (omega arith);
   }

@@ -8,23 +8,23 @@ use Rattle.std.proofs.lemmas.Bool.{cases_Bool, cond-true, cond-false, and_parts,
 use Rattle.std.specs.Option.{option_map}
 use Rattle.std.specs.List.{flat_map, AllByRecursion}
 use Rattle.cost.specs.declared.plain_kind.Plain.{Plain}
-use Rattle.grid.specs.Tables.{fitting, saysStands, byte_of, cell, standingPairs}
+use Rattle.grid.specs.Tables.{fitting, says_stands, byte_of, cell, standing_pairs}
 use Rattle.sheet.specs.declared.fault.Cause.TheVariants.{TableLength, Inconsistent, ShortBuffer}
 use Rattle.sheet.specs.declared.fault.Fault.{Fault}
 use Rattle.sheet.specs.Refusals.{fault}
 use Rattle.sheet.proofs.Refused.{refused, accepted}
 use Rattle.orderfile.specs.declared.record.StatedPair.{StatedPair}
-use Rattle.orderfile.specs.Format.{Order, SoundPair, States, pairField, endField, sizeField, fileOf}
+use Rattle.orderfile.specs.Format.{Order, SoundPair, States, pair_field, end_field, size_field, file_of}
 use Rattle.orderfile.specs.Loading.{plain, or_else, stated}
-use Rattle.orderfile.proofs.Buffer.{put-behind}
-use Rattle.orderfile.proofs.Listed.{listed-count}
-use Rattle.orderfile.specs.Saving.{savedLength, plainOrderly, saveRefusal, listed, times, Standing, Names, Written, Reloads, Saved}
+use Rattle.orderfile.proofs.Buffer.{put_behind}
+use Rattle.orderfile.proofs.Listed.{listed_count}
+use Rattle.orderfile.specs.Saving.{saved_length, plain_orderly, save_refusal, listed, times, Standing, Names, Written, Reloads, Saved}
 
 -- what pairs that stand state of l and r: nothing where they name it never, else what the cell holds
-stated-is : (n : ℕ) (costs : List Plain) (standing : List ℕ) (l r : ℕ) (ps : List StatedPair) → AllByRecursion (Standing n costs standing) ps
+stated_is : (n : ℕ) (costs : List Plain) (standing : List ℕ) (l r : ℕ) (ps : List StatedPair) → AllByRecursion (Standing n costs standing) ps
     → ((stated ps l r ≡ None) × (times l r ps ≡ 0)) ⊎ ((z : ℤ) × (stated ps l r ≡ Some z) × (cell (plain (pos 0)) n costs standing l r ≡ Some (plain z)))
-stated-is n costs standing l r [] s = inl (refl, refl)
-stated-is n costs standing l r (p ∷ ps) s =
+stated_is n costs standing l r [] s = inl (refl, refl)
+stated_is n costs standing l r (p ∷ ps) s =
     let here : Bool = eqb p.left l && eqb p.right r in
     ⊎_elim
     (λ none. ⊎_elim
@@ -38,41 +38,41 @@ stated-is n costs standing l r (p ∷ ps) s =
     (λ no'. inl (ap (λ o. or_else o (cond here (Some p.cost) None)) none.0 ∙ cond-false here _ _ no', ap (λ b. cond b 1 0 + times l r ps) no' ∙ omega (arith, none.1)))
     (cases_Bool here))
     (λ some. inr (some.0, ap (λ o. or_else o (cond here (Some p.cost) None)) some.1, some.2))
-    (stated-is n costs standing l r ps s.1)
+    (stated_is n costs standing l r ps s.1)
 
-pub names-stated : (n : ℕ) (costs : List Plain) (standing : List ℕ) (pairs : List StatedPair) → Names n costs standing pairs → (l r : ℕ) → l < n → r < n
+pub names_stated : (n : ℕ) (costs : List Plain) (standing : List ℕ) (pairs : List StatedPair) → Names n costs standing pairs → (l r : ℕ) → l < n → r < n
     → option_map plain (stated pairs l r) ≡ cell (plain (pos 0)) n costs standing l r
-names-stated n costs standing pairs names l r hl hr =
+names_stated n costs standing pairs names l r hl hr =
     ⊎_elim
     (λ none. ap (option_map plain) none.0 ∙ sym (⊎_elim
     (λ yes'. let one : times l r pairs ≡ 1 = names.once l r hl hr ∙ cond-true _ _ _ yes' in absurd (omega (arith, none.1, one)))
     (λ no'. cond-false _ _ _ no')
-    (cases_Bool (saysStands (byte_of n standing l r)))))
+    (cases_Bool (says_stands (byte_of n standing l r)))))
     (λ some. ap (option_map plain) some.1 ∙ sym some.2)
-    (stated-is n costs standing l r pairs names.only)
+    (stated_is n costs standing l r pairs names.only)
 
 -- the length of the file of some pairs
-joined_length : (ps : List StatedPair) → length (flat_map pairField ps) ≡ 13 * length ps
+joined_length : (ps : List StatedPair) → length (flat_map pair_field ps) ≡ 13 * length ps
 joined_length [] = refl
-joined_length (p ∷ ps) = let rest : length (flat_map pairField ps) ≡ 13 * length ps = joined_length ps in length-append (pairField p) (flat_map pairField ps) ∙ omega (arith, rest)
+joined_length (p ∷ ps) = let rest : length (flat_map pair_field ps) ≡ 13 * length ps = joined_length ps in length-append (pair_field p) (flat_map pair_field ps) ∙ omega (arith, rest)
 
-pub file-length : (n : ℕ) (ps : List StatedPair) → length (fileOf (record { size = n; pairs = ps })) ≡ 7 + 13 * length ps
-file-length n ps =
-    let tail : length (flat_map pairField ps ++ endField) ≡ length (flat_map pairField ps) + 3 = length-append (flat_map pairField ps) endField in
-    length-append (sizeField n) (flat_map pairField ps ++ endField) ∙ omega (arith, tail, joined_length ps)
+pub file_length : (n : ℕ) (ps : List StatedPair) → length (file_of (record { size = n; pairs = ps })) ≡ 7 + 13 * length ps
+file_length n ps =
+    let tail : length (flat_map pair_field ps ++ end_field) ≡ length (flat_map pair_field ps) + 3 = length-append (flat_map pair_field ps) end_field in
+    length-append (size_field n) (flat_map pair_field ps ++ end_field) ∙ omega (arith, tail, joined_length ps)
 
 module _ (n : ℕ) (some : 1 ≤ n) (few : n ≤ 64) (costs : List Plain) (standing out : List ℕ) where
-  reloads : (out' : List ℕ) → Written n costs standing out out' → Reloads n costs standing (take (savedLength standing) out')
+  reloads : (out' : List ℕ) → Written n costs standing out out' → Reloads n costs standing (take (saved_length standing) out')
   reloads out' w costs₀ standing₀ r costs' standing' fit h =
       let order : Order = record { size = n; pairs = w.pairs } in
-      let states : States (take (savedLength standing) out') order = record {
-        is_file = ap (take (savedLength standing)) w.file ∙ take_at (fileOf order) (drop (savedLength standing) out) (savedLength standing) w.long;
+      let states : States (take (saved_length standing) out') order = record {
+        is_file = ap (take (saved_length standing)) w.file ∙ take_at (file_of order) (drop (saved_length standing) out) (saved_length standing) w.long;
         sound = record { some = some; few = few; pairs_sound = All-weaker (Standing n costs standing) (SoundPair n) (λ p s. s.sound) w.pairs w.names.only };
       } in
       let accepts = h.loads order states fit in
-      (accepts.answers, λ l m hl hm. accepts.shows l m hl hm ∙ names-stated n costs standing w.pairs w.names l m hl hm)
+      (accepts.answers, λ l m hl hm. accepts.shows l m hl hm ∙ names_stated n costs standing w.pairs w.names l m hl hm)
 
-  pub saved : (r : Result ℕ Fault) (out' : List ℕ) → saveRefusal n costs standing (length out) ≡ None → r ≡ Ok (savedLength standing) → Written n costs standing out out' → Saved n costs standing out r out'
+  pub saved : (r : Result ℕ Fault) (out' : List ℕ) → save_refusal n costs standing (length out) ≡ None → r ≡ Ok (saved_length standing) → Written n costs standing out out' → Saved n costs standing out r out'
   saved r out' e er w = record {
     answers = er ∙ accepted _ _ e;
     stays = λ f s. let z : ◌≡◌ {A = ℕ} 0 1 = cc in absurd (omega arith);
@@ -80,7 +80,7 @@ module _ (n : ℕ) (some : 1 ≤ n) (few : n ≤ 64) (costs : List Plain) (stand
     reloads = λ _. reloads out' w;
   }
 
-  pub not_saved : (f : Fault) (r : Result ℕ Fault) (out' : List ℕ) → saveRefusal n costs standing (length out) ≡ Some f → r ≡ Err f → out' ≡ out → Saved n costs standing out r out'
+  pub not_saved : (f : Fault) (r : Result ℕ Fault) (out' : List ℕ) → save_refusal n costs standing (length out) ≡ Some f → r ≡ Err f → out' ≡ out → Saved n costs standing out r out'
   not_saved f r out' e er same = record {
     answers = er ∙ refused _ _ _ e;
     stays = λ g s. same;
@@ -90,27 +90,27 @@ module _ (n : ℕ) (some : 1 ≤ n) (few : n ≤ 64) (costs : List Plain) (stand
 
 -- when saving is refused
 module _ (n : ℕ) (costs : List Plain) (standing : List ℕ) (room : ℕ) where
-  pub save-misfits : fitting n (length costs) (length standing) ≡ false → saveRefusal n costs standing room ≡ Some (fault TableLength 0)
-  unfolding saveRefusal
-  save-misfits wrong = cond-true _ _ _ (ap not wrong)
+  pub save_misfits : fitting n (length costs) (length standing) ≡ false → save_refusal n costs standing room ≡ Some (fault TableLength 0)
+  unfolding save_refusal
+  save_misfits wrong = cond-true _ _ _ (ap not wrong)
 
   module _ (fit : fitting n (length costs) (length standing) ≡ true) where
-    pub save-disturbed : plainOrderly costs standing ≡ false → saveRefusal n costs standing room ≡ Some (fault Inconsistent 0)
-    unfolding saveRefusal
-    save-disturbed e = cond-false _ _ _ (ap not fit) ∙ cond-true _ _ _ (ap not e)
+    pub save_disturbed : plain_orderly costs standing ≡ false → save_refusal n costs standing room ≡ Some (fault Inconsistent 0)
+    unfolding save_refusal
+    save_disturbed e = cond-false _ _ _ (ap not fit) ∙ cond-true _ _ _ (ap not e)
 
-    pub save-short : plainOrderly costs standing ≡ true → room < savedLength standing → saveRefusal n costs standing room ≡ Some (fault ShortBuffer 0)
-    unfolding saveRefusal
-    save-short e h = cond-false _ _ _ (ap not fit) ∙ cond-false _ _ _ (ap not e) ∙ cond-true _ _ _ (lt-ltb room (savedLength standing) h)
+    pub save_short : plain_orderly costs standing ≡ true → room < saved_length standing → save_refusal n costs standing room ≡ Some (fault ShortBuffer 0)
+    unfolding save_refusal
+    save_short e h = cond-false _ _ _ (ap not fit) ∙ cond-false _ _ _ (ap not e) ∙ cond-true _ _ _ (lt-ltb room (saved_length standing) h)
 
-    pub save-accepts : plainOrderly costs standing ≡ true → savedLength standing ≤ room → saveRefusal n costs standing room ≡ None
-    unfolding saveRefusal
-    save-accepts e h = cond-false _ _ _ (ap not fit) ∙ cond-false _ _ _ (ap not e) ∙ cond-false _ _ _ (le-ltb room (savedLength standing) h)
+    pub save_accepts : plain_orderly costs standing ≡ true → saved_length standing ≤ room → save_refusal n costs standing room ≡ None
+    unfolding save_refusal
+    save_accepts e h = cond-false _ _ _ (ap not fit) ∙ cond-false _ _ _ (ap not e) ∙ cond-false _ _ _ (le-ltb room (saved_length standing) h)
 
 -- the bytes of the listed pairs, by their number
-pub listed-length : (n : ℕ) → 1 ≤ n → (costs : List Plain) (standing : List ℕ) → length standing ≡ n * n → 4 + length (flat_map pairField (listed n costs standing 0 (n * n))) + 3 ≡ savedLength standing
+pub listed-length : (n : ℕ) → 1 ≤ n → (costs : List Plain) (standing : List ℕ) → length standing ≡ n * n → 4 + length (flat_map pair_field (listed n costs standing 0 (n * n))) + 3 ≡ saved_length standing
 listed-length n some costs standing eb =
-    let count : length (listed n costs standing 0 (n * n)) ≡ standingPairs standing = listed-count n some costs standing 0 (n * n) (omega arith) in
+    let count : length (listed n costs standing 0 (n * n)) ≡ standing_pairs standing = listed_count n some costs standing 0 (n * n) (omega arith) in
     omega (arith, joined_length (listed n costs standing 0 (n * n)), count)
 
 sum : (m : ℕ) → 4 + (m + 3) ≡ 4 + m + 3
@@ -120,13 +120,13 @@ sum' : (m : ℕ) → 4 + m + 3 ≡ 4 + (m + 3)
 sum' m = omega arith
 
 -- the three writes of a file: the size field, the pairs and the end field
-pub three-writes : (n : ℕ) (pairs out out₁ out₂ out₃ : List ℕ) (at : ℕ)
-    → out₁ ≡ sizeField n ++ drop 4 out → at ≡ 4 + length pairs → out₂ ≡ (take 4 out₁ ++ pairs) ++ drop at out₁ → out₃ ≡ take at out₂ ++ (endField ++ drop (at + 3) out₂)
-    → out₃ ≡ (sizeField n ++ (pairs ++ endField)) ++ drop (4 + length pairs + 3) out
-three-writes n pairs out out₁ out₂ out₃ at e₁ place e₂ e₃ =
-    let front : take 4 out₁ ≡ sizeField n = ap (take 4) e₁ in
-    let long : length (take 4 out₁ ++ pairs) ≡ at = ap (λ t. length (t ++ pairs)) front ∙ length-append (sizeField n) pairs ∙ sym place in
+pub three_writes : (n : ℕ) (pairs out out₁ out₂ out₃ : List ℕ) (at : ℕ)
+    → out₁ ≡ size_field n ++ drop 4 out → at ≡ 4 + length pairs → out₂ ≡ (take 4 out₁ ++ pairs) ++ drop at out₁ → out₃ ≡ take at out₂ ++ (end_field ++ drop (at + 3) out₂)
+    → out₃ ≡ (size_field n ++ (pairs ++ end_field)) ++ drop (4 + length pairs + 3) out
+three_writes n pairs out out₁ out₂ out₃ at e₁ place e₂ e₃ =
+    let front : take 4 out₁ ≡ size_field n = ap (take 4) e₁ in
+    let long : length (take 4 out₁ ++ pairs) ≡ at = ap (λ t. length (t ++ pairs)) front ∙ length-append (size_field n) pairs ∙ sym place in
     let rest : drop (at + 3) out₁ ≡ drop (4 + length pairs + 3) out =
-    ap (drop (at + 3)) e₁ ∙ ap (λ k. drop k (sizeField n ++ drop 4 out)) (ap (λ k. k + 3) place ∙ sum' (length pairs)) ∙ sym (drop-drop (length pairs + 3) 4 (sizeField n ++ drop 4 out)) ∙ drop-drop (length pairs + 3) 4 out ∙ ap (λ k. drop k out) (sum (length pairs)) in
-    put-behind (take 4 out₁ ++ pairs) endField out₁ out₂ out₃ at e₂ long e₃ ∙ ap (λ t. ((t ++ pairs) ++ endField) ++ drop (at + 3) out₁) front
-    ∙ ap (λ t. ((sizeField n ++ pairs) ++ endField) ++ t) rest ∙ ap (λ t. t ++ drop (4 + length pairs + 3) out) (append_assoc (sizeField n) pairs endField)
+    ap (drop (at + 3)) e₁ ∙ ap (λ k. drop k (size_field n ++ drop 4 out)) (ap (λ k. k + 3) place ∙ sum' (length pairs)) ∙ sym (drop-drop (length pairs + 3) 4 (size_field n ++ drop 4 out)) ∙ drop-drop (length pairs + 3) 4 out ∙ ap (λ k. drop k out) (sum (length pairs)) in
+    put_behind (take 4 out₁ ++ pairs) end_field out₁ out₂ out₃ at e₂ long e₃ ∙ ap (λ t. ((t ++ pairs) ++ end_field) ++ drop (at + 3) out₁) front
+    ∙ ap (λ t. ((size_field n ++ pairs) ++ end_field) ++ t) rest ∙ ap (λ t. t ++ drop (4 + length pairs + 3) out) (append_assoc (size_field n) pairs end_field)

@@ -7,7 +7,7 @@ use Rattle.sheet.specs.declared.fault.Cause.TheVariants.{Size, Block, CostRange,
 use Rattle.orderfile.specs.declared.record.Stage.{Stage}
 use Rattle.orderfile.specs.declared.record.Stage.TheVariants.{Start, Sized, Ended}
 use Rattle.orderfile.specs.declared.record.StatedPair.{StatedPair}
-use Rattle.orderfile.specs.Format.{Sound, sizeField, pairField, fileOf, tag_of, value_of, overruns, pairIn}
+use Rattle.orderfile.specs.Format.{Sound, size_field, pair_field, file_of, tag_of, value_of, overruns, pair_in}
 
 -- the field that begins `rest`, which stands at the offset `at`, handed out as a part of the file
 pub record Handed (rest : List ℕ) (at : ℕ) (tag : ℕ) (value : List ℕ) (place : ℕ) : Type 0 where
@@ -22,36 +22,36 @@ pub record RunsPast (rest : List ℕ) (at : ℕ) (f : Fault) : Type 0 where
   pub fault_is : f ≡ fault Overrun at
 
 -- the checks of each kind of field behind its tag; a pair field is checked in a file of size n
-abbrev pub sizeChecks : List ℕ → ℕ → List (Bool × Fault)
-sizeChecks value at = (unlike (length value) 1, fault FieldLength at) ∷ (slice_index value 0 == 0 || nat_lt 64 (slice_index value 0), fault Size at) ∷ []
+abbrev pub size_checks : List ℕ → ℕ → List (Bool × Fault)
+size_checks value at = (unlike (length value) 1, fault FieldLength at) ∷ (slice_index value 0 == 0 || nat_lt 64 (slice_index value 0), fault Size at) ∷ []
 
-abbrev pub pairChecks : ℕ → List ℕ → ℕ → List (Bool × Fault)
-pairChecks n value at =
+abbrev pub pair_checks : ℕ → List ℕ → ℕ → List (Bool × Fault)
+pair_checks n value at =
     (unlike (length value) 10, fault FieldLength at)
-    ∷ (nat_le n (pairIn value).left || nat_le n (pairIn value).right, fault Block at)
-    ∷ (nat_lt 1000000000 (unsigned_abs (pairIn value).cost), fault CostRange at) ∷ []
+    ∷ (nat_le n (pair_in value).left || nat_le n (pair_in value).right, fault Block at)
+    ∷ (nat_lt 1000000000 (unsigned_abs (pair_in value).cost), fault CostRange at) ∷ []
 
-abbrev pub endChecks : List ℕ → ℕ → List (Bool × Fault)
-endChecks value at = (unlike (length value) 0, fault FieldLength at) ∷ []
+abbrev pub end_checks : List ℕ → ℕ → List (Bool × Fault)
+end_checks value at = (unlike (length value) 0, fault FieldLength at) ∷ []
 
 -- the first fault of a whole field, by what came before it: a size comes first, then pairs, then the end
-abbrev pub recordFault : Stage → ℕ → List ℕ → ℕ → Option Fault
-recordFault Start tag value at = cond (tag == 1) (first_of (sizeChecks value at)) (Some (fault Tag at))
-recordFault (Sized n) tag value at = cond (tag == 2) (first_of (pairChecks n value at)) (cond (tag == 3) (first_of (endChecks value at)) (Some (fault Tag at)))
-recordFault (Ended n) tag value at = Some (fault Tag at)
+abbrev pub record_fault : Stage → ℕ → List ℕ → ℕ → Option Fault
+record_fault Start tag value at = cond (tag == 1) (first_of (size_checks value at)) (Some (fault Tag at))
+record_fault (Sized n) tag value at = cond (tag == 2) (first_of (pair_checks n value at)) (cond (tag == 3) (first_of (end_checks value at)) (Some (fault Tag at)))
+record_fault (Ended n) tag value at = Some (fault Tag at)
 
 -- the first fault of the field that begins `rest`, which stands at the offset `at`: after the end any byte is one too many;
 -- else a file that stops here has its next field run past its end
-abbrev pub fieldFault : Stage → List ℕ → ℕ → Option Fault
-fieldFault Start rest at = cond (overruns rest) (Some (fault Overrun at)) (recordFault Start (tag_of rest) (value_of rest) at)
-fieldFault (Sized n) rest at = cond (overruns rest) (Some (fault Overrun at)) (recordFault (Sized n) (tag_of rest) (value_of rest) at)
-fieldFault (Ended n) rest at = cond (length rest == 0) None (Some (fault Tag at))
+abbrev pub field_fault : Stage → List ℕ → ℕ → Option Fault
+field_fault Start rest at = cond (overruns rest) (Some (fault Overrun at)) (record_fault Start (tag_of rest) (value_of rest) at)
+field_fault (Sized n) rest at = cond (overruns rest) (Some (fault Overrun at)) (record_fault (Sized n) (tag_of rest) (value_of rest) at)
+field_fault (Ended n) rest at = cond (length rest == 0) None (Some (fault Tag at))
 
 -- the bytes of a file up to a field: of the size and some pairs, or of all
 abbrev pub front : Stage → List StatedPair → List ℕ
 front Start pairs = []
-front (Sized n) pairs = sizeField n ++ flat_map pairField pairs
-front (Ended n) pairs = fileOf (record { size = n; pairs = pairs })
+front (Sized n) pairs = size_field n ++ flat_map pair_field pairs
+front (Ended n) pairs = file_of (record { size = n; pairs = pairs })
 
 -- the front has no fault
 abbrev pub SoundFront : Stage → List StatedPair → Type 0
@@ -66,4 +66,4 @@ pub record FirstFault (file : List ℕ) (f : Fault) : Type 0 where
   pub rest : List ℕ
   pub splits : file ≡ front stage pairs ++ rest
   pub sound : SoundFront stage pairs
-  pub faulty : fieldFault stage rest (length (front stage pairs)) ≡ Some f
+  pub faulty : field_fault stage rest (length (front stage pairs)) ≡ Some f

@@ -6,21 +6,21 @@ use Rattle.std.specs.List.{flat_map, AllByRecursion}
 use Rattle.orderfile.specs.declared.record.StatedPair.{StatedPair}
 
 -- a number below 2^64 as eight bytes, the high byte first
-abbrev pub eightBytes : ℕ → List ℕ
-eightBytes x =
+abbrev pub eight_bytes : ℕ → List ℕ
+eight_bytes x =
     (x / 72057594037927936 % 256) ∷ (x / 281474976710656 % 256) ∷ (x / 1099511627776 % 256) ∷ (x / 4294967296 % 256)
     ∷ (x / 16777216 % 256) ∷ (x / 65536 % 256) ∷ (x / 256 % 256) ∷ (x % 256) ∷ []
 
 -- the three kinds of field: a tag, a length of two bytes with the high byte first, a value.
 -- of_z w64 is the number's 64 bits in two's complement
-abbrev pub sizeField : ℕ → List ℕ
-sizeField n = 1 ∷ 0 ∷ 1 ∷ n ∷ []
+abbrev pub size_field : ℕ → List ℕ
+size_field n = 1 ∷ 0 ∷ 1 ∷ n ∷ []
 
-abbrev pub pairField : StatedPair → List ℕ
-pairField p = 2 ∷ 0 ∷ 10 ∷ p.left ∷ p.right ∷ eightBytes (of_z w64 p.cost)
+abbrev pub pair_field : StatedPair → List ℕ
+pair_field p = 2 ∷ 0 ∷ 10 ∷ p.left ∷ p.right ∷ eight_bytes (of_z w64 p.cost)
 
-abbrev pub endField : List ℕ
-endField = 3 ∷ 0 ∷ 0 ∷ []
+abbrev pub end_field : List ℕ
+end_field = 3 ∷ 0 ∷ 0 ∷ []
 
 -- what a whole file states: a size, and pairs in the order in which they stand in the file
 pub record Order : Type 0 where
@@ -28,8 +28,8 @@ pub record Order : Type 0 where
   pub pairs : List StatedPair
 
 -- the file of an order: one size field, then the pairs, then one end field
-abbrev pub fileOf : Order → List ℕ
-fileOf order = sizeField order.size ++ (flat_map pairField order.pairs ++ endField)
+abbrev pub file_of : Order → List ℕ
+file_of order = size_field order.size ++ (flat_map pair_field order.pairs ++ end_field)
 
 -- a pair that a sheet of n blocks takes
 pub record SoundPair (n : ℕ) (p : StatedPair) : Type 0 where
@@ -44,7 +44,7 @@ pub record Sound (order : Order) : Type 0 where
 
 -- a file states an order if it is the order's file, and a sheet takes all of it
 pub record States (file : List ℕ) (order : Order) : Type 0 where
-  pub is_file : file ≡ fileOf order
+  pub is_file : file ≡ file_of order
   pub sound : Sound order
 
 -- the parts of the field that begins a list of bytes
@@ -65,8 +65,8 @@ abbrev pub overruns : List ℕ → Bool
 overruns bytes = nat_lt (length bytes) 3 || nat_lt (length bytes) (extent bytes)
 
 -- the pair that the value of a pair field states: to_z w64 reads 64 bits in two's complement
-abbrev pub pairIn : List ℕ → StatedPair
-pairIn value = record {
+abbrev pub pair_in : List ℕ → StatedPair
+pair_in value = record {
   left = slice_index value 0;
   right = slice_index value 1;
   cost = to_z w64 (slice_index value 2 * 72057594037927936 + slice_index value 3 * 281474976710656 + slice_index value 4 * 1099511627776 + slice_index value 5 * 4294967296

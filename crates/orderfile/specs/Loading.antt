@@ -2,7 +2,7 @@
 use Rattle.std.specs.Prelude.{◌≡◌, ℕ, ◌*◌, ◌<◌, cond, ◌&&◌, ◌⊎◌, List, [], ◌∷◌, length, ℤ, pos, Some, None, Ok, Err, Option, Result, ◌==◌}
 use Rattle.std.specs.Option.{option_map}
 use Rattle.cost.specs.declared.plain_kind.Plain.{Plain}
-use Rattle.grid.specs.Tables.{cell, costsOpened, standingOpened, costsEntered, standingEntered}
+use Rattle.grid.specs.Tables.{cell, costs_opened, standing_opened, costs_entered, standing_entered}
 use Rattle.sheet.specs.Opening.{sizes}
 use Rattle.sheet.specs.Refusals.{fault}
 use Rattle.sheet.specs.declared.fault.Cause.TheVariants.{TableLength}
@@ -27,13 +27,13 @@ abbrev pub plain : ℤ → Plain
 plain z = record { 0 = z }
 
 -- the tables of a sheet of n blocks after pairs were entered in turn
-abbrev pub costsAfter : ℕ → List StatedPair → List Plain → List Plain
-costsAfter n [] costs = costs
-costsAfter n (p ∷ ps) costs = costsAfter n ps (costsEntered n p.left p.right (plain p.cost) costs)
+abbrev pub costs_after : ℕ → List StatedPair → List Plain → List Plain
+costs_after n [] costs = costs
+costs_after n (p ∷ ps) costs = costs_after n ps (costs_entered n p.left p.right (plain p.cost) costs)
 
-abbrev pub standingAfter : ℕ → List StatedPair → List ℕ → List ℕ
-standingAfter n [] standing = standing
-standingAfter n (p ∷ ps) standing = standingAfter n ps (standingEntered n p.left p.right standing)
+abbrev pub standing_after : ℕ → List StatedPair → List ℕ → List ℕ
+standing_after n [] standing = standing
+standing_after n (p ∷ ps) standing = standing_after n ps (standing_entered n p.left p.right standing)
 
 -- what pairs state of left block l and right block r: a later one replaces an earlier one
 abbrev pub or_else : {X : Type 0} → Option X → Option X → Option X
@@ -60,8 +60,8 @@ pub record Refused (f : Fault) (costs : List Plain) (standing : List ℕ) (r : R
 pub record Accepted (order : Order) (r : Result OpenSheet Fault) (costs' : List Plain) (standing' : List ℕ) : Type 0 where
   pub answers : sizes r ≡ Ok order.size
   -- exactly the tables that opening a sheet and entering the pairs in turn leave
-  pub enters_costs : costs' ≡ costsAfter order.size order.pairs (costsOpened (plain (pos 0)) order.size)
-  pub enters_standing : standing' ≡ standingAfter order.size order.pairs (standingOpened order.size)
+  pub enters_costs : costs' ≡ costs_after order.size order.pairs (costs_opened (plain (pos 0)) order.size)
+  pub enters_standing : standing' ≡ standing_after order.size order.pairs (standing_opened order.size)
   -- which is the sheet that the file states
   pub shows : Shows order costs' standing'
 

@@ -7,41 +7,41 @@ use Rattle.orderfile.specs.declared.record.Record.TheVariants.{Size, Pair, End}
 use Rattle.orderfile.specs.declared.record.Stage.{Stage}
 use Rattle.orderfile.specs.declared.record.Stage.TheVariants.{Start, Sized, Ended}
 use Rattle.orderfile.specs.declared.record.StatedPair.{StatedPair}
-use Rattle.orderfile.specs.Faults.{fieldFault}
-use Rattle.orderfile.specs.Format.{tag_of, value_of, extent, pairIn}
+use Rattle.orderfile.specs.Faults.{field_fault}
+use Rattle.orderfile.specs.Format.{tag_of, value_of, extent, pair_in}
 
-abbrev pub sizeIn : List ℕ → ℕ
-sizeIn value = slice_index value 0
+abbrev pub size_in : List ℕ → ℕ
+size_in value = slice_index value 0
 
 -- what a field with this tag and value states
-abbrev pub recordIn : ℕ → List ℕ → Record
-recordIn tag value = cond (tag == 1) (Size (sizeIn value)) (cond (tag == 2) (Pair (pairIn value)) End)
+abbrev pub record_in : ℕ → List ℕ → Record
+record_in tag value = cond (tag == 1) (Size (size_in value)) (cond (tag == 2) (Pair (pair_in value)) End)
 
 -- the pairs that a record states
-abbrev pub pairsOf : Record → List StatedPair
-pairsOf (Size n) = []
-pairsOf (Pair p) = p ∷ []
-pairsOf End = []
+abbrev pub pairs_stated : Record → List StatedPair
+pairs_stated (Size n) = []
+pairs_stated (Pair p) = p ∷ []
+pairs_stated End = []
 
 -- the record that comes next, where `rest` is left: none after the end
-abbrev pub recordNext : Stage → List ℕ → Option Record
-recordNext Start rest = Some (recordIn (tag_of rest) (value_of rest))
-recordNext (Sized n) rest = Some (recordIn (tag_of rest) (value_of rest))
-recordNext (Ended n) rest = None
+abbrev pub record_next : Stage → List ℕ → Option Record
+record_next Start rest = Some (record_in (tag_of rest) (value_of rest))
+record_next (Sized n) rest = Some (record_in (tag_of rest) (value_of rest))
+record_next (Ended n) rest = None
 
 -- the stage behind a record
-abbrev pub stageAfter : Stage → Record → Stage
-stageAfter stage (Size n) = Sized n
-stageAfter stage (Pair p) = stage
-stageAfter Start End = Start
-stageAfter (Sized n) End = Ended n
-stageAfter (Ended n) End = Ended n
+abbrev pub stage_after : Stage → Record → Stage
+stage_after stage (Size n) = Sized n
+stage_after stage (Pair p) = stage
+stage_after Start End = Start
+stage_after (Sized n) End = Ended n
+stage_after (Ended n) End = Ended n
 
 -- the stage behind the next record
-abbrev pub stageNext : Stage → List ℕ → Stage
-stageNext Start rest = stageAfter Start (recordIn (tag_of rest) (value_of rest))
-stageNext (Sized n) rest = stageAfter (Sized n) (recordIn (tag_of rest) (value_of rest))
-stageNext (Ended n) rest = Ended n
+abbrev pub stage_next : Stage → List ℕ → Stage
+stage_next Start rest = stage_after Start (record_in (tag_of rest) (value_of rest))
+stage_next (Sized n) rest = stage_after (Sized n) (record_in (tag_of rest) (value_of rest))
+stage_next (Ended n) rest = Ended n
 
 -- how many bytes the next record takes up
 abbrev pub passed : Stage → List ℕ → ℕ
@@ -52,7 +52,7 @@ passed (Ended n) rest = 0
 -- one step of a record reader that stands at a stage, with `rest` left from the offset `at` on: it answers the fault of the next field and stays,
 -- or else answers its record and stands behind it
 pub record Steps (stage : Stage) (rest : List ℕ) (at : ℕ) (r : Result (Option Record) Fault) (stage' : Stage) (rest' : List ℕ) (at' : ℕ) : Type 0 where
-  pub answers : r ≡ answer (fieldFault stage rest at) (recordNext stage rest)
-  pub stages : stage' ≡ after (fieldFault stage rest at) stage (stageNext stage rest)
-  pub passes : rest' ≡ after (fieldFault stage rest at) rest (drop (passed stage rest) rest)
-  pub moves : at' ≡ after (fieldFault stage rest at) at (at + passed stage rest)
+  pub answers : r ≡ answer (field_fault stage rest at) (record_next stage rest)
+  pub stages : stage' ≡ after (field_fault stage rest at) stage (stage_next stage rest)
+  pub passes : rest' ≡ after (field_fault stage rest at) rest (drop (passed stage rest) rest)
+  pub moves : at' ≡ after (field_fault stage rest at) at (at + passed stage rest)

@@ -3,30 +3,30 @@ use Rattle.std.specs.Prelude.{◌≡◌, ℕ, zero, suc, ◌+◌, ◌*◌, ◌/�
 use Rattle.std.specs.List.{AllByRecursion}
 use Rattle.cost.specs.Columns.{railed}
 use Rattle.cost.specs.declared.plain_kind.Plain.{Plain}
-use Rattle.grid.specs.Tables.{fitting, saysStands, byte_of, cell, orderly, standingPairs}
+use Rattle.grid.specs.Tables.{fitting, says_stands, byte_of, cell, orderly, standing_pairs}
 use Rattle.sheet.specs.Opening.{sizes}
 use Rattle.sheet.specs.Refusals.{fault, first_of, answer}
 use Rattle.sheet.specs.declared.fault.Cause.TheVariants.{TableLength, Inconsistent, ShortBuffer}
 use Rattle.sheet.specs.declared.fault.Fault.{Fault}
 use Rattle.sheet.specs.declared.state.OpenSheet.{OpenSheet}
 use Rattle.orderfile.specs.declared.record.StatedPair.{StatedPair}
-use Rattle.orderfile.specs.Format.{SoundPair, fileOf}
+use Rattle.orderfile.specs.Format.{SoundPair, file_of}
 use Rattle.orderfile.specs.Loading.{plain, Fitting, Loaded}
 
 -- the length of a saved file: a size field, a field for each standing pair, an end field
-abbrev pub savedLength : List ℕ → ℕ
-savedLength standing = 7 + 13 * standingPairs standing
+abbrev pub saved_length : List ℕ → ℕ
+saved_length standing = 7 + 13 * standing_pairs standing
 
 -- the tables are in order: no byte is above 1, and each standing cost is within 10^9
-abbrev pub plainOrderly : List Plain → List ℕ → Bool
-plainOrderly costs standing = orderly (λ p. railed p.0 ∷ []) costs standing
+abbrev pub plain_orderly : List Plain → List ℕ → Bool
+plain_orderly costs standing = orderly (λ p. railed p.0 ∷ []) costs standing
 
 -- room is the length of the buffer
-unfoldable pub saveRefusal : ℕ → List Plain → List ℕ → ℕ → Option Fault
-saveRefusal n costs standing room = first_of (
+unfoldable pub save_refusal : ℕ → List Plain → List ℕ → ℕ → Option Fault
+save_refusal n costs standing room = first_of (
     (not (fitting n (length costs) (length standing)), fault TableLength 0) ∷
-    (not (plainOrderly costs standing), fault Inconsistent 0) ∷
-    (nat_lt room (savedLength standing), fault ShortBuffer 0) ∷ [])
+    (not (plain_orderly costs standing), fault Inconsistent 0) ∷
+    (nat_lt room (saved_length standing), fault ShortBuffer 0) ∷ [])
 
 -- how often pairs name left block l with right block r
 abbrev pub times : ℕ → ℕ → List StatedPair → ℕ
@@ -40,15 +40,15 @@ pub record Standing (n : ℕ) (costs : List Plain) (standing : List ℕ) (p : St
 
 -- the pairs are the standing ones, each named once and with its cost; their order is free
 pub record Names (n : ℕ) (costs : List Plain) (standing : List ℕ) (pairs : List StatedPair) : Type 0 where
-  pub once : (l r : ℕ) → l < n → r < n → times l r pairs ≡ cond (saysStands (byte_of n standing l r)) 1 0
+  pub once : (l r : ℕ) → l < n → r < n → times l r pairs ≡ cond (says_stands (byte_of n standing l r)) 1 0
   pub only : AllByRecursion (Standing n costs standing) pairs
 
 -- the buffer begins with the file of such pairs, and is as it was behind it
 pub record Written (n : ℕ) (costs : List Plain) (standing out out' : List ℕ) : Type 0 where
   pub pairs : List StatedPair
   pub names : Names n costs standing pairs
-  pub long : length (fileOf (record { size = n; pairs = pairs })) ≡ savedLength standing
-  pub file : out' ≡ fileOf (record { size = n; pairs = pairs }) ++ drop (savedLength standing) out
+  pub long : length (file_of (record { size = n; pairs = pairs })) ≡ saved_length standing
+  pub file : out' ≡ file_of (record { size = n; pairs = pairs }) ++ drop (saved_length standing) out
 
 -- whatever tables of the right lengths the file is loaded into, the sheet there is the same one: its size, its standing pairs and their costs
 abbrev pub Reloads : ℕ → List Plain → List ℕ → List ℕ → Type 0
@@ -58,10 +58,10 @@ Reloads n costs standing file =
     → (sizes r ≡ Ok n) × ((l r : ℕ) → l < n → r < n → cell (plain (pos 0)) n costs' standing' l r ≡ cell (plain (pos 0)) n costs standing l r)
 
 pub record Saved (n : ℕ) (costs : List Plain) (standing out : List ℕ) (r : Result ℕ Fault) (out' : List ℕ) : Type 0 where
-  pub answers : r ≡ answer (saveRefusal n costs standing (length out)) (savedLength standing)
-  pub stays : (f : Fault) → saveRefusal n costs standing (length out) ≡ Some f → out' ≡ out
-  pub writes : saveRefusal n costs standing (length out) ≡ None → Written n costs standing out out'
-  pub reloads : saveRefusal n costs standing (length out) ≡ None → Reloads n costs standing (take (savedLength standing) out')
+  pub answers : r ≡ answer (save_refusal n costs standing (length out)) (saved_length standing)
+  pub stays : (f : Fault) → save_refusal n costs standing (length out) ≡ Some f → out' ≡ out
+  pub writes : save_refusal n costs standing (length out) ≡ None → Written n costs standing out out'
+  pub reloads : save_refusal n costs standing (length out) ≡ None → Reloads n costs standing (take (saved_length standing) out')
 
 -- how the pairs come to stand in the file: those of m places from place k on, one after another
 abbrev pub pair_at : ℕ → List Plain → ℕ → StatedPair
@@ -69,4 +69,4 @@ pair_at n costs k = record { left = k / n; right = k % n; cost = (slice_index_or
 
 abbrev pub listed : ℕ → List Plain → List ℕ → ℕ → ℕ → List StatedPair
 listed n costs standing k zero = []
-listed n costs standing k (suc m) = cond (saysStands (slice_index standing k)) (pair_at n costs k ∷ listed n costs standing (k + 1) m) (listed n costs standing (k + 1) m)
+listed n costs standing k (suc m) = cond (says_stands (slice_index standing k)) (pair_at n costs k ∷ listed n costs standing (k + 1) m) (listed n costs standing (k + 1) m)

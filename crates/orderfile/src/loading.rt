@@ -3,8 +3,8 @@
 ghost use Rattle.std.specs.Prelude.{◌≡◌, Ok as Done};
 ghost use Rattle.std.specs.List.{AllByRecursion};
 ghost use Rattle.orderfile.specs.Format.{Order, States, SoundPair};
-ghost use Rattle.orderfile.specs.Records.{pairsOf};
-ghost use Rattle.orderfile.specs.Loading.{Checked, Fitting, costsAfter, standingAfter, Loaded};
+ghost use Rattle.orderfile.specs.Records.{pairs_stated};
+ghost use Rattle.orderfile.specs.Loading.{Checked, Fitting, costs_after, standing_after, Loaded};
 
 use crate::record::Record;
 use crate::record_reader::RecordReader;
@@ -50,7 +50,7 @@ fn enter_all(
     requires stated { (order : Order) × States file.now order × (order.size ≡ sheet.now.n) }
     requires fitting { Fitting sheet.now.n costs.old standing.old }
     ensures answers { result ≡ Done tt }
-    ensures enters { (order : Order) → States file.now order → (costs.new ≡ costsAfter order.size order.pairs costs.old) × (standing.new ≡ standingAfter order.size order.pairs standing.old) }
+    ensures enters { (order : Order) → States file.now order → (costs.new ≡ costs_after order.size order.pairs costs.old) × (standing.new ≡ standing_after order.size order.pairs standing.old) }
 {
     let mut records = RecordReader::new(file);
     while let Some(record) = records.next()? {
@@ -67,10 +67,10 @@ fn enter(
     stated: Record,
 ) -> Result<(), Fault>
     requires fitting { Fitting sheet.now.n costs.old standing.old }
-    requires sound { AllByRecursion (SoundPair sheet.now.n) (pairsOf stated) }
+    requires sound { AllByRecursion (SoundPair sheet.now.n) (pairs_stated stated) }
     ensures answers { result ≡ Done tt }
-    ensures stores { costs.new ≡ costsAfter sheet.now.n (pairsOf stated) costs.old }
-    ensures raises { standing.new ≡ standingAfter sheet.now.n (pairsOf stated) standing.old }
+    ensures stores { costs.new ≡ costs_after sheet.now.n (pairs_stated stated) costs.old }
+    ensures raises { standing.new ≡ standing_after sheet.now.n (pairs_stated stated) standing.old }
 {
     let Record::Pair(pair) = stated else {
         return Ok(());

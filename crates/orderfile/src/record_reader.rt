@@ -2,9 +2,9 @@
 
 ghost use Rattle.std.specs.Prelude.{◌≡◌, length};
 ghost use Rattle.sheet.specs.Refusals.{first_of, answer};
-ghost use Rattle.orderfile.specs.Faults.{sizeChecks, pairChecks, endChecks, recordFault};
-ghost use Rattle.orderfile.specs.Format.{pairIn};
-ghost use Rattle.orderfile.specs.Records.{sizeIn, recordIn, stageAfter, Steps};
+ghost use Rattle.orderfile.specs.Faults.{size_checks, pair_checks, end_checks, record_fault};
+ghost use Rattle.orderfile.specs.Format.{pair_in};
+ghost use Rattle.orderfile.specs.Records.{size_in, record_in, stage_after, Steps};
 ghost use Rattle.orderfile.specs.declared.record.Record.TheVariants.{End as EndRecord};
 ghost use Rattle.orderfile.specs.declared.record.Stage.TheVariants.{Start as AtStart};
 
@@ -54,7 +54,7 @@ impl<'a> RecordReader<'a> {
 
 // The stage behind a record that has no fault.
 fn followed(stage: Stage, by: Record) -> Stage
-    ensures { result ≡ stageAfter stage by }
+    ensures { result ≡ stage_after stage by }
 {
     match (stage, by) {
         (_, Record::Size(n)) => Stage::Sized(n),
@@ -65,7 +65,7 @@ fn followed(stage: Stage, by: Record) -> Stage
 
 // What a field states where this stage is reached, or its first fault.
 fn interpret(stage: Stage, field: Field<'_>) -> Result<Record, Fault>
-    ensures { result ≡ answer (recordFault stage field.entry.tag field.entry.value.now field.entry.place) (recordIn field.entry.tag field.entry.value.now) }
+    ensures { result ≡ answer (record_fault stage field.entry.tag field.entry.value.now field.entry.place) (record_in field.entry.tag field.entry.value.now) }
 {
     match (stage, field.tag) {
         (Stage::Start, 1) => Ok(Record::Size(size(field)?)),
@@ -77,7 +77,7 @@ fn interpret(stage: Stage, field: Field<'_>) -> Result<Record, Fault>
 
 // The size that a size field states.
 fn size(field: Field<'_>) -> Result<u8, Fault>
-    ensures { result ≡ answer (first_of (sizeChecks field.entry.value.now field.entry.place)) (sizeIn field.entry.value.now) }
+    ensures { result ≡ answer (first_of (size_checks field.entry.value.now field.entry.place)) (size_in field.entry.value.now) }
 {
     if field.value.len() != 1 {
         return Err(Cause::FieldLength.at(field.place));
@@ -91,7 +91,7 @@ fn size(field: Field<'_>) -> Result<u8, Fault>
 
 // The pair that a pair field states in a file of size n.
 fn pair(n: u8, field: Field<'_>) -> Result<StatedPair, Fault>
-    ensures { result ≡ answer (first_of (pairChecks n field.entry.value.now field.entry.place)) (pairIn field.entry.value.now) }
+    ensures { result ≡ answer (first_of (pair_checks n field.entry.value.now field.entry.place)) (pair_in field.entry.value.now) }
 {
     if field.value.len() != 10 {
         return Err(Cause::FieldLength.at(field.place));
@@ -109,7 +109,7 @@ fn pair(n: u8, field: Field<'_>) -> Result<StatedPair, Fault>
 // The pair in the ten bytes of a value.
 fn stated_pair(value: &[u8]) -> StatedPair
     requires { length value.now ≡ 10 }
-    ensures { result ≡ pairIn value.now }
+    ensures { result ≡ pair_in value.now }
 {
     let cost = u64::from_be_bytes([
         value[2], value[3], value[4], value[5], value[6], value[7], value[8], value[9],
@@ -123,7 +123,7 @@ fn stated_pair(value: &[u8]) -> StatedPair
 
 // The end, which has no value.
 fn end(field: Field<'_>) -> Result<Record, Fault>
-    ensures { result ≡ answer (first_of (endChecks field.entry.value.now field.entry.place)) EndRecord }
+    ensures { result ≡ answer (first_of (end_checks field.entry.value.now field.entry.place)) EndRecord }
 {
     if field.value.len() != 0 {
         return Err(Cause::FieldLength.at(field.place));

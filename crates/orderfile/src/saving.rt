@@ -2,8 +2,8 @@
 
 ghost use Rattle.std.specs.Prelude.{◌≡◌, ◌+◌, ◌*◌, ◌<◌, ◌≤◌, ◌++◌, length, take, drop};
 ghost use Rattle.std.specs.List.{flat_map};
-ghost use Rattle.orderfile.specs.Format.{pairField, fileOf};
-ghost use Rattle.orderfile.specs.Saving.{savedLength, pair_at, listed, Saved};
+ghost use Rattle.orderfile.specs.Format.{pair_field, file_of};
+ghost use Rattle.orderfile.specs.Saving.{saved_length, pair_at, listed, Saved};
 
 use crate::record::StatedPair;
 use cost::Plain;
@@ -52,8 +52,8 @@ fn write_file(n: u16, costs: &[Plain], standing: &[u8], out: &mut [u8])
     requires few { n ≤ 64 }
     requires costs_fit { length costs.now ≡ n * n }
     requires standing_fits { length standing.now ≡ n * n }
-    requires room { savedLength standing.now ≤ length out.old }
-    ensures { out.new ≡ fileOf (record { size = n; pairs = listed n costs.now standing.now 0 (n * n) }) ++ drop (savedLength standing.now) out.old }
+    requires room { saved_length standing.now ≤ length out.old }
+    ensures { out.new ≡ file_of (record { size = n; pairs = listed n costs.now standing.now 0 (n * n) }) ++ drop (saved_length standing.now) out.old }
 {
     put(out, 0, &[1, 0, 1, n as u8]);
     let at = write_pairs(n, costs, standing, out);
@@ -67,9 +67,9 @@ fn write_pairs(n: u16, costs: &[Plain], standing: &[u8], out: &mut [u8]) -> usiz
     requires few { n ≤ 64 }
     requires costs_fit { length costs.now ≡ n * n }
     requires standing_fits { length standing.now ≡ n * n }
-    requires room { 4 + length (flat_map pairField (listed n costs.now standing.now 0 (n * n))) ≤ length out.old }
-    ensures behind { result ≡ 4 + length (flat_map pairField (listed n costs.now standing.now 0 (n * n))) }
-    ensures writes { out.new ≡ (take 4 out.old ++ flat_map pairField (listed n costs.now standing.now 0 (n * n))) ++ drop result out.old }
+    requires room { 4 + length (flat_map pair_field (listed n costs.now standing.now 0 (n * n))) ≤ length out.old }
+    ensures behind { result ≡ 4 + length (flat_map pair_field (listed n costs.now standing.now 0 (n * n))) }
+    ensures writes { out.new ≡ (take 4 out.old ++ flat_map pair_field (listed n costs.now standing.now 0 (n * n))) ++ drop result out.old }
 {
     let mut at = SIZE_FIELD;
     for k in 0..standing.len() {
@@ -98,7 +98,7 @@ fn pair_at(n: u16, costs: &[Plain], k: usize) -> StatedPair
 
 // The bytes of a pair field.
 fn pair_field(pair: StatedPair) -> [u8; 13]
-    ensures { result ≡ pairField pair }
+    ensures { result ≡ pair_field pair }
 {
     let [a, b, c, d, e, f, g, h] = pair.cost.cast_unsigned().to_be_bytes();
     [2, 0, 10, pair.left, pair.right, a, b, c, d, e, f, g, h]

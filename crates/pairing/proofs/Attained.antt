@@ -5,40 +5,40 @@
 use Rattle.std.proofs.Common.{◌≡◌, ℕ, zero, suc, ◌<◌, true, ◌⊎◌, List, ℤ, ◌≤ℤ◌, ap, inl, inr, arith}
 use Rattle.std.proofs.lemmas.Int.{ints}
 use Rattle.cost.specs.Columns.{zeros}
-use Rattle.cost.proofs.Weights.{weight, weight-zeros}
-use Rattle.pairing.specs.Grid.{Grid, Sane, at, Perfect-in}
-use Rattle.pairing.specs.Prices.{Tight-pair, Valid, Low, Greatest}
-use Rattle.pairing.proofs.Weighing.{value_low, value-from, price-is}
-use Rattle.pairing.proofs.Duality.{pair_under, tight-is}
+use Rattle.cost.proofs.Weights.{weight, weight_zeros}
+use Rattle.pairing.specs.Grid.{Grid, Sane, at, PerfectIn}
+use Rattle.pairing.specs.Prices.{TightPair, Valid, Low, Greatest}
+use Rattle.pairing.proofs.Weighing.{value_low, value_from, price_is}
+use Rattle.pairing.proofs.Duality.{pair_under, tight_is}
 
 -- the price of r is zero, or (l, r) is tight and the partner of l comes before r by rank
 abbrev pub Attained : (g : Grid) (left right : ℕ → List ℤ) (p : List ℕ) (rank : ℕ → ℕ) → ℕ → Type 0
 Attained g left right p rank r =
-    (right r ≡ zeros g.columns) ⊎ ((l : ℕ) × (l < g.size) × (g.stands l r ≡ true) × Tight-pair g left right l r × (rank (at p l) < rank r))
+    (right r ≡ zeros g.columns) ⊎ ((l : ℕ) × (l < g.size) × (g.stands l r ≡ true) × TightPair g left right l r × (rank (at p l) < rank r))
 
-module _ (g : Grid) (s : Sane g) (left right : ℕ → List ℤ) (p : List ℕ) (h : Perfect-in g p) (v : Valid g left right p) (rank : ℕ → ℕ)
+module _ (g : Grid) (s : Sane g) (left right : ℕ → List ℤ) (p : List ℕ) (h : PerfectIn g p) (v : Valid g left right p) (rank : ℕ → ℕ)
     (attained : (r : ℕ) → r < g.size → Attained g left right p rank r) where
   module _ (left' right' : ℕ → List ℤ) (v' : Valid g left' right' p) (low' : Low g right') where
-    not-above : (b r : ℕ) → r < g.size → rank r < b → weight (right' r) ≤ℤ weight (right r)
-    not-above zero r j less = absurd (omega arith)
-    not-above (suc b) r j less = elim (attained r j) [
-      | inl e ↦ let w : weight (right r) ≡ weight (zeros g.columns) = ap weight e in omega (arith, ints, weight-zeros g.columns, value_low g.columns (right' r) (v'.rights r j) (low' r j))
-      | inr w ↦ tied w.0 w.1 w.2 w.3 (not-above b (at p w.0) (h.below w.0 w.1) (omega (arith, w.4)))
+    not_above : (b r : ℕ) → r < g.size → rank r < b → weight (right' r) ≤ℤ weight (right r)
+    not_above zero r j less = absurd (omega arith)
+    not_above (suc b) r j less = elim (attained r j) [
+      | inl e ↦ let w : weight (right r) ≡ weight (zeros g.columns) = ap weight e in omega (arith, ints, weight_zeros g.columns, value_low g.columns (right' r) (v'.rights r j) (low' r j))
+      | inr w ↦ tied w.0 w.1 w.2 w.3 (not_above b (at p w.0) (h.below w.0 w.1) (omega (arith, w.4)))
     ]
       where
-        tied : (l : ℕ) → l < g.size → g.stands l r ≡ true → Tight-pair g left right l r → weight (right' (at p l)) ≤ℤ weight (right (at p l)) → weight (right' r) ≤ℤ weight (right r)
+        tied : (l : ℕ) → l < g.size → g.stands l r ≡ true → TightPair g left right l r → weight (right' (at p l)) ≤ℤ weight (right (at p l)) → weight (right' r) ≤ℤ weight (right r)
         tied l i t e ih = omega (
           arith,
           ints,
           pair_under g s left' right' p h v' l r i j t,
-          tight-is g s left' right' p h v' p h v'.equal l i,
-          tight-is g s left right p h v p h v.equal l i,
-          price-is g s left right l r i j t (v.lefts l i) (v.rights r j) e,
+          tight_is g s left' right' p h v' p h v'.equal l i,
+          tight_is g s left right p h v p h v.equal l i,
+          price_is g s left right l r i j t (v.lefts l i) (v.rights r j) e,
         )
 
-  pub attained-greatest : Low g right → Greatest g left right p
-  attained-greatest low = record {
+  pub attained_greatest : Low g right → Greatest g left right p
+  attained_greatest low = record {
     valid = v;
     low = low;
-    most = λ left' right' v' low' r j. value-from g.columns (right' r) (right r) (v'.rights r j) (v.rights r j) (not-above left' right' v' low' (suc (rank r)) r j (omega arith));
+    most = λ left' right' v' low' r j. value_from g.columns (right' r) (right r) (v'.rights r j) (v.rights r j) (not_above left' right' v' low' (suc (rank r)) r j (omega arith));
   }

@@ -6,9 +6,9 @@ use Rattle.std.proofs.Common.{◌≡◌, ℕ, zero, suc, ◌<◌, Bool, true, fa
 use Rattle.std.proofs.lemmas.Bool.Decides.{nat_tests}
 use Rattle.std.proofs.lemmas.Bool.{cases_eq, cases_Bool, or_cases, or_left, or_right, and_parts, and_from, eqb-true, eq-eqb, ne_eqb, both_ways, not-true, not_from_false, not_from_true, cond-true, cond-false}
 use Rattle.blockset.specs.Sets.{members}
-use Rattle.blockset.proofs.Members.{members-with}
+use Rattle.blockset.proofs.Members.{members_with}
 use Rattle.pairing.specs.Largest.{some_below}
-use Rattle.pairing.proofs.Members.{some-tells}
+use Rattle.pairing.proofs.Members.{some_tells}
 
 module _ (n : ℕ) (start : ℕ → Bool) (edge : ℕ → ℕ → Bool) where
   -- y is of the start, or one step behind an x of smaller rank
@@ -34,8 +34,8 @@ module _ (n : ℕ) (start : ℕ → Bool) (edge : ℕ → ℕ → Bool) where
   leaving : (C : ℕ → Bool) → some_below n (λ x. some_below n (leaves C x)) ≡ true → (x y : ℕ) × (x < n) × (y < n) × (C x ≡ true) × (edge x y ≡ true) × (C y ≡ false)
   unfolding leaves
   leaving C e =
-      let w = (some-tells n (λ x. some_below n (leaves C x))).0 e in
-      let v = (some-tells n (leaves C w.0)).0 w.2 in
+      let w = (some_tells n (λ x. some_below n (leaves C x))).0 e in
+      let v = (some_tells n (leaves C w.0)).0 w.2 in
       let a = and_parts (C w.0) (edge w.0 v.0 && not (C v.0)) v.2 in
       let b = and_parts (edge w.0 v.0) (not (C v.0)) a.1 in
       (w.0, v.0, w.1, v.1, a.0, b.0, not-true (C v.0) b.1)
@@ -46,8 +46,8 @@ module _ (n : ℕ) (start : ℕ → Bool) (edge : ℕ → ℕ → Bool) where
       elim (cases_Bool (C y)) [
         | inl h ↦ h
         | inr h ↦
-            let v = (some-tells n (leaves C x)).1 (y, j, and_from _ _ a (and_from _ _ t (not_from_false (C y) h))) in
-            absurd (both_ways _ e ((some-tells n (λ x. some_below n (leaves C x))).1 (x, i, v)))
+            let v = (some_tells n (leaves C x)).1 (y, j, and_from _ _ a (and_from _ _ t (not_from_false (C y) h))) in
+            absurd (both_ways _ e ((some_tells n (λ x. some_below n (leaves C x))).1 (x, i, v)))
       ]
 
   module _ (C : ℕ → Bool) (rank : ℕ → ℕ) (t : ℕ) (g : Growing C rank t) (x y : ℕ) (i : x < n) (j : y < n) (a : C x ≡ true) (e : edge x y ≡ true) (out : C y ≡ false) where
@@ -68,27 +68,27 @@ module _ (n : ℕ) (start : ℕ → Bool) (edge : ℕ → ℕ → Bool) where
     apart : (z : ℕ) → C z ≡ true → z ≡ y → ⊥
     apart z c s = both_ways (C z) (ap C s ∙ out) c
 
-    rank-old : (z : ℕ) → (z ≡ y → ⊥) → rank' z ≡ rank z
+    rank_old : (z : ℕ) → (z ≡ y → ⊥) → rank' z ≡ rank z
     unfolding rank'
-    rank-old z ne = cond-false (eqb z y) t (rank z) (ne_eqb z y ne)
+    rank_old z ne = cond-false (eqb z y) t (rank z) (ne_eqb z y ne)
 
-    rank-new : rank' y ≡ t
+    rank_new : rank' y ≡ t
     unfolding rank'
-    rank-new = cond-true (eqb y y) t (rank y) (eq-eqb y y refl)
+    rank_new = cond-true (eqb y y) t (rank y) (eq-eqb y y refl)
 
     grown : Growing C' rank' (suc t)
     grown = record {
       has = λ z h s. kept z (g.has z h s);
       back = λ z h c. elim (cases_eq z y) [
-        | inl s ↦ subst (Back C' rank') (sym s) (inr (x, i, kept x a, e, omega (arith, rank-new, rank-old x (apart x a), g.low x i a)))
+        | inl s ↦ subst (Back C' rank') (sym s) (inr (x, i, kept x a, e, omega (arith, rank_new, rank_old x (apart x a), g.low x i a)))
         | inr ne ↦ elim (g.back z h (old z c ne)) [
           | inl s ↦ inl s
-          | inr w ↦ inr (w.0, w.1, kept w.0 w.2, w.3, omega (arith, w.4, rank-old z ne, rank-old w.0 (apart w.0 w.2)))
+          | inr w ↦ inr (w.0, w.1, kept w.0 w.2, w.3, omega (arith, w.4, rank_old z ne, rank_old w.0 (apart w.0 w.2)))
         ]
       ];
       low = λ z h c. elim (cases_eq z y) [
-        | inl s ↦ rw (s, rank-new) (omega arith)
-        | inr ne ↦ omega (arith, rank-old z ne, g.low z h (old z c ne))
+        | inl s ↦ rw (s, rank_new) (omega arith)
+        | inr ne ↦ omega (arith, rank_old z ne, g.low z h (old z c ne))
       ];
     }
 
@@ -101,7 +101,7 @@ module _ (n : ℕ) (start : ℕ → Bool) (edge : ℕ → ℕ → Bool) where
 
     fewer : members n (λ z. not (C z)) ≡ suc (members n (λ z. not (C' z)))
     unfolding C'
-    fewer = members-with n (λ z. not (C' z)) (λ z. not (C z)) y j (not_from_true _ (or_left (eqb y y) (C y) (eq-eqb y y refl))) missing
+    fewer = members_with n (λ z. not (C' z)) (λ z. not (C z)) y j (not_from_true _ (or_left (eqb y y) (C y) (eq-eqb y y refl))) missing
 
   grow : (k : ℕ) (C : ℕ → Bool) (rank : ℕ → ℕ) (t : ℕ) → Growing C rank t → members n (λ z. not (C z)) < k → (D : ℕ → Bool) × (rank' : ℕ → ℕ) × Closure D rank'
   grow zero C rank t g small = absurd (omega arith)
@@ -119,10 +119,10 @@ module _ (n : ℕ) (start : ℕ → Bool) (edge : ℕ → ℕ → Bool) where
   closure = grow (suc (members n (λ z. not (start z)))) start (λ _. 0) 1 (record { has = λ x h s. s; back = λ y h s. inl s; low = λ y h s. omega arith }) (omega arith)
 
   -- what holds of the start and passes along each step holds of all that is reached
-  pub reached-all : (D : ℕ → Bool) (rank : ℕ → ℕ) → Closure D rank → (Q : ℕ → Type 0) → ((y : ℕ) → y < n → start y ≡ true → Q y)
+  pub reached_all : (D : ℕ → Bool) (rank : ℕ → ℕ) → Closure D rank → (Q : ℕ → Type 0) → ((y : ℕ) → y < n → start y ≡ true → Q y)
       → ((x y : ℕ) → x < n → y < n → Q x → edge x y ≡ true → Q y) → (b y : ℕ) → y < n → rank y < b → D y ≡ true → Q y
-  reached-all D rank c Q first next zero y h low d = absurd (omega arith)
-  reached-all D rank c Q first next (suc b) y h low d = elim (c.back y h d) [
+  reached_all D rank c Q first next zero y h low d = absurd (omega arith)
+  reached_all D rank c Q first next (suc b) y h low d = elim (c.back y h d) [
     | inl s ↦ first y h s
-    | inr w ↦ next w.0 y w.1 h (reached-all D rank c Q first next b w.0 w.1 (omega (arith, w.4)) w.2) w.3
+    | inr w ↦ next w.0 y w.1 h (reached_all D rank c Q first next b w.0 w.1 (omega (arith, w.4)) w.2) w.3
   ]

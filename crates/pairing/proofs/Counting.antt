@@ -6,88 +6,88 @@ use Rattle.std.proofs.Common.{◌≡◌, ℕ, zero, suc, ◌<◌, Bool, true, fa
 use Rattle.std.proofs.lemmas.Int.{ints}
 use Rattle.std.proofs.lemmas.Bool.{cases_Bool, cond-true, cond-false, eqb-true, or_cases, true≢false, both_ways}
 use Rattle.pairing.specs.Grid.{at, Perfect}
-use Rattle.pairing.specs.Theorems.{Given-alike}
-use Rattle.pairing.proofs.Sums.{sumZ, sum_same, sum-zero, sum-tight, without, sum-without}
+use Rattle.pairing.specs.Theorems.{GivenAlike}
+use Rattle.pairing.proofs.Sums.{sum_z, sum_same, sum-zero, sum_tight, without, sum_without}
 
 -- r is p l for some l below m
 abbrev hit : (ℕ → ℕ) → ℕ → ℕ → Bool
 hit p zero r = false
 hit p (suc m) r = eqb r (p m) || hit p m r
 
-hit-by : (p : ℕ → ℕ) (m r : ℕ) → hit p m r ≡ true → (l : ℕ) × (l < m) × (p l ≡ r)
-hit-by p zero r h = absurd (true≢false (sym h))
-hit-by p (suc m) r h =
+hit_by : (p : ℕ → ℕ) (m r : ℕ) → hit p m r ≡ true → (l : ℕ) × (l < m) × (p l ≡ r)
+hit_by p zero r h = absurd (true≢false (sym h))
+hit_by p (suc m) r h =
     elim (or_cases (eqb r (p m)) (hit p m r) h) [
       | inl e ↦ (m, omega arith, sym (eqb-true r (p m) e))
-      | inr k ↦ let w = hit-by p m r k in (w.0, omega arith, w.2)
+      | inr k ↦ let w = hit_by p m r k in (w.0, omega arith, w.2)
     ]
 
 -- f where p misses, and 0 where it hits
 abbrev missed : (ℕ → ℕ) → ℕ → (ℕ → ℤ) → ℕ → ℤ
 missed p m f r = cond (hit p m r) (pos 0) (f r)
 
-cond-or : (a b : Bool) (x : ℤ) → cond a (pos 0) (cond b (pos 0) x) ≡ cond (a || b) (pos 0) x
-cond-or true b x = refl
-cond-or false b x = refl
+cond_or : (a b : Bool) (x : ℤ) → cond a (pos 0) (cond b (pos 0) x) ≡ cond (a || b) (pos 0) x
+cond_or true b x = refl
+cond_or false b x = refl
 
 struck : (n : ℕ) (p : ℕ → ℕ) (m : ℕ) → ((l : ℕ) → l < m → p l < n) → ((l k : ℕ) → l < m → k < m → p l ≡ p k → l ≡ k) → (f : ℕ → ℤ)
-    → sumZ n f ≡ sumZ m (λ l. f (p l)) +ℤ sumZ n (missed p m f)
+    → sum_z n f ≡ sum_z m (λ l. f (p l)) +ℤ sum_z n (missed p m f)
 struck n p zero below once f = omega (arith, ints)
 struck n p (suc m) below once f =
     let before = struck n p m (λ l h. below l (omega arith)) (λ l k i j. once l k (omega arith) (omega arith)) f in
-    let taken = sum-without n (p m) (missed p m f) (below m (omega arith)) in
+    let taken = sum_without n (p m) (missed p m f) (below m (omega arith)) in
     let fresh : hit p m (p m) ≡ false =
     elim (cases_Bool (hit p m (p m))) [
-      | inl h ↦ let w = hit-by p m (p m) h in absurd (omega (arith, once w.0 m (omega arith) (omega arith) w.2))
+      | inl h ↦ let w = hit_by p m (p m) h in absurd (omega (arith, once w.0 m (omega arith) (omega arith) w.2))
       | inr h ↦ h
     ] in
     let here : missed p m f (p m) ≡ f (p m) = cond-false (hit p m (p m)) (pos 0) (f (p m)) fresh in
-    let rest = sum_same n (without (p m) (missed p m f)) (missed p (suc m) f) (λ r h. cond-or (eqb r (p m)) (hit p m r) (f r)) in
+    let rest = sum_same n (without (p m) (missed p m f)) (missed p (suc m) f) (λ r h. cond_or (eqb r (p m)) (hit p m r) (f r)) in
     omega (arith, ints)
 
 module _ (n : ℕ) (stands : ℕ → ℕ → Bool) (p : List ℕ) (h : Perfect n stands p) where
-  all-hit : (r : ℕ) → r < n → hit (at p) n r ≡ true
-  all-hit r i =
+  all_hit : (r : ℕ) → r < n → hit (at p) n r ≡ true
+  all_hit r i =
       let e = struck n (at p) n h.below h.once (λ _. pos 1) in
-      let none : sumZ n (missed (at p) n (λ _. pos 1)) ≤ℤ sumZ n (λ _. pos 0) = omega (arith, ints, sum-zero n) in
-      let zero-here = sum-tight n (λ _. pos 0) (missed (at p) n (λ _. pos 1)) (λ l k. grind (arith, ints)) none r i in
+      let none : sum_z n (missed (at p) n (λ _. pos 1)) ≤ℤ sum_z n (λ _. pos 0) = omega (arith, ints, sum-zero n) in
+      let zero-here = sum_tight n (λ _. pos 0) (missed (at p) n (λ _. pos 1)) (λ l k. grind (arith, ints)) none r i in
       grind arith
 
   -- each right block is some left block's
   pub onto : (r : ℕ) → r < n → (l : ℕ) × (l < n) × (at p l ≡ r)
-  onto r i = hit-by (at p) n r (all-hit r i)
+  onto r i = hit_by (at p) n r (all_hit r i)
 
-  pub sum-shuffle : (f : ℕ → ℤ) → sumZ n (λ l. f (at p l)) ≡ sumZ n f
-  sum-shuffle f =
-      let gone = sum_same n (missed (at p) n f) (λ _. pos 0) (λ r i. cond-true (hit (at p) n r) (pos 0) (f r) (all-hit r i)) in
+  pub sum_shuffle : (f : ℕ → ℤ) → sum_z n (λ l. f (at p l)) ≡ sum_z n f
+  sum_shuffle f =
+      let gone = sum_same n (missed (at p) n f) (λ _. pos 0) (λ r i. cond-true (hit (at p) n r) (pos 0) (f r) (all_hit r i)) in
       omega (arith, ints, struck n (at p) n h.below h.once f, sum-zero n)
 
 -- ---- as many left blocks are given a right block of a set by one perfect pairing as by another
 
-abbrev one-if : Bool → ℤ
-one-if b = cond b (pos 1) (pos 0)
+abbrev one_if : Bool → ℤ
+one_if b = cond b (pos 1) (pos 0)
 
-implies-le : (a b : Bool) → (a ≡ true → b ≡ true) → one-if a ≤ℤ one-if b
-implies-le a b h = grind (arith, ints)
+implies_le : (a b : Bool) → (a ≡ true → b ≡ true) → one_if a ≤ℤ one_if b
+implies_le a b h = grind (arith, ints)
 
-same_if : (a b : Bool) → one-if a ≡ one-if b → b ≡ true → a ≡ true
+same_if : (a b : Bool) → one_if a ≡ one_if b → b ≡ true → a ≡ true
 same_if a b e h = grind arith
 
 module _ (n : ℕ) (stands stands' : ℕ → ℕ → Bool) (p q : List ℕ) (h : Perfect n stands p) (k : Perfect n stands' q) (C : ℕ → Bool)
     (more : (l : ℕ) → l < n → C (at p l) ≡ true → C (at q l) ≡ true) where
   pub given_back : (l : ℕ) → l < n → C (at q l) ≡ true → C (at p l) ≡ true
   given_back l i t =
-      let sp = sum-shuffle n stands p h (λ r. one-if (C r)) in
-      let sq = sum-shuffle n stands' q k (λ r. one-if (C r)) in
-      let e = sum-tight n (λ m. one-if (C (at p m))) (λ m. one-if (C (at q m))) (λ m j. implies-le (C (at p m)) (C (at q m)) (more m j)) (omega (arith, ints)) l i in
+      let sp = sum_shuffle n stands p h (λ r. one_if (C r)) in
+      let sq = sum_shuffle n stands' q k (λ r. one_if (C r)) in
+      let e = sum_tight n (λ m. one_if (C (at p m))) (λ m. one_if (C (at q m))) (λ m j. implies_le (C (at p m)) (C (at q m)) (more m j)) (omega (arith, ints)) l i in
       same_if (C (at p l)) (C (at q l)) e t
 
-  given-same : (b : Bool) (l : ℕ) → l < n → C (at q l) ≡ b → C (at p l) ≡ b
-  given-same true l i e = given_back l i e
-  given-same false l i e = elim (cases_Bool (C (at p l))) [ inl t ↦ absurd (both_ways (C (at q l)) e (more l i t)) | inr f ↦ f ]
+  given_same : (b : Bool) (l : ℕ) → l < n → C (at q l) ≡ b → C (at p l) ≡ b
+  given_same true l i e = given_back l i e
+  given_same false l i e = elim (cases_Bool (C (at p l))) [ inl t ↦ absurd (both_ways (C (at q l)) e (more l i t)) | inr f ↦ f ]
 
-pub given-alike : (b : Bool) → Given-alike b b
-given-alike b = record {
-  alike = λ n stands stands' p q h k C more. given-same n stands stands' p q h k C more b;
-  closed = λ n tight p q h k C shut. given-same n tight tight p q h k C (λ l i t. shut l (at q l) i (k.below l i) t (k.standing l i)) b;
+pub given_alike : (b : Bool) → GivenAlike b b
+given_alike b = record {
+  alike = λ n stands stands' p q h k C more. given_same n stands stands' p q h k C more b;
+  closed = λ n tight p q h k C shut. given_same n tight tight p q h k C (λ l i t. shut l (at q l) i (k.below l i) t (k.standing l i)) b;
 }

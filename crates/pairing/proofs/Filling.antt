@@ -23,8 +23,8 @@ module _ (n : ℕ) (stands : ℕ → ℕ → Bool) (p : List ℕ) (E F D : ℕ �
     pub ahead : (x : ℕ) → x < n → rank x ≤ rank m → at q x ≡ at p x
 
   module _ (q : List ℕ) (r m : ℕ) (h : Hole q r m) where
-    at-m : at (set q m r) m ≡ r
-    at-m = get_or-set_same q m r 0 (omega (arith, h.part.len, h.taker))
+    at_m : at (set q m r) m ≡ r
+    at_m = get_or-set_same q m r 0 (omega (arith, h.part.len, h.taker))
 
     at_other : (x : ℕ) → (x ≡ m → ⊥) → at (set q m r) x ≡ at q x
     at_other x ne = get_or-set_other q m x r 0 ne
@@ -33,15 +33,15 @@ module _ (n : ℕ) (stands : ℕ → ℕ → Bool) (p : List ℕ) (E F D : ℕ �
     pub took : (G : ℕ → Bool) → ((x : ℕ) → G x ≡ false → (x ≡ m → ⊥) → F x ≡ false) → Partial n stands (set q m r) G
     took G g = record {
       len = length-set q m r ∙ h.part.len;
-      below = λ x j f. elim (cases_eq x m) [ inl e ↦ rw (e, at-m) h.inside | inr ne ↦ rw (at_other x ne) (h.part.below x j (g x f ne)) ];
-      standing = λ x j f. elim (cases_eq x m) [ inl e ↦ rw (e, at-m) h.wants | inr ne ↦ rw (at_other x ne) (h.part.standing x j (g x f ne)) ];
+      below = λ x j f. elim (cases_eq x m) [ inl e ↦ rw (e, at_m) h.inside | inr ne ↦ rw (at_other x ne) (h.part.below x j (g x f ne)) ];
+      standing = λ x j f. elim (cases_eq x m) [ inl e ↦ rw (e, at_m) h.wants | inr ne ↦ rw (at_other x ne) (h.part.standing x j (g x f ne)) ];
       once = λ x y i j f e s. elim (cases_eq x m) [
         | inl a ↦ elim (cases_eq y m) [
           | inl b ↦ a ∙ sym b
-          | inr b ↦ absurd (h.free y j (g y e b) (sym (at_other y b) ∙ sym s ∙ ap (at (set q m r)) a ∙ at-m))
+          | inr b ↦ absurd (h.free y j (g y e b) (sym (at_other y b) ∙ sym s ∙ ap (at (set q m r)) a ∙ at_m))
         ]
         | inr a ↦ elim (cases_eq y m) [
-          | inl b ↦ absurd (h.free x i (g x f a) (sym (at_other x a) ∙ s ∙ ap (at (set q m r)) b ∙ at-m))
+          | inl b ↦ absurd (h.free x i (g x f a) (sym (at_other x a) ∙ s ∙ ap (at (set q m r)) b ∙ at_m))
           | inr b ↦ h.part.once x y i j (g x f a) (g y e b) (sym (at_other x a) ∙ s ∙ at_other y b)
         ]
       ];
@@ -53,7 +53,7 @@ module _ (n : ℕ) (stands : ℕ → ℕ → Bool) (p : List ℕ) (E F D : ℕ �
       part = took F (λ x f ne. f);
       inside = h.part.below m h.taker held;
       free = λ x j f e. elim (cases_eq x m) [
-        | inl s ↦ h.free m h.taker held (sym e ∙ ap (at (set q m r)) s ∙ at-m)
+        | inl s ↦ h.free m h.taker held (sym e ∙ ap (at (set q m r)) s ∙ at_m)
         | inr ne ↦ ne (h.part.once x m j h.taker f held (sym (at_other x ne) ∙ e))
       ];
       taker = i;

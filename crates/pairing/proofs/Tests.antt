@@ -4,19 +4,19 @@ use Rattle.std.proofs.Common.{◌≡◌, ℕ, ◌<◌, Bool, true, false, not, �
 use Rattle.std.specs.Ordering.{is_eq}
 use Rattle.std.proofs.lemmas.Bool.{and_parts, or_cases, eqb-true, leb-true, ltb-true, both_ways, true≢false, not-true}
 use Rattle.cost.specs.Columns.{within, zeros, plus, lex}
-use Rattle.cost.proofs.Exact.{within-tells}
-use Rattle.cost.proofs.Order.{lex-same}
-use Rattle.pairing.specs.Grid.{Grid, Sane, at, Perfect-in}
+use Rattle.cost.proofs.Exact.{within_tells}
+use Rattle.cost.proofs.Order.{lex_same}
+use Rattle.pairing.specs.Grid.{Grid, Sane, at, PerfectIn}
 use Rattle.pairing.specs.Prices.{Value, Valid, Greatest}
 use Rattle.pairing.specs.Largest.{some_below}
-use Rattle.pairing.specs.Optima.{all-below, upto, Marked, marked}
-use Rattle.pairing.proofs.Listing.{all-below-tells, upto-tells, marked-tells}
-use Rattle.pairing.proofs.Members.{some-tells}
-use Rattle.pairing.proofs.Attained.{Attained, attained-greatest}
+use Rattle.pairing.specs.Optima.{all_below, upto, Marked, marked}
+use Rattle.pairing.proofs.Listing.{all_below_tells, upto_tells, marked_tells}
+use Rattle.pairing.proofs.Members.{some_tells}
+use Rattle.pairing.proofs.Attained.{Attained, attained_greatest}
 
 -- a test that passes for every number below n passes for each
-passes : (n : ℕ) (t : ℕ → Bool) → all-below n t ≡ true → (k : ℕ) → k < n → t k ≡ true
-passes n t e = (all-below-tells n t (λ k. t k ≡ true) (λ k. (λ x. x, λ x. x))).0 e
+passes : (n : ℕ) (t : ℕ → Bool) → all_below n t ≡ true → (k : ℕ) → k < n → t k ≡ true
+passes n t e = (all_below_tells n t (λ k. t k ≡ true) (λ k. (λ x. x, λ x. x))).0 e
 
 -- b, where a
 abbrev implies : Bool → Bool → Bool
@@ -29,37 +29,37 @@ implied a b e t = elim (or_cases (not a) b e) [ inl n ↦ absurd (both_ways a (n
 abbrev level : List ℤ → List ℤ → Bool
 level xs ys = eqb (length xs) (length ys) && is_eq (lex xs ys)
 
-is-equal : (o : Ordering) → is_eq o ≡ true → o ≡ Equal
-is-equal Less e = absurd (true≢false (sym e))
-is-equal Equal e = refl
-is-equal Greater e = absurd (true≢false (sym e))
+is_equal : (o : Ordering) → is_eq o ≡ true → o ≡ Equal
+is_equal Less e = absurd (true≢false (sym e))
+is_equal Equal e = refl
+is_equal Greater e = absurd (true≢false (sym e))
 
-level-same : (xs ys : List ℤ) → level xs ys ≡ true → xs ≡ ys
-level-same xs ys e =
+level_same : (xs ys : List ℤ) → level xs ys ≡ true → xs ≡ ys
+level_same xs ys e =
     let b = and_parts (eqb (length xs) (length ys)) (is_eq (lex xs ys)) e in
-    lex-same xs ys (eqb-true (length xs) (length ys) b.0) (is-equal (lex xs ys) b.1)
+    lex_same xs ys (eqb-true (length xs) (length ys) b.0) (is_equal (lex xs ys) b.1)
 
 -- ---- a sane grid
-abbrev sane-pair : Grid → ℕ → ℕ → Bool
-sane-pair g l r = implies (g.stands l r) (eqb (length (g.cost l r)) g.columns && within 1000000000 (g.cost l r))
+abbrev sane_pair : Grid → ℕ → ℕ → Bool
+sane_pair g l r = implies (g.stands l r) (eqb (length (g.cost l r)) g.columns && within 1000000000 (g.cost l r))
 
 abbrev pub sane : Grid → Bool
-sane g = leb g.size 64 && all-below g.size (λ l. all-below g.size (sane-pair g l))
+sane g = leb g.size 64 && all_below g.size (λ l. all_below g.size (sane_pair g l))
 
-pub sane-is : (g : Grid) → sane g ≡ true → Sane g
-sane-is g e =
-    let b = and_parts (leb g.size 64) (all-below g.size (λ l. all-below g.size (sane-pair g l))) e in
+pub sane_is : (g : Grid) → sane g ≡ true → Sane g
+sane_is g e =
+    let b = and_parts (leb g.size 64) (all_below g.size (λ l. all_below g.size (sane_pair g l))) e in
     record {
       few = leb-true g.size 64 b.0;
       sized = λ l r i j t. eqb-true (length (g.cost l r)) g.columns (each b.1 l r i j t).0;
-      small = λ l r i j t. (within-tells 1000000000 (g.cost l r)).0 (each b.1 l r i j t).1;
+      small = λ l r i j t. (within_tells 1000000000 (g.cost l r)).0 (each b.1 l r i j t).1;
     }
   where
-    each : all-below g.size (λ l. all-below g.size (sane-pair g l)) ≡ true → (l r : ℕ) → l < g.size → r < g.size → g.stands l r ≡ true
+    each : all_below g.size (λ l. all_below g.size (sane_pair g l)) ≡ true → (l r : ℕ) → l < g.size → r < g.size → g.stands l r ≡ true
         → (eqb (length (g.cost l r)) g.columns ≡ true) × (within 1000000000 (g.cost l r) ≡ true)
     each e l r i j t =
         and_parts (eqb (length (g.cost l r)) g.columns) (within 1000000000 (g.cost l r))
-        (implied (g.stands l r) _ (passes g.size (sane-pair g l) (passes g.size (λ l. all-below g.size (sane-pair g l)) e l i) r j) t)
+        (implied (g.stands l r) _ (passes g.size (sane_pair g l) (passes g.size (λ l. all_below g.size (sane_pair g l)) e l i) r j) t)
 
 -- ---- the greatest prices
 module _ (g : Grid) (left right : ℕ → List ℤ) (p : List ℕ) (rank : List ℕ) where
@@ -69,48 +69,48 @@ module _ (g : Grid) (left right : ℕ → List ℤ) (p : List ℕ) (rank : List 
   value_is : (xs : List ℤ) → value xs ≡ true → Value g.columns xs
   value_is xs e =
       let b = and_parts (eqb (length xs) g.columns) (within 1000000000000000 xs) e in
-      record { sized = eqb-true (length xs) g.columns b.0; railed = (within-tells 1000000000000000 xs).0 b.1 }
+      record { sized = eqb-true (length xs) g.columns b.0; railed = (within_tells 1000000000000000 xs).0 b.1 }
 
-  abbrev under-test : ℕ → ℕ → Bool
-  under-test l r = implies (g.stands l r) (upto (plus (left l) (right r)) (g.cost l r))
+  abbrev under_test : ℕ → ℕ → Bool
+  under_test l r = implies (g.stands l r) (upto (plus (left l) (right r)) (g.cost l r))
 
   abbrev tied : ℕ → ℕ → Bool
   tied r l = g.stands l r && (level (plus (left l) (right r)) (g.cost l r) && ltb (at rank (at p l)) (at rank r))
 
-  abbrev attained-test : ℕ → Bool
-  attained-test r = level (right r) (zeros g.columns) || some_below g.size (tied r)
+  abbrev attained_test : ℕ → Bool
+  attained_test r = level (right r) (zeros g.columns) || some_below g.size (tied r)
 
   -- what is asked of each number, of a left block and of a right block
   abbrev block : ℕ → Bool
-  block k = value (left k) && (value (right k) && (all-below g.size (under-test k) && (level (plus (left k) (right (at p k))) (g.cost k (at p k)) && (upto (right k) (zeros g.columns) && attained-test k))))
+  block k = value (left k) && (value (right k) && (all_below g.size (under_test k) && (level (plus (left k) (right (at p k))) (g.cost k (at p k)) && (upto (right k) (zeros g.columns) && attained_test k))))
 
   abbrev pub greatest : Bool
-  greatest = all-below g.size block
+  greatest = all_below g.size block
 
-  attained-is : (r : ℕ) → attained-test r ≡ true → Attained g left right p (at rank) r
-  attained-is r e = elim (or_cases (level (right r) (zeros g.columns)) (some_below g.size (tied r)) e) [
-    | inl t ↦ inl (level-same (right r) (zeros g.columns) t)
+  attained_is : (r : ℕ) → attained_test r ≡ true → Attained g left right p (at rank) r
+  attained_is r e = elim (or_cases (level (right r) (zeros g.columns)) (some_below g.size (tied r)) e) [
+    | inl t ↦ inl (level_same (right r) (zeros g.columns) t)
     | inr t ↦
-        let w = (some-tells g.size (tied r)).0 t in
+        let w = (some_tells g.size (tied r)).0 t in
         let a = and_parts (g.stands w.0 r) _ w.2 in
         let b = and_parts (level (plus (left w.0) (right r)) (g.cost w.0 r)) (ltb (at rank (at p w.0)) (at rank r)) a.1 in
-        inr (w.0, w.1, a.0, level-same (plus (left w.0) (right r)) (g.cost w.0 r) b.0, ltb-true (at rank (at p w.0)) (at rank r) b.1)
+        inr (w.0, w.1, a.0, level_same (plus (left w.0) (right r)) (g.cost w.0 r) b.0, ltb-true (at rank (at p w.0)) (at rank r) b.1)
   ]
 
-  pub greatest-is : Sane g → Perfect-in g p → greatest ≡ true → Greatest g left right p
-  greatest-is s h e =
+  pub greatest_is : Sane g → PerfectIn g p → greatest ≡ true → Greatest g left right p
+  greatest_is s h e =
       let b₁ = λ (k : ℕ) (i : k < g.size). and_parts (value (left k)) _ (passes g.size block e k i) in
       let b₂ = λ (k : ℕ) (i : k < g.size). and_parts (value (right k)) _ (b₁ k i).1 in
-      let b₃ = λ (k : ℕ) (i : k < g.size). and_parts (all-below g.size (under-test k)) _ (b₂ k i).1 in
+      let b₃ = λ (k : ℕ) (i : k < g.size). and_parts (all_below g.size (under_test k)) _ (b₂ k i).1 in
       let b₄ = λ (k : ℕ) (i : k < g.size). and_parts (level (plus (left k) (right (at p k))) (g.cost k (at p k))) _ (b₃ k i).1 in
-      let b₅ = λ (k : ℕ) (i : k < g.size). and_parts (upto (right k) (zeros g.columns)) (attained-test k) (b₄ k i).1 in
+      let b₅ = λ (k : ℕ) (i : k < g.size). and_parts (upto (right k) (zeros g.columns)) (attained_test k) (b₄ k i).1 in
       let v : Valid g left right p = record {
         lefts = λ l i. value_is (left l) (b₁ l i).0;
         rights = λ r j. value_is (right r) (b₂ r j).0;
-        under = λ l r i j t. (upto-tells (plus (left l) (right r)) (g.cost l r)).0 (implied (g.stands l r) _ (passes g.size (under-test l) (b₃ l i).0 r j) t);
-        equal = λ l i. level-same (plus (left l) (right (at p l))) (g.cost l (at p l)) (b₄ l i).0;
+        under = λ l r i j t. (upto_tells (plus (left l) (right r)) (g.cost l r)).0 (implied (g.stands l r) _ (passes g.size (under_test l) (b₃ l i).0 r j) t);
+        equal = λ l i. level_same (plus (left l) (right (at p l))) (g.cost l (at p l)) (b₄ l i).0;
       } in
-      attained-greatest g s left right p h v (at rank) (λ r j. attained-is r (b₅ r j).1) (λ r j. (upto-tells (right r) (zeros g.columns)).0 (b₅ r j).0)
+      attained_greatest g s left right p h v (at rank) (λ r j. attained_is r (b₅ r j).1) (λ r j. (upto_tells (right r) (zeros g.columns)).0 (b₅ r j).0)
 
 -- ---- the marked pairs
 
@@ -125,14 +125,14 @@ alike_is false true e = absurd (true≢false (sym e))
 alike_is false false e = refl
 
 -- at each standing pair the test t answers whether the pair is marked
-abbrev marks-pair : Grid → (ℕ → ℕ → Bool) → ℕ → ℕ → Bool
-marks-pair g t l r = implies (g.stands l r) (alike (marked g l r) (t l r))
+abbrev marks_pair : Grid → (ℕ → ℕ → Bool) → ℕ → ℕ → Bool
+marks_pair g t l r = implies (g.stands l r) (alike (marked g l r) (t l r))
 
 abbrev pub marks : Grid → (ℕ → ℕ → Bool) → Bool
-marks g t = all-below g.size (λ l. all-below g.size (marks-pair g t l))
+marks g t = all_below g.size (λ l. all_below g.size (marks_pair g t l))
 
-pub marks-are : (g : Grid) (t : ℕ → ℕ → Bool) → marks g t ≡ true → (l r : ℕ) → l < g.size → r < g.size → g.stands l r ≡ true → Decides (t l r) (Marked g l r)
-marks-are g t e l r i j s =
+pub marks_are : (g : Grid) (t : ℕ → ℕ → Bool) → marks g t ≡ true → (l r : ℕ) → l < g.size → r < g.size → g.stands l r ≡ true → Decides (t l r) (Marked g l r)
+marks_are g t e l r i j s =
     subst (λ b. Decides b (Marked g l r))
-    (alike_is (marked g l r) (t l r) (implied (g.stands l r) _ (passes g.size (marks-pair g t l) (passes g.size (λ l. all-below g.size (marks-pair g t l)) e l i) r j) s))
-    (marked-tells g l r)
+    (alike_is (marked g l r) (t l r) (implied (g.stands l r) _ (passes g.size (marks_pair g t l) (passes g.size (λ l. all_below g.size (marks_pair g t l)) e l i) r j) s))
+    (marked_tells g l r)

@@ -28,8 +28,8 @@ pub record Perfect (n : ℕ) (stands : ℕ → ℕ → Bool) (p : List ℕ) : Ty
   pub standing : (l : ℕ) → l < n → stands l (at p l) ≡ true
   pub once : (l m : ℕ) → l < n → m < n → at p l ≡ at p m → l ≡ m
 
-abbrev pub Perfect-in : Grid → List ℕ → Type 0
-Perfect-in g p = Perfect g.size g.stands p
+abbrev pub PerfectIn : Grid → List ℕ → Type 0
+PerfectIn g p = Perfect g.size g.stands p
 
 -- what the pairs of the first k left blocks cost together, column by column
 abbrev pub total_of : Grid → List ℕ → ℕ → List ℤ
@@ -46,5 +46,5 @@ Upto xs ys = lex xs ys ≡ Greater → ⊥
 
 -- a perfect pairing such that every perfect pairing costs at least as much
 pub record Optimum (g : Grid) (p : List ℕ) : Type 0 where
-  pub perfect : Perfect-in g p
-  pub least : (q : List ℕ) → Perfect-in g q → Upto (total g p) (total g q)
+  pub perfect : PerfectIn g p
+  pub least : (q : List ℕ) → PerfectIn g q → Upto (total g p) (total g q)

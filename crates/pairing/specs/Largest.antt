@@ -1,5 +1,5 @@
 -- Pairings that leave blocks out, the largest of them, the crowd set and its shortage.
-use Rattle.std.specs.Prelude.{◌≡◌, ℕ, zero, suc, ◌-◌, ◌<◌, ◌≤◌, Bool, true, false, not, ◌&&◌, ◌||◌, List, length, Decides}
+use Rattle.std.specs.Prelude.{◌≡◌, ℕ, zero, suc, ◌-◌, ◌<◌, ◌≤◌, Bool, true, false, not, ◌&&◌, ◌||◌, List, length, IsTrue, ◌↔◌}
 use Rattle.blockset.specs.Sets.{members, bit}
 use Rattle.pairing.specs.Grid.{at, Perfect}
 
@@ -33,8 +33,8 @@ pub record Crowd (n : ℕ) (stands : ℕ → ℕ → Bool) (l : ℕ) : Type 0 wh
   pub left_out : out l ≡ true
 
 -- the test tells the crowd set
-abbrev pub Crowd-set : (n : ℕ) → (ℕ → ℕ → Bool) → (ℕ → Bool) → Type 0
-Crowd-set n stands X = (l : ℕ) → Decides (X l) (Crowd n stands l)
+abbrev pub CrowdSet : (n : ℕ) → (ℕ → ℕ → Bool) → (ℕ → Bool) → Type 0
+CrowdSet n stands X = (l : ℕ) → (IsTrue (X l) ↔ Crowd n stands l)
 
 -- the right blocks that stand with any left block of a set
 abbrev pub around : ℕ → (ℕ → ℕ → Bool) → (ℕ → Bool) → ℕ → Bool
@@ -47,5 +47,5 @@ shortage n stands X = members n X - members n (around n stands X)
 -- no pairing is perfect; these are the crowd set, as one number, and its shortage
 pub record Unpaired (n : ℕ) (stands : ℕ → ℕ → Bool) (crowd short : ℕ) : Type 0 where
   pub none : (p : List ℕ) → Perfect n stands p → ⊥
-  pub crowd_set : Crowd-set n stands (bit crowd)
+  pub crowd_set : CrowdSet n stands (bit crowd)
   pub shortage_is : shortage n stands (bit crowd) ≡ short

@@ -36,13 +36,13 @@ lists n zero = [] ∷ []
 lists n (suc k) = flat_map (λ r. map (λ t. r ∷ t) (lists n k)) (range_with_len 0 n)
 
 -- the test passes at each number below n
-abbrev pub all-below : ℕ → (ℕ → Bool) → Bool
-all-below zero t = true
-all-below (suc n) t = t n && all-below n t
+abbrev pub all_below : ℕ → (ℕ → Bool) → Bool
+all_below zero t = true
+all_below (suc n) t = t n && all_below n t
 
 -- the pairs of p stand, and none of its right blocks comes twice
 abbrev pub fits : ℕ → (ℕ → ℕ → Bool) → List ℕ → Bool
-fits n stands p = all-below n (λ l. stands l (at p l) && all-below l (λ m. not (at p l == at p m)))
+fits n stands p = all_below n (λ l. stands l (at p l) && all_below l (λ m. not (at p l == at p m)))
 
 -- the perfect pairings
 abbrev pub perfects : ℕ → (ℕ → ℕ → Bool) → List (List ℕ)
@@ -53,13 +53,13 @@ abbrev pub upto : List ℤ → List ℤ → Bool
 upto xs ys = is_le (lex xs ys)
 
 -- xs is at most what each of the pairings costs
-abbrev pub least-of : Grid → List ℤ → List (List ℕ) → Bool
-least-of g xs [] = true
-least-of g xs (q ∷ qs) = upto xs (total g q) && least-of g xs qs
+abbrev pub least_of : Grid → List ℤ → List (List ℕ) → Bool
+least_of g xs [] = true
+least_of g xs (q ∷ qs) = upto xs (total g q) && least_of g xs qs
 
 -- the perfect pairings that cost at most what each perfect pairing costs
 abbrev pub optima : Grid → List (List ℕ)
-optima g = let ps = perfects g.size g.stands in filter (λ p. least-of g (total g p) ps) ps
+optima g = let ps = perfects g.size g.stands in filter (λ p. least_of g (total g p) ps) ps
 
 -- whether a list has nothing in it
 abbrev pub empty : List (List ℕ) → Bool
@@ -76,10 +76,10 @@ pub record Marked (g : Grid) (l r : ℕ) : Type 0 where
   pub has : at pairing l ≡ r
 
 -- one of the pairings has it
-abbrev pub has-pair : ℕ → ℕ → List (List ℕ) → Bool
-has-pair l r [] = false
-has-pair l r (p ∷ ps) = at p l == r || has-pair l r ps
+abbrev pub has_pair : ℕ → ℕ → List (List ℕ) → Bool
+has_pair l r [] = false
+has_pair l r (p ∷ ps) = at p l == r || has_pair l r ps
 
 -- the same of the optimum pairings, as a test
 abbrev pub marked : Grid → ℕ → ℕ → Bool
-marked g l r = nat_lt l g.size && has-pair l r (optima g)
+marked g l r = nat_lt l g.size && has_pair l r (optima g)

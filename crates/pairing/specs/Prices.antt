@@ -9,12 +9,12 @@ pub record Value (columns : ℕ) (xs : List ℤ) : Type 0 where
   pub railed : Within 1000000000000000 xs
 
 -- the pair costs its two prices, neither more nor less: it is tight
-abbrev pub Tight-pair : Grid → (left right : ℕ → List ℤ) → ℕ → ℕ → Type 0
-Tight-pair g left right l r = plus (left l) (right r) ≡ g.cost l r
+abbrev pub TightPair : Grid → (left right : ℕ → List ℤ) → ℕ → ℕ → Type 0
+TightPair g left right l r = plus (left l) (right r) ≡ g.cost l r
 
 -- each pair of the pairing is tight
 abbrev pub Tight : Grid → (left right : ℕ → List ℤ) → List ℕ → Type 0
-Tight g left right p = (l : ℕ) → l < g.size → Tight-pair g left right l (at p l)
+Tight g left right p = (l : ℕ) → l < g.size → TightPair g left right l (at p l)
 
 -- no standing pair costs less than its two prices, and the pairs of p cost just them (dual prices: feasible, and tight at p)
 pub record Valid (g : Grid) (left right : ℕ → List ℤ) (p : List ℕ) : Type 0 where

@@ -3,28 +3,28 @@
 #![tactic(auto)]
 
 ghost use Rattle.pairing.specs.Examples.{Examples};
-ghost use Rattle.pairing.specs.Theorems.{Proves-optimum, Optimum-if-tight, Tight-alike, Valid-alike, Greatest-alike, Given-alike, Leaves-out, Hall, Largest-if-stuck, Crowd-if-reached, Short-by, Sends-if-chain, Optima-are, Marks-are};
+ghost use Rattle.pairing.specs.Theorems.{ProvesOptimum, OptimumIfTight, TightAlike, ValidAlike, GreatestAlike, GivenAlike, LeavesOut, Hall, LargestIfStuck, CrowdIfReached, ShortBy, SendsIfChain, OptimaAre, MarksAre};
 
 use std::cmp::Ordering;
 
 /// How the total of a perfect pairing with valid prices never compares with that of any perfect
 /// pairing: so it is optimum.
 pub fn never_under_prices() -> Ordering
-    ensures { Proves-optimum result }
+    ensures { ProvesOptimum result }
 {
     Ordering::Greater
 }
 
 /// Whether a perfect pairing is optimum, told whether it is tight under valid prices.
 pub fn optimum_if_tight(tight: bool) -> bool
-    ensures { Optimum-if-tight tight result }
+    ensures { OptimumIfTight tight result }
 {
     tight
 }
 
 /// Whether a perfect pairing is tight under valid prices, told whether it is under others.
 pub fn tight_if_elsewhere(elsewhere: bool) -> bool
-    ensures { Tight-alike elsewhere result }
+    ensures { TightAlike elsewhere result }
 {
     elsewhere
 }
@@ -32,14 +32,14 @@ pub fn tight_if_elsewhere(elsewhere: bool) -> bool
 /// Whether prices that are valid for one perfect pairing are valid for another, told whether that
 /// one is optimum.
 pub fn valid_if_optimum(optimum: bool) -> bool
-    ensures { Valid-alike optimum result }
+    ensures { ValidAlike optimum result }
 {
     optimum
 }
 
 /// How two systems of greatest prices compare at each block: there is only one.
 pub fn greatest_compare() -> Ordering
-    ensures { Greatest-alike result }
+    ensures { GreatestAlike result }
 {
     Ordering::Equal
 }
@@ -47,7 +47,7 @@ pub fn greatest_compare() -> Ordering
 /// Whether a perfect pairing gives a left block a right block of a set, told whether another one
 /// does that gives at least the same left blocks one.
 pub fn given_if_by_other(given: bool) -> bool
-    ensures { Given-alike given result }
+    ensures { GivenAlike given result }
 {
     given
 }
@@ -55,7 +55,7 @@ pub fn given_if_by_other(given: bool) -> bool
 /// How many left blocks every pairing leaves out at least, where `many` left blocks stand with only
 /// `few` right blocks.
 pub fn least_left_out(many: usize, few: usize) -> usize
-    ensures { Leaves-out many few result }
+    ensures { LeavesOut many few result }
 {
     if few < many { many - few } else { 0 }
 }
@@ -70,7 +70,7 @@ pub fn may_be_perfect(many: usize, few: usize) -> bool
 
 /// Whether a pairing is largest, told whether no augmenting path is left.
 pub fn largest_if_stuck(stuck: bool) -> bool
-    ensures { Largest-if-stuck stuck result }
+    ensures { LargestIfStuck stuck result }
 {
     stuck
 }
@@ -78,14 +78,14 @@ pub fn largest_if_stuck(stuck: bool) -> bool
 /// Whether a left block is in the crowd set, told whether it is reached from the left blocks that
 /// a largest pairing leaves out.
 pub fn crowd_if_reached(reached: bool) -> bool
-    ensures { Crowd-if-reached reached result }
+    ensures { CrowdIfReached reached result }
 {
     reached
 }
 
 /// The shortage of the crowd set, told how many left blocks a largest pairing leaves out.
 pub fn short_by(left_out: usize) -> usize
-    ensures { Short-by left_out result }
+    ensures { ShortBy left_out result }
 {
     left_out
 }
@@ -93,21 +93,21 @@ pub fn short_by(left_out: usize) -> usize
 /// Whether a left block can be sent to a right block, told whether a chain leads from there to its
 /// own right block.
 pub fn sends_if_chain(chain: bool) -> bool
-    ensures { Sends-if-chain chain result }
+    ensures { SendsIfChain chain result }
 {
     chain
 }
 
 /// Whether the list of all optimum pairings holds any, told whether any pairing is perfect.
 pub fn found_if_perfect(perfect: bool) -> bool
-    ensures { Optima-are perfect result }
+    ensures { OptimaAre perfect result }
 {
     perfect
 }
 
 /// Whether some optimum pairing has a pair, told whether one in the list has it.
 pub fn marked_if_listed(listed: bool) -> bool
-    ensures { Marks-are listed result }
+    ensures { MarksAre listed result }
 {
     listed
 }

@@ -4,7 +4,7 @@ use Rattle.std.specs.Option.{option_map}
 use Rattle.std.specs.Fmt.{signed_decimal}
 use Rattle.cost.specs.declared.plain_kind.Plain.{Plain}
 use Rattle.grid.specs.Tables.{cell}
-use Rattle.sheet.specs.Numbers.{causeNumber, layerNumber}
+use Rattle.sheet.specs.Numbers.{cause_number, layer_number}
 use Rattle.sheet.specs.declared.fault.Fault.{Fault}
 use Rattle.orderfile.specs.Format.{Order}
 use Rattle.orderfile.specs.Loading.{plain, stated}
@@ -15,36 +15,36 @@ up_to zero f = []
 up_to (suc k) f = up_to k f ++ f k
 
 -- the line of a pair, if it stands at a cost: `pair L R COST`
-abbrev pub pairLine : ℕ → ℕ → Option ℤ → List ℕ
-pairLine l r None = []
-pairLine l r (Some cost) = codes "pair " ++ (decimal l ++ (codes " " ++ (decimal r ++ (codes " " ++ (signed_decimal cost ++ codes "\n")))))
+abbrev pub pair_line : ℕ → ℕ → Option ℤ → List ℕ
+pair_line l r None = []
+pair_line l r (Some cost) = codes "pair " ++ (decimal l ++ (codes " " ++ (decimal r ++ (codes " " ++ (signed_decimal cost ++ codes "\n")))))
 
 -- the lines of all pairs of n left and n right blocks, by left and then by right block
-abbrev pub pairLines : ℕ → (ℕ → ℕ → Option ℤ) → List ℕ
-pairLines n cost = up_to n (λ l. up_to n (λ r. pairLine l r (cost l r)))
+abbrev pub pair_lines : ℕ → (ℕ → ℕ → Option ℤ) → List ℕ
+pair_lines n cost = up_to n (λ l. up_to n (λ r. pair_line l r (cost l r)))
 
 -- the same lines as the tables of a sheet of n blocks have them: a pair's cost there, the lines of left block l up to right block k, and the
 -- lines of all left blocks up to k
-abbrev pub costIn : ℕ → List Plain → List ℕ → ℕ → ℕ → Option ℤ
-costIn n costs standing l r = option_map (λ p. p.0) (cell (plain (pos 0)) n costs standing l r)
+abbrev pub cost_in : ℕ → List Plain → List ℕ → ℕ → ℕ → Option ℤ
+cost_in n costs standing l r = option_map (λ p. p.0) (cell (plain (pos 0)) n costs standing l r)
 
 abbrev pub row_lines : ℕ → List Plain → List ℕ → ℕ → ℕ → List ℕ
-row_lines n costs standing l k = up_to k (λ r. pairLine l r (costIn n costs standing l r))
+row_lines n costs standing l k = up_to k (λ r. pair_line l r (cost_in n costs standing l r))
 
-abbrev pub allLines : ℕ → List Plain → List ℕ → ℕ → List ℕ
-allLines n costs standing k = up_to k (λ l. row_lines n costs standing l n)
+abbrev pub all_lines : ℕ → List Plain → List ℕ → ℕ → List ℕ
+all_lines n costs standing k = up_to k (λ l. row_lines n costs standing l n)
 
 -- the text of a sheet, from its tables
-abbrev pub sheetText : ℕ → List Plain → List ℕ → List ℕ
-sheetText n costs standing = (codes "size " ++ (decimal n ++ codes "\n")) ++ (allLines n costs standing n ++ codes "end\n")
+abbrev pub sheet_text : ℕ → List Plain → List ℕ → List ℕ
+sheet_text n costs standing = (codes "size " ++ (decimal n ++ codes "\n")) ++ (all_lines n costs standing n ++ codes "end\n")
 
 -- what a file states: `size N`, the pairs, `end`
 abbrev pub statement : Order → List ℕ
-statement order = (codes "size " ++ (decimal order.size ++ codes "\n")) ++ (pairLines order.size (stated order.pairs) ++ codes "end\n")
+statement order = (codes "size " ++ (decimal order.size ++ codes "\n")) ++ (pair_lines order.size (stated order.pairs) ++ codes "end\n")
 
 -- why it is refused: `refused NUMBER at PLACE layer LAYER`
-abbrev pub refusalLine : ℕ → ℕ → ℕ → List ℕ
-refusalLine number place layer = codes "refused " ++ (decimal number ++ (codes " at " ++ (decimal place ++ (codes " layer " ++ (decimal layer ++ codes "\n")))))
+abbrev pub refusal_line : ℕ → ℕ → ℕ → List ℕ
+refusal_line number place layer = codes "refused " ++ (decimal number ++ (codes " at " ++ (decimal place ++ (codes " layer " ++ (decimal layer ++ codes "\n")))))
 
 abbrev pub refusal : Fault → List ℕ
-refusal f = refusalLine (causeNumber f.cause) f.place (layerNumber f.layer)
+refusal f = refusal_line (cause_number f.cause) f.place (layer_number f.layer)

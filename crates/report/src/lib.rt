@@ -5,7 +5,7 @@ ghost use Rattle.std.specs.Prelude.{◌≡◌, ◌<◌, true, ◌++◌, is_ok, I
 ghost use Rattle.orderfile.specs.Format.{Order, States};
 ghost use Rattle.orderfile.specs.Loading.{Fitting};
 ghost use Rattle.report.specs.Describing.{Describes};
-ghost use Rattle.report.specs.Text.{pairLine, costIn, row_lines, allLines, sheetText, refusalLine, refusal};
+ghost use Rattle.report.specs.Text.{pair_line, cost_in, row_lines, all_lines, sheet_text, refusal_line, refusal};
 
 use cost::Plain;
 use grid::pairs_of;
@@ -27,14 +27,14 @@ pub fn refusal_line(heap: Global, fault: Fault) -> Result<String, AllocError>
 }
 
 fn refusal_text(heap: Global, number: u8, place: usize, layer: u8) -> Result<String, AllocError>
-    ensures { IfOk result (λ text. string_bytes text ≡ refusalLine number place layer) }
+    ensures { IfOk result (λ text. string_bytes text ≡ refusal_line number place layer) }
 {
     format!(in heap; "refused {number} at {place} layer {layer}\n")
 }
 
 // The line that tells a standing pair: `pair L R COST`.
 fn pair_line(heap: Global, left: u16, right: u16, cost: i64) -> Result<String, AllocError>
-    ensures { IfOk result (λ text. string_bytes text ≡ pairLine left right (Some cost)) }
+    ensures { IfOk result (λ text. string_bytes text ≡ pair_line left right (Some cost)) }
 {
     format!(in heap; "pair {left} {right} {cost}\n")
 }
@@ -51,7 +51,7 @@ fn push_pair(
 ) -> Result<(), AllocError>
     requires fitting { Fitting sheet.now.n costs.now standing.now }
     requires inside { (left < sheet.now.n) × (right < sheet.now.n) }
-    ensures { is_ok result ≡ true → string_bytes text.new ≡ string_bytes text.old ++ pairLine left right (costIn sheet.now.n costs.now standing.now left right) }
+    ensures { is_ok result ≡ true → string_bytes text.new ≡ string_bytes text.old ++ pair_line left right (cost_in sheet.now.n costs.now standing.now left right) }
 {
     if let Ok(cost) = sheet.read(costs, standing, left, right) {
         let line = pair_line(heap, left, right, cost.0)?;
@@ -88,7 +88,7 @@ fn push_rows(
     standing: &[u8],
 ) -> Result<(), AllocError>
     requires { Fitting sheet.now.n costs.now standing.now }
-    ensures { is_ok result ≡ true → string_bytes text.new ≡ string_bytes text.old ++ allLines sheet.now.n costs.now standing.now sheet.now.n }
+    ensures { is_ok result ≡ true → string_bytes text.new ≡ string_bytes text.old ++ all_lines sheet.now.n costs.now standing.now sheet.now.n }
 {
     for left in 0..sheet.size() {
         push_row(heap, text, sheet, costs, standing, left)?;
@@ -104,7 +104,7 @@ fn tell(
     standing: &[u8],
 ) -> Result<String, AllocError>
     requires { Fitting sheet.now.n costs.now standing.now }
-    ensures { IfOk result (λ text. string_bytes text ≡ sheetText sheet.now.n costs.now standing.now) }
+    ensures { IfOk result (λ text. string_bytes text ≡ sheet_text sheet.now.n costs.now standing.now) }
 {
     let n = sheet.size();
     let mut text = format!(in heap; "size {n}\n")?;

@@ -18,21 +18,21 @@ module _ (checks : Option Fault) where
   renewed old new e = sym (ap (λ o. after o old new) e)
 
 -- what an answer tells of the checks
-pub from-err : {R : Type 0} (checks : Option Fault) (r : R) (f : Fault) → Err f ≡ answer checks r → checks ≡ Some f
-from-err None r f e = let z : ◌≡◌ {A = ℕ} 0 1 = cc in absurd (omega arith)
-from-err (Some h) r f e = cc
+pub from_err : {R : Type 0} (checks : Option Fault) (r : R) (f : Fault) → Err f ≡ answer checks r → checks ≡ Some f
+from_err None r f e = let z : ◌≡◌ {A = ℕ} 0 1 = cc in absurd (omega arith)
+from_err (Some h) r f e = cc
 
-pub from-ok : {R : Type 0} (checks : Option Fault) (r x : R) → Ok x ≡ answer checks r → (checks ≡ None) × (x ≡ r)
-from-ok None r x e = (refl, cc)
-from-ok (Some h) r x e = let z : ◌≡◌ {A = ℕ} 0 1 = cc in absurd (omega arith)
+pub from_ok : {R : Type 0} (checks : Option Fault) (r x : R) → Ok x ≡ answer checks r → (checks ≡ None) × (x ≡ r)
+from_ok None r x e = (refl, cc)
+from_ok (Some h) r x e = let z : ◌≡◌ {A = ℕ} 0 1 = cc in absurd (omega arith)
 
 -- checks that go on with others
-pub first-refuses : (checks more : List (Bool × Fault)) (f : Fault) → first_of checks ≡ Some f → first_of (checks ++ more) ≡ Some f
-first-refuses [] more f e = let z : ◌≡◌ {A = ℕ} 0 1 = cc in absurd (omega arith)
-first-refuses (check ∷ checks) more f e =
+pub first_refuses : (checks more : List (Bool × Fault)) (f : Fault) → first_of checks ≡ Some f → first_of (checks ++ more) ≡ Some f
+first_refuses [] more f e = let z : ◌≡◌ {A = ℕ} 0 1 = cc in absurd (omega arith)
+first_refuses (check ∷ checks) more f e =
     elim check.0 as (λ b. cond b (Some check.1) (first_of checks) ≡ Some f → cond b (Some check.1) (first_of (checks ++ more)) ≡ Some f) [
       | true ↦ λ h. h
-      | false ↦ λ h. first-refuses checks more f h
+      | false ↦ λ h. first_refuses checks more f h
     ] e
 
 pub first_passes : (checks more : List (Bool × Fault)) → first_of checks ≡ None → first_of (checks ++ more) ≡ first_of more

@@ -5,34 +5,34 @@ use Rattle.sheet.specs.declared.fault.Cause.TheVariants.{Size, TableLength, Bloc
 use Rattle.sheet.specs.declared.fault.Layer.{Layer}
 use Rattle.sheet.specs.declared.fault.Layer.TheVariants.{Field, Record, Sheet}
 
-abbrev pub causeNumber : Cause → ℕ
-causeNumber Size = 1
-causeNumber TableLength = 2
-causeNumber Block = 3
-causeNumber CostRange = 4
-causeNumber Absent = 5
-causeNumber NoPerfectPairing = 6
-causeNumber Inconsistent = 7
-causeNumber Overrun = 8
-causeNumber Tag = 9
-causeNumber FieldLength = 10
-causeNumber ShortBuffer = 11
+abbrev pub cause_number : Cause → ℕ
+cause_number Size = 1
+cause_number TableLength = 2
+cause_number Block = 3
+cause_number CostRange = 4
+cause_number Absent = 5
+cause_number NoPerfectPairing = 6
+cause_number Inconsistent = 7
+cause_number Overrun = 8
+cause_number Tag = 9
+cause_number FieldLength = 10
+cause_number ShortBuffer = 11
 
-abbrev pub layerNumber : Layer → ℕ
-layerNumber Field = 1
-layerNumber Record = 2
-layerNumber Sheet = 3
+abbrev pub layer_number : Layer → ℕ
+layer_number Field = 1
+layer_number Record = 2
+layer_number Sheet = 3
 
 -- the layer that refuses for a cause
-abbrev pub layerOf : Cause → Layer
-layerOf Size = Sheet
-layerOf TableLength = Sheet
-layerOf Block = Sheet
-layerOf CostRange = Sheet
-layerOf Absent = Sheet
-layerOf NoPerfectPairing = Sheet
-layerOf Inconsistent = Sheet
-layerOf Overrun = Field
-layerOf Tag = Record
-layerOf FieldLength = Record
-layerOf ShortBuffer = Sheet
+abbrev pub layer_of : Cause → Layer
+layer_of Size = Sheet
+layer_of TableLength = Sheet
+layer_of Block = Sheet
+layer_of CostRange = Sheet
+layer_of Absent = Sheet
+layer_of NoPerfectPairing = Sheet
+layer_of Inconsistent = Sheet
+layer_of Overrun = Field
+layer_of Tag = Record
+layer_of FieldLength = Record
+layer_of ShortBuffer = Sheet

@@ -1,14 +1,14 @@
 -- What `open` answers, and what it leaves in the tables, at every input.
 use Rattle.std.specs.Prelude.{◌≡◌, ℕ, not, ◌||◌, List, [], ◌∷◌, length, Ok, Err, Option, Result, ◌==◌, nat_lt}
-use Rattle.grid.specs.Tables.{fitting, costsOpened, standingOpened}
+use Rattle.grid.specs.Tables.{fitting, costs_opened, standing_opened}
 use Rattle.sheet.specs.Refusals.{fault, first_of, answer, after}
 use Rattle.sheet.specs.declared.fault.Fault.{Fault}
 use Rattle.sheet.specs.declared.fault.Cause.TheVariants.{Size, TableLength}
 use Rattle.sheet.specs.declared.state.OpenSheet.{OpenSheet}
 
--- costs and saysStands are the lengths of the two pair tables
-unfoldable pub openRefusal : (n costs stands : ℕ) → Option Fault
-openRefusal n costs stands = first_of (
+-- costs and stands are the lengths of the two pair tables
+unfoldable pub open_refusal : (n costs stands : ℕ) → Option Fault
+open_refusal n costs stands = first_of (
     (n == 0 || nat_lt 64 n, fault Size 0) ∷
     (not (fitting n costs stands), fault TableLength 0) ∷ [])
 
@@ -19,6 +19,6 @@ sizes (Err f) = Err f
 
 pub record Opened {K : Type 0} (nought : K) (n : ℕ) (costs : List K) (standing : List ℕ)
     (r : Result OpenSheet Fault) (costs' : List K) (standing' : List ℕ) : Type 0 where
-  pub answers : sizes r ≡ answer (openRefusal n (length costs) (length standing)) n
-  pub blanks : costs' ≡ after (openRefusal n (length costs) (length standing)) costs (costsOpened nought n)
-  pub clears : standing' ≡ after (openRefusal n (length costs) (length standing)) standing (standingOpened n)
+  pub answers : sizes r ≡ answer (open_refusal n (length costs) (length standing)) n
+  pub blanks : costs' ≡ after (open_refusal n (length costs) (length standing)) costs (costs_opened nought n)
+  pub clears : standing' ≡ after (open_refusal n (length costs) (length standing)) standing (standing_opened n)

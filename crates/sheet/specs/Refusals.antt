@@ -2,11 +2,11 @@
 use Rattle.std.specs.Prelude.{ℕ, Bool, cond, not, List, [], ◌∷◌, Some, None, Ok, Err, Option, Result, ◌==◌}
 use Rattle.sheet.specs.declared.fault.Cause.{Cause}
 use Rattle.sheet.specs.declared.fault.Fault.{Fault}
-use Rattle.sheet.specs.Numbers.{layerOf}
+use Rattle.sheet.specs.Numbers.{layer_of}
 
 -- the refusal for a cause at a place; the cause tells the layer
 abbrev pub fault : Cause → ℕ → Fault
-fault cause place = record { cause = cause; place = place; layer = layerOf cause }
+fault cause place = record { cause = cause; place = place; layer = layer_of cause }
 
 -- the checks of a call, in order: the first that holds refuses
 abbrev pub first_of : List (Bool × Fault) → Option Fault

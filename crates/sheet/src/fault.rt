@@ -1,7 +1,7 @@
 //! Refusals: why a call was turned down, where, and in which layer.
 
 ghost use Rattle.std.specs.Prelude.{◌≡◌};
-ghost use Rattle.sheet.specs.Numbers.{causeNumber, layerNumber, layerOf};
+ghost use Rattle.sheet.specs.Numbers.{cause_number, layer_number, layer_of};
 ghost use Rattle.sheet.specs.Refusals.{fault};
 
 /// Why a call was refused. The numbers are part of the interface and never move.
@@ -53,14 +53,14 @@ pub struct Fault {
 impl Cause {
     /// The number that stands for the cause in files, listings and calls from C.
     pub fn number(self) -> u8
-        ensures { result ≡ causeNumber self }
+        ensures { result ≡ cause_number self }
     {
         self as u8
     }
 
     /// The layer that refuses for this cause.
     pub fn layer(self) -> Layer
-        ensures { result ≡ layerOf self }
+        ensures { result ≡ layer_of self }
     {
         match self {
             Cause::Overrun => Layer::Field,
@@ -84,7 +84,7 @@ impl Cause {
 impl Layer {
     /// The number that stands for the layer.
     pub fn number(self) -> u8
-        ensures { result ≡ layerNumber self }
+        ensures { result ≡ layer_number self }
     {
         self as u8
     }

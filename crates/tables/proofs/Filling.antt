@@ -9,7 +9,7 @@ use Rattle.std.proofs.lemmas.Bool.{cases_eq, cases_lt, le-ltb}
 use Rattle.blockset.specs.declared.BlockSet.{BlockSet}
 use Rattle.blockset.specs.Has.{has}
 use Rattle.matching.specs.Rows.{holds}
-use Rattle.tables.specs.Said.{columnsAt}
+use Rattle.tables.specs.Said.{columns_at}
 use Rattle.tables.specs.Rows.{Passing}
 
 module _ (row : BlockSet) (k : ℕ) (test : ℕ → Bool) (filled : Passing k test row) where
@@ -40,8 +40,8 @@ few : (n r : ℕ) (b : Bool) → n ≤ 64 → (ltb r 64 && (ltb r n && b)) ≡ (
 few n r b h = grind (arith, nat_tests)
 
 -- tests that agree on the right blocks there are
-agree-below : (n r : ℕ) (a b : Bool) → (r < n → a ≡ b) → (ltb r n && a) ≡ (ltb r n && b)
-agree-below n r a b e = elim (cases_lt r n) [
+agree_below : (n r : ℕ) (a b : Bool) → (r < n → a ≡ b) → (ltb r n && a) ≡ (ltb r n && b)
+agree_below n r a b e = elim (cases_lt r n) [
   | inl l ↦ ap (λ x. ltb r n && x) (e l)
   | inr l ↦ let f = le-ltb r n l in ap (λ x. x && a) f ∙ sym (ap (λ x. x && b) f)
 ]
@@ -52,28 +52,28 @@ pub row_made : (n l : ℕ) (test : ℕ → ℕ → Bool) (own : ℕ → Bool) (r
 row_made n l test own rows row small inside made filled same m r below = elim (cases_eq m l) [
   | inl e ↦
       ap (λ k. holds (set rows l row) k r) e ∙ ap (λ s. has s r) (get_or-set_same rows l row _ inside)
-      ∙ filled r ∙ few n r (own r) small ∙ agree-below n r (own r) (test l r) (same r) ∙ ap (λ k. ltb r n && test k r) (sym e)
+      ∙ filled r ∙ few n r (own r) small ∙ agree_below n r (own r) (test l r) (same r) ∙ ap (λ k. ltb r n && test k r) (sym e)
   | inr ne ↦ ap (λ s. has s r) (get_or-set_other rows l m row _ ne) ∙ made m r (omega arith)
 ]
 
 -- the part of a table that belongs to left block l
 module _ {X : Type 0} (xs : List X) (n l : ℕ) (inside : l < n) (whole : length xs ≡ n * n) where
-  pub row-end : l * n + n ≤ length xs
-  row-end = let h : (l + 1) * n ≤ n * n = mul-le (l + 1) n n n (omega arith) (omega arith) in omega (arith, add-mul l 1 n, one-mul n)
+  pub row_end : l * n + n ≤ length xs
+  row_end = let h : (l + 1) * n ≤ n * n = mul-le (l + 1) n n n (omega arith) (omega arith) in omega (arith, add-mul l 1 n, one-mul n)
 
-  pub row-length : length (take (l * n + n - l * n) (drop (l * n) xs)) ≡ n
-  row-length = simp (length-take, length-drop) (omega (arith, row-end))
+  pub row_length : length (take (l * n + n - l * n) (drop (l * n) xs)) ≡ n
+  row_length = simp (length-take, length-drop) (omega (arith, row_end))
 
   pub row_at : (r : ℕ) (d : X) → r < n → get_or (take (l * n + n - l * n) (drop (l * n) xs)) r d ≡ get_or xs (l * n + r) d
   row_at r d below = get_or-take (l * n + n - l * n) (drop (l * n) xs) r d (omega arith) ∙ get_or-drop (l * n) xs r d
 
 -- the same of the columns of its values
-pub columns-at : {K : Type 0} (meaning : K → List ℤ) (xs : List K) (n l : ℕ) → l < n → length xs ≡ n * n → (r : ℕ) → r < n
-    → columnsAt meaning (take (l * n + n - l * n) (drop (l * n) xs)) r ≡ columnsAt meaning xs (l * n + r)
-columns-at meaning xs n l inside whole r below =
+pub columns_at_lem : {K : Type 0} (meaning : K → List ℤ) (xs : List K) (n l : ℕ) → l < n → length xs ≡ n * n → (r : ℕ) → r < n
+    → columns_at meaning (take (l * n + n - l * n) (drop (l * n) xs)) r ≡ columns_at meaning xs (l * n + r)
+columns_at_lem meaning xs n l inside whole r below =
     ap (λ ys. get_or ys r []) (sym (take-map meaning (l * n + n - l * n) (drop (l * n) xs)) ∙ ap (take (l * n + n - l * n)) (sym (drop-map meaning (l * n) xs)))
     ∙ row_at (map meaning xs) n l inside (length-map xs meaning ∙ whole) r [] below
 
 -- a value that was read from a table
-pub value-at : {K : Type 0} (meaning : K → List ℤ) (table : List K) (k : ℕ) (x : K) → k < length table → x ≡ get_or table k x → meaning x ≡ columnsAt meaning table k
-value-at meaning table k x h e = ap meaning e ∙ sym (get_or-map meaning table k x [] h)
+pub value_at : {K : Type 0} (meaning : K → List ℤ) (table : List K) (k : ℕ) (x : K) → k < length table → x ≡ get_or table k x → meaning x ≡ columns_at meaning table k
+value_at meaning table k x h e = ap meaning e ∙ sym (get_or-map meaning table k x [] h)

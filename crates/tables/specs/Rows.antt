@@ -1,11 +1,11 @@
 -- Rows of block sets made from lent tables: the standing pairs, and the tight ones.
-use Rattle.std.specs.Prelude.{◌≡◌, ℕ, ◌<◌, Bool, true, ◌&&◌, List, ℤ, Decides, nat_lt}
+use Rattle.std.specs.Prelude.{◌≡◌, ℕ, ◌<◌, Bool, true, ◌&&◌, List, ℤ, IsTrue, ◌↔◌, nat_lt}
 use Rattle.std.specs.Ordering.{is_eq}
 use Rattle.cost.specs.Columns.{sums, lex}
 use Rattle.blockset.specs.declared.BlockSet.{BlockSet}
 use Rattle.blockset.specs.Has.{has}
 use Rattle.pairing.specs.Grid.{Grid, Sane}
-use Rattle.pairing.specs.Prices.{Tight-pair}
+use Rattle.pairing.specs.Prices.{TightPair}
 use Rattle.matching.specs.Rows.{holds}
 
 -- the set has just the right blocks below n that pass the test; no number from 64 on is a block
@@ -17,11 +17,11 @@ abbrev pub StandingRows : ℕ → (ℕ → ℕ → Bool) → List BlockSet → T
 StandingRows n stands rows = (l r : ℕ) → l < n → holds rows l r ≡ (nat_lt r n && stands l r)
 
 -- a pair stands and its two prices add up to its cost, as the kinds add: a sum stops at the ends of the rail
-abbrev pub addsUp : Bool → (left right cost : List ℤ) → Bool
-addsUp stands left right cost = stands && is_eq (lex (sums left right) cost)
+abbrev pub adds_up : Bool → (left right cost : List ℤ) → Bool
+adds_up stands left right cost = stands && is_eq (lex (sums left right) cost)
 
 -- row l holds right block r exactly if there is such a block, the pair stands, and its two prices add up to its cost
 pub record TightRows (g : Grid) (left right : ℕ → List ℤ) (rows : List BlockSet) : Type 0 where
-  pub told : (l r : ℕ) → l < g.size → holds rows l r ≡ (nat_lt r g.size && addsUp (g.stands l r) (left l) (right r) (g.cost l r))
+  pub told : (l r : ℕ) → l < g.size → holds rows l r ≡ (nat_lt r g.size && adds_up (g.stands l r) (left l) (right r) (g.cost l r))
   -- where the costs are sane the rail makes no difference: the row holds just the tight pairs
-  pub tight : Sane g → (l r : ℕ) → l < g.size → r < g.size → Decides (holds rows l r) ((g.stands l r ≡ true) × Tight-pair g left right l r)
+  pub tight : Sane g → (l r : ℕ) → l < g.size → r < g.size → (IsTrue (holds rows l r) ↔ ((g.stands l r ≡ true) × TightPair g left right l r))

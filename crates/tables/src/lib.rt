@@ -2,10 +2,10 @@
 #![tactic(auto)]
 
 ghost use Rattle.std.specs.Prelude.{◌≡◌, ◌*◌, length, MatchResult, slice_index};
-ghost use Rattle.grid.specs.Tables.{byte_of, saysStands};
-ghost use Rattle.tables.specs.Said.{columnsAt, gridOf};
+ghost use Rattle.grid.specs.Tables.{byte_of, says_stands};
+ghost use Rattle.tables.specs.Said.{columns_at, grid_of};
 ghost use Rattle.tables.specs.Fit.{Fit, Misfit, Sized};
-ghost use Rattle.tables.specs.Rows.{Passing, StandingRows, addsUp, TightRows};
+ghost use Rattle.tables.specs.Rows.{Passing, StandingRows, adds_up, TightRows};
 
 use blockset::BlockSet;
 use cost::Cost;
@@ -24,7 +24,7 @@ pub enum Unfit {
 
 /// The right blocks that stand with one left block, whose standing bytes these are.
 fn standing_row(bytes: &[u8]) -> BlockSet
-    ensures { Passing (length bytes.now) (λ r. saysStands (slice_index bytes.now r)) result }
+    ensures { Passing (length bytes.now) (λ r. says_stands (slice_index bytes.now r)) result }
 {
     let mut row = BlockSet::empty();
     for (r, byte) in bytes.iter().enumerate() {
@@ -37,7 +37,7 @@ fn standing_row(bytes: &[u8]) -> BlockSet
 
 /// Makes row l the set of the right blocks that stand with left block l.
 pub fn standing_rows(standing: &[u8], rows: &mut [BlockSet]) -> Result<(), Unfit>
-    ensures { let n = length rows.old in MatchResult result (λ _. Fit n (length standing.now ≡ n * n) (Unit {0}) × StandingRows n (λ l r. saysStands (byte_of n standing.now l r)) rows.new) (λ e. Misfit n (length standing.now ≡ n * n) (Unit {0}) e × (rows.new ≡ rows.old)) }
+    ensures { let n = length rows.old in MatchResult result (λ _. Fit n (length standing.now ≡ n * n) (Unit {0}) × StandingRows n (λ l r. says_stands (byte_of n standing.now l r)) rows.new) (λ e. Misfit n (length standing.now ≡ n * n) (Unit {0}) e × (rows.new ≡ rows.old)) }
 {
     let n = rows.len();
     if n > 64 {
@@ -54,7 +54,7 @@ pub fn standing_rows(standing: &[u8], rows: &mut [BlockSet]) -> Result<(), Unfit
 
 /// Whether a pair stands and its two prices add up to its cost.
 fn tight<K: Cost>(byte: u8, left: K, right: K, cost: K) -> bool
-    ensures { result ≡ addsUp (saysStands byte) (K.meaning left) (K.meaning right) (K.meaning cost) }
+    ensures { result ≡ adds_up (says_stands byte) (K.meaning left) (K.meaning right) (K.meaning cost) }
 {
     stands(byte) && left.add(right).compare(cost).is_eq()
 }
@@ -63,7 +63,7 @@ fn tight<K: Cost>(byte: u8, left: K, right: K, cost: K) -> bool
 fn tight_row<K: Cost>(costs: &[K], standing: &[u8], left: K, right: &[K]) -> BlockSet
     requires priced { length costs.now ≡ length right.now }
     requires told { length standing.now ≡ length right.now }
-    ensures { Passing (length right.now) (λ r. addsUp (saysStands (slice_index standing.now r)) (K.meaning left) (columnsAt K.meaning right.now r) (columnsAt K.meaning costs.now r)) result }
+    ensures { Passing (length right.now) (λ r. adds_up (says_stands (slice_index standing.now r)) (K.meaning left) (columns_at K.meaning right.now r) (columns_at K.meaning costs.now r)) result }
 {
     let mut row = BlockSet::empty();
     for (r, price) in right.iter().enumerate() {
@@ -82,7 +82,7 @@ pub fn tight_rows<K: Cost>(
     right: &[K],
     rows: &mut [BlockSet],
 ) -> Result<(), Unfit>
-    ensures { let n = length rows.old in let Lengths = Sized n (length costs.now) (length standing.now) (length left.now) (length right.now) in MatchResult result (λ _. Fit n Lengths (Unit {0}) × TightRows (gridOf K.columns K.meaning n costs.now standing.now) (columnsAt K.meaning left.now) (columnsAt K.meaning right.now) rows.new) (λ e. Misfit n Lengths (Unit {0}) e × (rows.new ≡ rows.old)) }
+    ensures { let n = length rows.old in let Lengths = Sized n (length costs.now) (length standing.now) (length left.now) (length right.now) in MatchResult result (λ _. Fit n Lengths (Unit {0}) × TightRows (grid_of K.columns K.meaning n costs.now standing.now) (columns_at K.meaning left.now) (columns_at K.meaning right.now) rows.new) (λ e. Misfit n Lengths (Unit {0}) e × (rows.new ≡ rows.old)) }
 {
     let n = rows.len();
     if n > 64 {

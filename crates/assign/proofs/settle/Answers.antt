@@ -4,9 +4,9 @@ use Rattle.cost.proofs.Exact.{within_more}
 use Rattle.blockset.specs.Has.{has}
 use Rattle.pairing.specs.Grid.{at}
 use Rattle.matching.specs.Rows.{holds}
-use Rattle.tables.specs.Said.{columnsAt}
-use Rattle.assign.specs.Weighed.{weightAt, costWeight}
-use Rattle.assign.proofs.Cheaply.{cheaply-kept}
+use Rattle.tables.specs.Said.{columns_at}
+use Rattle.assign.specs.Weighed.{weight_at, cost_weight}
+use Rattle.assign.proofs.Cheaply.{cheaply_kept}
 use Rattle.assign.proofs.settle.Goals as goal
 
 pub pair_rest-owner-requires : goal.pair_rest-owner-requires
@@ -21,9 +21,9 @@ pair_rest-owner-requires g c =
       inside = c.pair_cheapest-owners.ensures.inside;
       possible = c.requires.possible;
       paired = record {
-        kept = cheaply-kept n (holds c.args.rows.now) (costWeight m n c.args.costs.now) (has c.price_cheapest-cheapest.result.priced) (at c.price_cheapest-cheapest.result.row) (weightAt m c.price_cheapest-cheapest.new.right)
+        kept = cheaply_kept n (holds c.args.rows.now) (cost_weight m n c.args.costs.now) (has c.price_cheapest-cheapest.result.priced) (at c.price_cheapest-cheapest.result.row) (weight_at m c.price_cheapest-cheapest.new.right)
             c.price_cheapest-cheapest.ensures.cheapest (has c.pair_cheapest-owners.result.out) (at c.pair_cheapest-owners.new.partners) (at c.pair_cheapest-owners.result.owner) c.pair_cheapest-owners.ensures;
-        priced = λ j h. within_more 1000000000 500000000000 (columnsAt m c.price_cheapest-cheapest.new.right j) (omega arith) (c.price_cheapest-cheapest.ensures.bound j h);
+        priced = λ j h. within_more 1000000000 500000000000 (columns_at m c.price_cheapest-cheapest.new.right j) (omega arith) (c.price_cheapest-cheapest.ensures.bound j h);
         unsold = λ j h _. c.price_cheapest-cheapest.ensures.bound j h;
       };
     }

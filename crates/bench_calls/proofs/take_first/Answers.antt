@@ -4,7 +4,7 @@ use lib.ListN.{length}
 use native.Mathlib.Omega.{arith}
 use borrow.Author.Rules.{rules}
 use Rattle.matching.specs.Rows.{Pairs}
-use Rattle.bench_calls.proofs.Firsts.{accepted, settled, never-refused}
+use Rattle.bench_calls.proofs.Firsts.{accepted, settled, never_refused}
 use Rattle.bench_calls.proofs.take_first.Goals as goal
 
 pub unreachable-requires-in_default-first : goal.unreachable-requires-in_default-first
@@ -15,7 +15,7 @@ unreachable-requires-in_default-first c =
     let pairs : Pairs rows c.args.partners.now =
     accepted (length c.args.rows.now) c.args.costs.now c.args.standing.now c.args.partners.now c.args.left.now c.args.right.now rows c.requires.few
     fit.0.costs_fit c.requires.ordered c.requires.found sized c.in-Ok.ensures.1 in
-    never-refused rows c.args.partners.now (omega (arith, sized, c.requires.few)) (fit.1 ∙ sym sized) pairs c.in_default-first.field-0 c.in_default-first.ensures.0
+    never_refused rows c.args.partners.now (omega (arith, sized, c.requires.few)) (fit.1 ∙ sym sized) pairs c.in_default-first.field-0 c.in_default-first.ensures.0
 
 pub returns : goal.returns
 returns c =

@@ -1,37 +1,37 @@
 -- The first left block with a pair that costs less than its prices decides.
 use Rattle.std.proofs.Common.{◌<◌, arith, below_more}
 use Rattle.std.proofs.lemmas.Bool.Decides.{not_from_Decides}
-use Rattle.tables.specs.Said.{columnsAt, gridOf}
-use Rattle.tables.proofs.Filling.{value-at, row-end}
+use Rattle.tables.specs.Said.{columns_at, grid_of}
+use Rattle.tables.proofs.Filling.{value_at, row_end}
 use Rattle.certificate.specs.Together.{RowUnder}
-use Rattle.certificate.proofs.Judging.{denied, row-decides}
+use Rattle.certificate.proofs.Judging.{denied, row_decides}
 use Rattle.certificate.proofs.grid_holds_prices.Goals as goal
 
 pub offset_bounds-costs-start : goal.offset_bounds-costs-start
-offset_bounds-costs-start g c = omega (arith, row-end c.args.costs.now c.args.n c.loop-l.l (omega arith) c.requires.ordered.costs_fit)
+offset_bounds-costs-start g c = omega (arith, row_end c.args.costs.now c.args.n c.loop-l.l (omega arith) c.requires.ordered.costs_fit)
 
 pub slice_bounds-row_holds_prices-end : goal.slice_bounds-row_holds_prices-end
-slice_bounds-row_holds_prices-end g c = omega (arith, row-end c.args.costs.now c.args.n c.loop-l.l (omega arith) c.requires.ordered.costs_fit)
+slice_bounds-row_holds_prices-end g c = omega (arith, row_end c.args.costs.now c.args.n c.loop-l.l (omega arith) c.requires.ordered.costs_fit)
 
 pub slice_bounds-row_holds_prices-end-in-loop-l : goal.slice_bounds-row_holds_prices-end-in-loop-l
-slice_bounds-row_holds_prices-end-in-loop-l g c = omega (arith, row-end c.args.standing.now c.args.n c.loop-l.l (omega arith) c.requires.ordered.standing_fit)
+slice_bounds-row_holds_prices-end-in-loop-l g c = omega (arith, row_end c.args.standing.now c.args.n c.loop-l.l (omega arith) c.requires.ordered.standing_fit)
 
 pub returns-then-not-row_holds_prices : goal.returns-then-not-row_holds_prices
 returns-then-not-row_holds_prices g c =
     let meaning = g.K.Cost.meaning in
     let inside : c.loop-l.l < c.args.n = omega arith in
-    let told = row-decides meaning c.args.n c.loop-l.l c.args.costs.now c.args.standing.now (columnsAt meaning c.args.right.now) inside c.requires.ordered.costs_fit c.requires.ordered.standing_fit
-    c.row_holds_prices.result _ _ (columnsAt meaning c.args.left.now c.loop-l.l) c.requires.right_fit
-    (value-at meaning c.args.left.now c.loop-l.l c.index-left-l.result (omega arith) c.index-left-l.is) c.row_holds_prices.ensures in
+    let told = row_decides meaning c.args.n c.loop-l.l c.args.costs.now c.args.standing.now (columns_at meaning c.args.right.now) inside c.requires.ordered.costs_fit c.requires.ordered.standing_fit
+    c.row_holds_prices.result _ _ (columns_at meaning c.args.left.now c.loop-l.l) c.requires.right_fit
+    (value_at meaning c.args.left.now c.loop-l.l c.index-left-l.result (omega arith) c.index-left-l.is) c.row_holds_prices.ensures in
     denied (λ u. not_from_Decides c.row_holds_prices.result told c.if-not-row_holds_prices.true (u c.loop-l.l inside))
 
 pub loop-l-preserved : goal.loop-l-preserved
 loop-l-preserved g c =
     let meaning = g.K.Cost.meaning in
     let inside : c.loop-l.l < c.args.n = omega arith in
-    let grid = gridOf g.K.Cost.columns meaning c.args.n c.args.costs.now c.args.standing.now in
-    let told = row-decides meaning c.args.n c.loop-l.l c.args.costs.now c.args.standing.now (columnsAt meaning c.args.right.now) inside c.requires.ordered.costs_fit c.requires.ordered.standing_fit
-    c.row_holds_prices.result _ _ (columnsAt meaning c.args.left.now c.loop-l.l) c.requires.right_fit
-    (value-at meaning c.args.left.now c.loop-l.l c.index-left-l.result (omega arith) c.index-left-l.is) c.row_holds_prices.ensures in
-    below_more (λ k. RowUnder c.args.n (grid.stands k) (columnsAt meaning c.args.left.now k) (columnsAt meaning c.args.right.now) (grid.cost k)) c.loop-l.l c.loop-l.invariant
+    let grid = grid_of g.K.Cost.columns meaning c.args.n c.args.costs.now c.args.standing.now in
+    let told = row_decides meaning c.args.n c.loop-l.l c.args.costs.now c.args.standing.now (columns_at meaning c.args.right.now) inside c.requires.ordered.costs_fit c.requires.ordered.standing_fit
+    c.row_holds_prices.result _ _ (columns_at meaning c.args.left.now c.loop-l.l) c.requires.right_fit
+    (value_at meaning c.args.left.now c.loop-l.l c.index-left-l.result (omega arith) c.index-left-l.is) c.row_holds_prices.ensures in
+    below_more (λ k. RowUnder c.args.n (grid.stands k) (columns_at meaning c.args.left.now k) (columns_at meaning c.args.right.now) (grid.cost k)) c.loop-l.l c.loop-l.invariant
     (told.0 c.if-not-row_holds_prices.false)

@@ -2,12 +2,12 @@
 use Rattle.std.proofs.Common.{◌≡◌, ◌+◌, ◌-◌, sym, refl, ◌∙◌, subst, arith}
 use Rattle.pairing.specs.Optima.{Before}
 use Rattle.matching.specs.Rows.{Pairs}
-use Rattle.matching.proofs.Order.{Next, Exhausted, exhausted-start, exhausted-more, next-is}
-use Rattle.matching.proofs.Places.{placed, next_place, last-place}
+use Rattle.matching.proofs.Order.{Next, Exhausted, exhausted_start, exhausted_more, next_is}
+use Rattle.matching.proofs.Places.{placed, next_place, last_place}
 use Rattle.matching.proofs.advance.Goals as goal
 
 pub loop-l-init : goal.loop-l-init
-loop-l-init c = (refl, exhausted-start c.args.rows.now c.args.p.now c.requires.pairs)
+loop-l-init c = (refl, exhausted_start c.args.rows.now c.args.p.now c.requires.pairs)
 
 pub returns-then-improve : goal.returns-then-improve
 returns-then-improve c =
@@ -18,7 +18,7 @@ returns-then-improve c =
     let pairs : Pairs rows p = subst (Pairs rows) (sym c.loop-l.invariant.0) c.requires.pairs in
     let ended : Exhausted rows (l + 1) p = subst (λ m. Exhausted rows m p) up c.loop-l.invariant.1 in
     let next : Next rows c.args.p.now c.settle.new.p = subst (λ x. Next rows x c.settle.new.p) c.loop-l.invariant.0
-    (next-is rows l p pairs (omega arith) ended c.improve.new.p c.settle.new.p c.if-improve.ensures c.settle.ensures) in
+    (next_is rows l p pairs (omega arith) ended c.improve.new.p c.settle.new.p c.if-improve.ensures c.settle.ensures) in
     let w = placed rows c.args.p.now c.requires.pairs in
     (w.0, w.1, next_place rows w.0 c.args.p.now w.1 c.settle.new.p next)
 
@@ -31,11 +31,11 @@ loop-l-preserved c =
     let pairs : Pairs rows p = subst (Pairs rows) (sym c.loop-l.invariant.0) c.requires.pairs in
     let ended : Exhausted rows (l + 1) p = subst (λ m. Exhausted rows m p) up c.loop-l.invariant.1 in
     let stuck = c.if-improve.ensures in
-    (stuck.same ∙ c.loop-l.invariant.0, subst (Exhausted rows l) (sym stuck.same) (exhausted-more rows l p pairs (omega arith) ended c.improve.new.p stuck))
+    (stuck.same ∙ c.loop-l.invariant.0, subst (Exhausted rows l) (sym stuck.same) (exhausted_more rows l p pairs (omega arith) ended c.improve.new.p stuck))
 
 pub returns : goal.returns
 returns c =
     let rows = c.args.rows.now in
     let p = c.args.p.now in
     let w = placed rows p c.requires.pairs in
-    (w.0, w.1, (last-place rows w.0 p w.1 (λ q g b. c.loop-l.invariant.1 q g (λ i h. absurd (omega arith)) (subst (λ x. Before x q) (sym c.loop-l.invariant.0) b)), c.loop-l.invariant.0))
+    (w.0, w.1, (last_place rows w.0 p w.1 (λ q g b. c.loop-l.invariant.1 q g (λ i h. absurd (omega arith)) (subst (λ x. Before x q) (sym c.loop-l.invariant.0) b)), c.loop-l.invariant.0))

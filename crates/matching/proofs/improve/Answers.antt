@@ -5,14 +5,14 @@ use Rattle.std.proofs.lemmas.Bool.{cases_lt, both_ways, and_parts}
 use Rattle.blockset.specs.declared.BlockSet.{BlockSet}
 use Rattle.blockset.specs.Has.{has}
 use Rattle.blockset.proofs.Holding.{has_block}
-use Rattle.blockset.proofs.Members.{members-less}
+use Rattle.blockset.proofs.Members.{members_less}
 use Rattle.pairing.specs.Grid.{at}
 use Rattle.pairing.specs.Chains.{Agree}
 use Rattle.matching.specs.Rows.{holds, Pairs}
 use Rattle.matching.specs.declared.Bounds.{Bounds}
 use Rattle.matching.specs.Search.{Apart, Holding, along, Complete, Ended, Ways, Filled}
 use Rattle.matching.specs.Steps.{Improved}
-use Rattle.matching.proofs.Trying.{Trying, candidate, candidate-above, sent-candidate, trying_start, trying-more, along-inside, along-offer, sent, ways-from, one_in, one-is, one-other}
+use Rattle.matching.proofs.Trying.{Trying, candidate, candidate_above, sent_candidate, trying_start, trying_more, along_inside, along_offer, sent, ways_from, one_in, one_is, one_other}
 use Rattle.matching.proofs.improve.Goals as goal
 
 -- a floor on blocks: what is left of a row's live blocks
@@ -29,18 +29,18 @@ module _ (rows : List BlockSet) (p : List ℕ) (l floor : ℕ) (h : Pairs rows p
   -- no pairing has a right block below the least candidate
   least : (r : ℕ) → ((j : ℕ) → j < r → C j ≡ false) → (q : List ℕ) → Pairs rows q → Agree l p q → floor ≤ at q l → r ≤ at q l
   least r none q g a up = elim (cases_lt (at q l) r) [
-    | inl less ↦ absurd (both_ways (C (at q l)) (none (at q l) less) (is (at q l) ∙ sent-candidate (length rows) l (holds rows) p live t floor h i q g a up))
+    | inl less ↦ absurd (both_ways (C (at q l)) (none (at q l) less) (is (at q l) ∙ sent_candidate (length rows) l (holds rows) p live t floor h i q g a up))
     | inr le ↦ le
   ]
 
   unimproved : ((j : ℕ) → C j ≡ false) → (q : List ℕ) → Pairs rows q → Agree l p q → at q l < floor
   unimproved none q g a = elim (cases_lt (at q l) floor) [
     | inl less ↦ less
-    | inr up ↦ absurd (both_ways (C (at q l)) (none (at q l)) (is (at q l) ∙ sent-candidate (length rows) l (holds rows) p live t floor h i q g a up))
+    | inr up ↦ absurd (both_ways (C (at q l)) (none (at q l)) (is (at q l) ∙ sent_candidate (length rows) l (holds rows) p live t floor h i q g a up))
   ]
 
   above : (r : ℕ) → C r ≡ true → (holds rows l r ≡ true) × (live r ≡ true) × (floor ≤ r)
-  above r x = candidate-above (holds rows) l floor live r (sym (is r) ∙ x)
+  above r x = candidate_above (holds rows) l floor live r (sym (is r) ∙ x)
 
 -- the table of holders, over as many left blocks as there are rows
 holding : (rows : List BlockSet) (p : List ℕ) (l : ℕ) (out held : ℕ → Bool) (row : List ℕ) → Pairs rows p → Holding l (length p) p out held row → Holding l (length rows) p out held row
@@ -108,8 +108,8 @@ search-reach-requires c =
     let b : Bounds = record { roots = c.of-alone.result; offer = c.of.result; live = c.loop-r.live; goals = c.of-goals.result } in
     record {
       small = c.requires.small;
-      roots = λ m x. subst (λ y. y < length rows) (sym (one-is alone l (omega (arith, c.requires.small, c.requires.inside)) c.of-alone.ensures m x)) c.requires.inside;
-      inside = along-inside rows p l c.requires.small c.requires.pairs c.requires.inside alone (has w.held) w.row c.of-alone.ensures hold b live r s up.1 up.0 (λ j. refl) (λ j. refl) c.of.ensures c.of-goals.ensures;
+      roots = λ m x. subst (λ y. y < length rows) (sym (one_is alone l (omega (arith, c.requires.small, c.requires.inside)) c.of-alone.ensures m x)) c.requires.inside;
+      inside = along_inside rows p l c.requires.small c.requires.pairs c.requires.inside alone (has w.held) w.row c.of-alone.ensures hold b live r s up.1 up.0 (λ j. refl) (λ j. refl) c.of.ensures c.of-goals.ensures;
       held = hold.high;
     }
 
@@ -128,8 +128,8 @@ exchange-requires c =
     let b : Bounds = record { roots = c.of-alone.result; offer = c.of.result; live = c.loop-r.live; goals = c.of-goals.result } in
     let x = c.search-reach.result in
     let found : (has x.reached c.in-Some-goal.goal ≡ true) × (has c.of-goals.result c.in-Some-goal.goal ≡ true) = subst (Ended (along rows b) alone (has w.held) (has c.of-goals.result) w.row (has x.reached)) c.in-Some-goal.is c.search-reach.ensures.goal in
-    let small-l : l < 64 = omega (arith, c.requires.small, c.requires.inside) in
-    let own : c.in-Some-goal.goal ≡ at p l = one-is (has c.of-goals.result) (at p l) (omega (arith, c.requires.small, c.requires.pairs.below l c.requires.inside)) c.of-goals.ensures c.in-Some-goal.goal found.1 in
+    let small_l : l < 64 = omega (arith, c.requires.small, c.requires.inside) in
+    let own : c.in-Some-goal.goal ≡ at p l = one_is (has c.of-goals.result) (at p l) (omega (arith, c.requires.small, c.requires.pairs.below l c.requires.inside)) c.of-goals.ensures c.in-Some-goal.goal found.1 in
     let e = c.loop-r.invariant.0 in
     let len = c.requires.pairs.len in
     record {
@@ -141,10 +141,10 @@ exchange-requires c =
       });
       small = carried (λ n q. n ≤ 64) (length rows) p c.loop-r.p e len c.requires.small;
       ways = carried (λ n q. Ways n q alone (has x.reached) x.from x.rank) (length rows) p c.loop-r.p e len
-          (ways-from (length rows) l _ p alone (has w.held) w.row (has x.reached) x.from x.rank hold c.search-reach.ensures.reached);
+          (ways_from (length rows) l _ p alone (has w.held) w.row (has x.reached) x.from x.rank hold c.search-reach.ensures.reached);
       reached = found.0;
       free = carried (λ n q. (m : ℕ) → m < n → alone m ≡ false → at q m ≡ c.in-Some-goal.goal → ⊥) (length rows) p c.loop-r.p e len
-          (λ m j f z. one-other alone l small-l c.of-alone.ensures m f (c.requires.pairs.once m l j c.requires.inside (z ∙ own)));
+          (λ m j f z. one_other alone l small_l c.of-alone.ensures m f (c.requires.pairs.once m l j c.requires.inside (z ∙ own)));
     }
 
 pub returns-in-Some-goal : goal.returns-in-Some-goal
@@ -185,9 +185,9 @@ loop-r-smaller c =
     let b : Bounds = record { roots = c.of-alone.result; offer = c.of.result; live = c.loop-r.live; goals = c.of-goals.result } in
     let x = c.search-reach.result in
     let vain : Complete (along rows b) alone (has w.held) w.row (has x.reached) × ((j : ℕ) → has x.reached j ≡ true → has c.of-goals.result j ≡ false) = subst (Ended (along rows b) alone (has w.held) (has c.of-goals.result) w.row (has x.reached)) c.in_default-goal.is c.search-reach.ensures.goal in
-    let shut : has x.reached r ≡ true = vain.0.rooted l r (one_in alone l (omega (arith, c.requires.small, c.requires.inside)) c.of-alone.ensures) (along-offer rows p l c.requires.small c.requires.pairs c.requires.inside alone (has w.held) w.row c.of-alone.ensures hold b live r s up.1 up.0 (λ j. refl) (λ j. refl) c.of.ensures c.of-goals.ensures) in
+    let shut : has x.reached r ≡ true = vain.0.rooted l r (one_in alone l (omega (arith, c.requires.small, c.requires.inside)) c.of-alone.ensures) (along_offer rows p l c.requires.small c.requires.pairs c.requires.inside alone (has w.held) w.row c.of-alone.ensures hold b live r s up.1 up.0 (λ j. refl) (λ j. refl) c.of.ensures c.of-goals.ensures) in
     let gone : has c.intersection-candidates.result r ≡ false = (let e₁ = c.intersection-candidates.ensures r in let e₂ = c.difference-live.ensures r in grind arith) in
-    members-less 64 (has c.loop-r.candidates) (has c.intersection-candidates.result) r c.in-Some.ensures.0
+    members_less 64 (has c.loop-r.candidates) (has c.intersection-candidates.result) r c.in-Some.ensures.0
     (λ j y. (and_parts (has c.loop-r.candidates j) _ (sym (c.intersection-candidates.ensures j) ∙ y)).0) c.in-Some.ensures.1 gone
 
 pub loop-r-preserved : goal.loop-r-preserved
@@ -207,7 +207,7 @@ loop-r-preserved c =
     let vain : Complete (along rows b) alone (has w.held) w.row (has x.reached) × ((j : ℕ) → has x.reached j ≡ true → has c.of-goals.result j ≡ false) = subst (Ended (along rows b) alone (has w.held) (has c.of-goals.result) w.row (has x.reached)) c.in_default-goal.is c.search-reach.ensures.goal in (
       c.loop-r.invariant.0,
       subst (λ q. Trying (length rows) l (holds rows) q (has c.difference-live.result)) (sym c.loop-r.invariant.0)
-          (trying-more rows p l c.requires.small c.requires.pairs c.requires.inside alone (has w.held) w.row c.of-alone.ensures hold b live r s up.1 up.0 (λ j. refl) (λ j. refl) c.of.ensures c.of-goals.ensures (has x.reached) x.from x.rank c.search-reach.ensures.reached vain.0 vain.1 (has c.difference-live.result) c.difference-live.ensures),
+          (trying_more rows p l c.requires.small c.requires.pairs c.requires.inside alone (has w.held) w.row c.of-alone.ensures hold b live r s up.1 up.0 (λ j. refl) (λ j. refl) c.of.ensures c.of-goals.ensures (has x.reached) x.from x.rank c.search-reach.ensures.reached vain.0 vain.1 (has c.difference-live.result) c.difference-live.ensures),
       λ j. narrowed (holds rows l j) (live j) (not (ltb j c.args.floor)) (has c.loop-r.candidates j) (has x.reached j) (has c.difference-live.result j) (has c.intersection-candidates.result j)
           (c.loop-r.invariant.2 j) (c.difference-live.ensures j) (c.intersection-candidates.ensures j),
     )

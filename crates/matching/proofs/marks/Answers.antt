@@ -4,17 +4,17 @@ use borrow.Rule.Slice.PartMut.{put_mid}
 use Rattle.std.proofs.lemmas.Nat.{mul-add-lt, mul-le}
 use Rattle.std.proofs.lemmas.Bool.{cases_eq}
 use Rattle.pairing.specs.Grid.{at}
-use Rattle.pairing.specs.Optima.{has-pair}
+use Rattle.pairing.specs.Optima.{has_pair}
 use Rattle.matching.specs.Rows.{pairings}
-use Rattle.matching.proofs.Leading.{pair-occurs, put-before, put-inside}
+use Rattle.matching.proofs.Leading.{pair_occurs, put_before, put_inside}
 use Rattle.matching.proofs.marks.Goals as goal
 
 -- the places of row l
-row-end : (l n : ℕ) → l < n → l * n + n ≤ n * n
-row-end l n i = let h : (l + 1) * n ≤ n * n = mul-le (l + 1) n n n (omega arith) (omega arith) in omega (arith, add-mul l 1 n, one-mul n)
+row_end : (l n : ℕ) → l < n → l * n + n ≤ n * n
+row_end l n i = let h : (l + 1) * n ≤ n * n = mul-le (l + 1) n n n (omega arith) (omega arith) in omega (arith, add-mul l 1 n, one-mul n)
 
 pub slice_bounds-mark_row-end : goal.slice_bounds-mark_row-end
-slice_bounds-mark_row-end c = omega (arith, row-end c.loop-l.l (length c.args.rows.now) (omega arith))
+slice_bounds-mark_row-end c = omega (arith, row_end c.loop-l.l (length c.args.rows.now) (omega arith))
 
 pub loop-l-preserved : goal.loop-l-preserved
 loop-l-preserved c m r i j =
@@ -24,13 +24,13 @@ loop-l-preserved c m r i j =
     let l = c.loop-l.l in
     let fits = c.in_ok-fit.ensures in
     let inside : l < n = omega arith in
-    let short : l * n ≤ length c.loop-l.table = omega (arith, row-end l n inside) in
+    let short : l * n ≤ length c.loop-l.table = omega (arith, row_end l n inside) in
     elim (cases_eq m l) [
       | inl e ↦
           ap (λ x. at (put_mid (l * n) (l * n + n - l * n) c.loop-l.table c.mark_row.new.marks) (x * n + r)) e
-          ∙ put-inside (l * n) (l * n + n - l * n) c.loop-l.table c.mark_row.new.marks short r (omega (arith, row-end l n inside))
-          ∙ c.mark_row.ensures r (omega (arith, row-end l n inside))
-          ∙ ap (λ b. cond b 1 0) (pair-occurs rows p c.leads-led.result l r fits.paired c.leads-led.ensures inside j)
-          ∙ ap (λ x. cond (has-pair x r (pairings rows)) 1 0) (sym e)
-      | inr ne ↦ put-before (l * n) (l * n + n - l * n) c.loop-l.table c.mark_row.new.marks short (m * n + r) (omega (arith, mul-add-lt m n r l (omega arith) j)) ∙ c.loop-l.invariant m r (omega arith) j
+          ∙ put_inside (l * n) (l * n + n - l * n) c.loop-l.table c.mark_row.new.marks short r (omega (arith, row_end l n inside))
+          ∙ c.mark_row.ensures r (omega (arith, row_end l n inside))
+          ∙ ap (λ b. cond b 1 0) (pair_occurs rows p c.leads-led.result l r fits.paired c.leads-led.ensures inside j)
+          ∙ ap (λ x. cond (has_pair x r (pairings rows)) 1 0) (sym e)
+      | inr ne ↦ put_before (l * n) (l * n + n - l * n) c.loop-l.table c.mark_row.new.marks short (m * n + r) (omega (arith, mul-add-lt m n r l (omega arith) j)) ∙ c.loop-l.invariant m r (omega arith) j
     ]

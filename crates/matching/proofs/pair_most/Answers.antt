@@ -3,13 +3,13 @@ use Rattle.std.proofs.Common.{◌≡◌, ℕ, ◌≤◌, Bool, true, false, not,
 use Rattle.std.proofs.lemmas.Bool.{both_ways, and_parts, and_from, lt-ltb, eqb-false, eq-eqb, not-true}
 use Rattle.blockset.specs.declared.BlockSet.{BlockSet}
 use Rattle.blockset.specs.Has.{has}
-use Rattle.blockset.proofs.Members.{members-less}
+use Rattle.blockset.proofs.Members.{members_less}
 use Rattle.pairing.specs.Grid.{at}
 use Rattle.matching.specs.declared.Bounds.{Bounds}
 use Rattle.matching.specs.Search.{Apart, Holding, along, Complete, Ended, Ways, Filled}
-use Rattle.matching.proofs.Trying.{ways-from}
+use Rattle.matching.proofs.Trying.{ways_from}
 use Rattle.matching.proofs.Leading.{Wide}
-use Rattle.matching.proofs.Most.{paired-more, most, unpaired}
+use Rattle.matching.proofs.Most.{paired_more, most, unpaired}
 use Rattle.matching.proofs.pair_most.Goals as goal
 
 -- the table of holders, over as many left blocks as there are rows
@@ -32,7 +32,7 @@ exchange-l-requires c =
     let found : (has x.reached c.in-Some.goal ≡ true) × (has b.goals c.in-Some.goal ≡ true) =
     subst (Ended (along rows b) (has b.roots) (has w.held) (has b.goals) w.row (has x.reached)) c.in-Some.is c.search-reach.ensures.goal in
     let free : has w.held c.in-Some.goal ≡ false = not-true _ (and_parts (has c.all-all.result c.in-Some.goal) _ (sym (c.difference-goals.ensures c.in-Some.goal) ∙ found.1)).1 in
-    let ways = ways-from (length rows) 0 (along rows b) p (has b.roots) (has w.held) w.row (has x.reached) x.from x.rank hold c.search-reach.ensures.reached in
+    let ways = ways_from (length rows) 0 (along rows b) p (has b.roots) (has w.held) w.row (has x.reached) x.from x.rank hold c.search-reach.ensures.reached in
     let apart : Apart (length rows) p (has b.roots) = record { len = part.len; below = part.below; standing = λ m j _. refl; once = part.once } in
     record {
       part = subst (λ n. Apart n p (has b.roots)) (sym part.len) apart;
@@ -45,7 +45,7 @@ exchange-l-requires c =
 pub rounds-smaller : goal.rounds-smaller
 rounds-smaller c =
     let l = c.exchange-l.result in
-    members-less 64 (has c.rounds.out) (has c.remove.new.self) l (omega (arith, c.exchange-l.ensures.inside, c.rounds.invariant.0.len, c.requires.small))
+    members_less 64 (has c.rounds.out) (has c.remove.new.self) l (omega (arith, c.exchange-l.ensures.inside, c.rounds.invariant.0.len, c.requires.small))
     (λ j t. (and_parts (has c.rounds.out j) _ (sym (c.remove.ensures j) ∙ t)).0) c.exchange-l.ensures.was_out (removed (has c.rounds.out) (has c.remove.new.self) l (c.remove.ensures l))
   where
     removed : (C D : ℕ → Bool) (l : ℕ) → D l ≡ (C l && not (eqb l l)) → D l ≡ false
@@ -62,7 +62,7 @@ rounds-preserved c =
     let hold = holding rows p (has b.roots) (has w.held) w.row part.len c.find_holders-holders.ensures in
     let f = subst (λ n. Filled n p c.exchange-l.new.p (has b.roots) (has x.reached) x.from c.exchange-l.result) part.len c.exchange-l.ensures in
     let was = λ (j : ℕ) (t : has c.remove.new.self j ≡ true). and_parts (has c.rounds.out j) (not (eqb j c.exchange-l.result)) (sym (c.remove.ensures j) ∙ t) in (
-      paired-more rows p c.requires.small b part (has w.held) w.row (has x.reached) x.from x.rank c.search-reach.ensures.reached c.exchange-l.new.p c.exchange-l.result f (has c.remove.new.self) c.remove.ensures,
+      paired_more rows p c.requires.small b part (has w.held) w.row (has x.reached) x.from x.rank c.search-reach.ensures.reached c.exchange-l.new.p c.exchange-l.result f (has c.remove.new.self) c.remove.ensures,
       (λ j t. c.rounds.invariant.1 j (was j t).0),
       (λ j i t. f.kept j i (was j t).0 (eqb-false j c.exchange-l.result (not-true _ (was j t).1)) ∙ c.rounds.invariant.2 j i (was j t).0),
     )

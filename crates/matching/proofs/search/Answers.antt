@@ -2,11 +2,11 @@
 use Rattle.std.proofs.Common.{◌≡◌, ◌<◌, true, length, sym, ◌∙◌, subst, inl, inr, arith}
 use Rattle.std.proofs.lemmas.Bool.{cases_eq, both_ways}
 use Rattle.blockset.specs.Has.{has}
-use Rattle.blockset.proofs.Members.{members-le, members-like, members-without, members-insert}
+use Rattle.blockset.proofs.Members.{members-le, members_like, members_without, members-insert}
 use Rattle.pairing.specs.Grid.{at}
 use Rattle.matching.specs.Search.{along}
-use Rattle.matching.proofs.Inserting.{inserted, new_in, old-in, old-from}
-use Rattle.matching.proofs.Searching.{search-ways, search-grown, search-least, search-more, search-retired}
+use Rattle.matching.proofs.Inserting.{inserted, new_in, old_in, old_from}
+use Rattle.matching.proofs.Searching.{search_ways, search_grown, search_least, search_more, search_retired}
 use Rattle.matching.proofs.search.Goals as goal
 
 pub overflow_cast-rank : goal.overflow_cast-rank
@@ -21,7 +21,7 @@ returns-then-contains c =
     let found = c.in-Some-fresh.ensures in
     let is = inserted (has c.loop-l.reached) (has c.insert.new.self) x found.0 c.insert.ensures in
     simp c.len.ensures (record {
-      reached = search-ways (length rows) (along rows b) (has b.roots) (has h.held) (has b.goals) h.row (has c.loop-l.pending) (has c.loop-l.reached) c.loop-l.from c.loop-l.rank c.loop-l.invariant
+      reached = search_ways (length rows) (along rows b) (has b.roots) (has h.held) (has b.goals) h.row (has c.loop-l.pending) (has c.loop-l.reached) c.loop-l.from c.loop-l.rank c.loop-l.invariant
           c.in-Some.l x c.in-Some.ensures.1 c.requires.small (c.requires.inside c.in-Some.l x found.1) found.1 found.2 (has c.insert.new.self) is;
       goal = (new_in (has c.loop-l.reached) (has c.insert.new.self) x is, sym c.contains.ensures ∙ c.if-contains.true);
     })
@@ -37,9 +37,9 @@ loop-l-smaller-then-contains-2 c =
     let low : at h.row x < 64 = omega (arith, c.requires.small, c.requires.held x (sym c.if-contains-2.ensures)) in
     omega (
       arith,
-      search-grown (length rows) (along rows b) (has b.roots) (has h.held) (has b.goals) h.row (has c.loop-l.pending) (has c.loop-l.reached) c.loop-l.from c.loop-l.rank c.loop-l.invariant
+      search_grown (length rows) (along rows b) (has b.roots) (has h.held) (has b.goals) h.row (has c.loop-l.pending) (has c.loop-l.reached) c.loop-l.from c.loop-l.rank c.loop-l.invariant
           c.in-Some.l x c.in-Some.ensures.1 c.requires.small (c.requires.inside c.in-Some.l x found.1) found.1 found.2 (has c.insert.new.self) is,
-      search-least (length rows) (along rows b) (has b.roots) (has h.held) (has b.goals) h.row (has c.loop-l.pending) (has c.loop-l.reached) c.loop-l.from c.loop-l.rank c.loop-l.invariant
+      search_least (length rows) (along rows b) (has b.roots) (has h.held) (has b.goals) h.row (has c.loop-l.pending) (has c.loop-l.reached) c.loop-l.from c.loop-l.rank c.loop-l.invariant
           c.in-Some.l x c.in-Some.ensures.1 c.requires.small (c.requires.inside c.in-Some.l x found.1) found.1 found.2 (has c.insert.new.self) is,
       members-insert 64 (has c.loop-l.pending) (has c.insert-then-contains-2.new.self) (at h.row x) low
           (inserted (has c.loop-l.pending) (has c.insert-then-contains-2.new.self) (at h.row x) low c.insert-then-contains-2.ensures),
@@ -57,13 +57,13 @@ loop-l-preserved-then-contains-2 c =
     let inside : at h.row x < length rows = c.requires.held x held in
     let more = inserted (has c.loop-l.pending) (has c.insert-then-contains-2.new.self) (at h.row x) (omega (arith, c.requires.small)) c.insert-then-contains-2.ensures in
     simp c.len.ensures
-    (search-more (length rows) (along rows b) (has b.roots) (has h.held) (has b.goals) h.row (has c.loop-l.pending) (has c.loop-l.reached) c.loop-l.from c.loop-l.rank c.loop-l.invariant
+    (search_more (length rows) (along rows b) (has b.roots) (has h.held) (has b.goals) h.row (has c.loop-l.pending) (has c.loop-l.reached) c.loop-l.from c.loop-l.rank c.loop-l.invariant
     c.in-Some.l x c.in-Some.ensures.1 c.requires.small (c.requires.inside c.in-Some.l x found.1) found.1 found.2 (has c.insert.new.self) is
-    (has c.insert-then-contains-2.new.self) (sym c.if-contains.ensures) (old-in (has c.loop-l.pending) (has c.insert-then-contains-2.new.self) (at h.row x) more)
+    (has c.insert-then-contains-2.new.self) (sym c.if-contains.ensures) (old_in (has c.loop-l.pending) (has c.insert-then-contains-2.new.self) (at h.row x) more)
     (λ _. new_in (has c.loop-l.pending) (has c.insert-then-contains-2.new.self) (at h.row x) more)
     (λ j t. elim (cases_eq j (at h.row x)) [
       | inl e ↦ inr (held, e, subst (λ y. y < length rows) (sym e) inside)
-      | inr ne ↦ inl (old-from (has c.loop-l.pending) (has c.insert-then-contains-2.new.self) (at h.row x) more j t ne)
+      | inr ne ↦ inl (old_from (has c.loop-l.pending) (has c.insert-then-contains-2.new.self) (at h.row x) more j t ne)
     ]))
 
 pub loop-l-smaller-else-contains-2 : goal.loop-l-smaller-else-contains-2
@@ -76,9 +76,9 @@ loop-l-smaller-else-contains-2 c =
     let is = inserted (has c.loop-l.reached) (has c.insert.new.self) x found.0 c.insert.ensures in
     omega (
       arith,
-      search-grown (length rows) (along rows b) (has b.roots) (has h.held) (has b.goals) h.row (has c.loop-l.pending) (has c.loop-l.reached) c.loop-l.from c.loop-l.rank c.loop-l.invariant
+      search_grown (length rows) (along rows b) (has b.roots) (has h.held) (has b.goals) h.row (has c.loop-l.pending) (has c.loop-l.reached) c.loop-l.from c.loop-l.rank c.loop-l.invariant
           c.in-Some.l x c.in-Some.ensures.1 c.requires.small (c.requires.inside c.in-Some.l x found.1) found.1 found.2 (has c.insert.new.self) is,
-      search-least (length rows) (along rows b) (has b.roots) (has h.held) (has b.goals) h.row (has c.loop-l.pending) (has c.loop-l.reached) c.loop-l.from c.loop-l.rank c.loop-l.invariant
+      search_least (length rows) (along rows b) (has b.roots) (has h.held) (has b.goals) h.row (has c.loop-l.pending) (has c.loop-l.reached) c.loop-l.from c.loop-l.rank c.loop-l.invariant
           c.in-Some.l x c.in-Some.ensures.1 c.requires.small (c.requires.inside c.in-Some.l x found.1) found.1 found.2 (has c.insert.new.self) is,
     )
 
@@ -91,7 +91,7 @@ loop-l-preserved-else-contains-2 c =
     let found = c.in-Some-fresh.ensures in
     let is = inserted (has c.loop-l.reached) (has c.insert.new.self) x found.0 c.insert.ensures in
     simp c.len.ensures
-    (search-more (length rows) (along rows b) (has b.roots) (has h.held) (has b.goals) h.row (has c.loop-l.pending) (has c.loop-l.reached) c.loop-l.from c.loop-l.rank c.loop-l.invariant
+    (search_more (length rows) (along rows b) (has b.roots) (has h.held) (has b.goals) h.row (has c.loop-l.pending) (has c.loop-l.reached) c.loop-l.from c.loop-l.rank c.loop-l.invariant
     c.in-Some.l x c.in-Some.ensures.1 c.requires.small (c.requires.inside c.in-Some.l x found.1) found.1 found.2 (has c.insert.new.self) is
     (has c.loop-l.pending) (sym c.if-contains.ensures) (λ j t. t)
     (λ t. absurd (both_ways (has h.held x) (sym c.if-contains-2.ensures) t))
@@ -101,12 +101,12 @@ pub loop-l-smaller : goal.loop-l-smaller
 loop-l-smaller c =
     let l = c.in-Some.l in
     let P = has c.loop-l.pending in
-    omega (arith, members-without 64 P l c.in-Some.ensures.0 c.in-Some.ensures.1, members-like 64 _ (has c.remove.new.self) (λ j _. c.remove.ensures j))
+    omega (arith, members_without 64 P l c.in-Some.ensures.0 c.in-Some.ensures.1, members_like 64 _ (has c.remove.new.self) (λ j _. c.remove.ensures j))
 
 pub loop-l-preserved : goal.loop-l-preserved
 loop-l-preserved c =
     let rows = c.args.rows.now in
     let b = c.args.bounds in
     let h = c.args.holders.now in
-    search-retired (length rows) (along rows b) (has b.roots) (has h.held) (has b.goals) h.row (has c.loop-l.pending) (has c.loop-l.reached) c.loop-l.from c.loop-l.rank c.loop-l.invariant
+    search_retired (length rows) (along rows b) (has b.roots) (has h.held) (has b.goals) h.row (has c.loop-l.pending) (has c.loop-l.reached) c.loop-l.from c.loop-l.rank c.loop-l.invariant
     c.in-Some.l (has c.remove.new.self) c.in_default-fresh.ensures c.remove.ensures

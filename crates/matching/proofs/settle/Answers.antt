@@ -2,7 +2,7 @@
 use Rattle.std.proofs.Common.{◌≡◌, ◌<◌, ◌≤◌, length, subst, inl, inr, arith}
 use Rattle.std.proofs.lemmas.Bool.{cases_Bool}
 use Rattle.std.proofs.lemmas.Bool.Decides.{when_true, when_false}
-use Rattle.matching.proofs.Order.{Settling, settle-more, settle-never, settled}
+use Rattle.matching.proofs.Order.{Settling, settle_more, settle_never, settled}
 use Rattle.matching.proofs.settle.Goals as goal
 
 pub loop-l-preserved : goal.loop-l-preserved
@@ -12,8 +12,8 @@ loop-l-preserved c =
     let inside : c.loop-l.l < length rows = omega arith in
     let start = c.args.p.now in
     elim (cases_Bool c.improve.result) [
-      | inl e ↦ settle-more rows c.args.low c.loop-l.l start c.loop-l.p c.improve.new.p c.loop-l.invariant low inside (when_true _ _ e c.improve.ensures)
-      | inr e ↦ absurd (settle-never rows c.args.low c.loop-l.l start c.loop-l.p c.improve.new.p c.loop-l.invariant low inside (when_false _ _ e c.improve.ensures))
+      | inl e ↦ settle_more rows c.args.low c.loop-l.l start c.loop-l.p c.improve.new.p c.loop-l.invariant low inside (when_true _ _ e c.improve.ensures)
+      | inr e ↦ absurd (settle_never rows c.args.low c.loop-l.l start c.loop-l.p c.improve.new.p c.loop-l.invariant low inside (when_false _ _ e c.improve.ensures))
     ]
 
 pub returns : goal.returns

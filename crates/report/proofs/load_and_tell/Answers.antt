@@ -2,13 +2,13 @@
 use Rattle.std.proofs.Common.{◌≡◌, ◌*◌, string_bytes, ap, ◌∙◌}
 use Rattle.std.proofs.lemmas.Result.{IfOk-weaker}
 use Rattle.report.specs.Describing.{Describes}
-use Rattle.report.specs.Text.{sheetText}
-use Rattle.report.proofs.Described.{describes-order, line-describes, loads-order, loads-fault, told}
+use Rattle.report.specs.Text.{sheet_text}
+use Rattle.report.proofs.Described.{describes_order, line_describes, loads_order, loads_fault, told}
 use Rattle.report.proofs.load_and_tell.Goals as goal
 
 pub tell-requires : goal.tell-requires
 tell-requires c =
-    let o = loads-order _ _ _ c.requires _ _ c.in-Ok.sheet c.in-Ok.ensures in
+    let o = loads_order _ _ _ c.requires _ _ c.in-Ok.sheet c.in-Ok.ensures in
     let fit = c.requires o.0 o.1 in
     let size : o.0.size ≡ c.in-Ok.sheet.n = let e = o.2.answers in cc in
     let square = ap (λ k. k * k) size in
@@ -16,13 +16,13 @@ tell-requires c =
 
 pub returns-in-Ok : goal.returns-in-Ok
 returns-in-Ok c =
-    let o = loads-order _ _ _ c.requires _ _ c.in-Ok.sheet c.in-Ok.ensures in
+    let o = loads_order _ _ _ c.requires _ _ c.in-Ok.sheet c.in-Ok.ensures in
     let size : c.in-Ok.sheet.n ≡ o.0.size = let e = o.2.answers in cc in
-    IfOk-weaker c.tell.result (λ text. string_bytes text ≡ sheetText c.in-Ok.sheet.n c.load.new.costs c.load.new.standing) (λ text. Describes c.args.file.now (string_bytes text))
-    (λ text e. describes-order c.args.file.now (string_bytes text) o.0 o.1 (e ∙ ap (λ k. sheetText k c.load.new.costs c.load.new.standing) size ∙ told o.0 c.load.new.costs c.load.new.standing o.2.shows))
+    IfOk-weaker c.tell.result (λ text. string_bytes text ≡ sheet_text c.in-Ok.sheet.n c.load.new.costs c.load.new.standing) (λ text. Describes c.args.file.now (string_bytes text))
+    (λ text e. describes_order c.args.file.now (string_bytes text) o.0 o.1 (e ∙ ap (λ k. sheet_text k c.load.new.costs c.load.new.standing) size ∙ told o.0 c.load.new.costs c.load.new.standing o.2.shows))
     c.tell.ensures
 
 pub returns-in-Err : goal.returns-in-Err
 returns-in-Err c =
     let f = c.in-Err.fault in
-    line-describes string_bytes c.refusal_line.result c.args.file.now f (loads-fault _ _ _ c.requires _ _ f c.in-Err.ensures) c.refusal_line.ensures
+    line_describes string_bytes c.refusal_line.result c.args.file.now f (loads_fault _ _ _ c.requires _ _ f c.in-Err.ensures) c.refusal_line.ensures

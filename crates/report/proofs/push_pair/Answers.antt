@@ -4,9 +4,9 @@ use Rattle.std.proofs.lemmas.Int.{to_z-of_z}
 use Rattle.std.proofs.lemmas.Bool.{cond-true, cond-false}
 use Rattle.std.specs.Option.{option_map}
 use Rattle.grid.specs.Tables.{place_of, byte_of, cell}
-use Rattle.sheet.proofs.Pairs.{read_ok, read-err}
+use Rattle.sheet.proofs.Pairs.{read_ok, read_err}
 use Rattle.orderfile.specs.Loading.{plain}
-use Rattle.report.specs.Text.{pairLine}
+use Rattle.report.specs.Text.{pair_line}
 use Rattle.report.proofs.push_pair.Goals as goal
 
 pub returns-in_ok-push_str : goal.returns-in_ok-push_str
@@ -20,14 +20,14 @@ returns-in_ok-push_str c = λ _.
     let z = c.in-Ok.cost.0 in
     let fits : SFits w64 z = search rules in
     c.in_ok-push_str.ensures.bytes
-    ∙ ap (λ t. string_bytes c.args.text.now ++ t) (c.deref.ensures ∙ c.in_ok-line.ensures ∙ ap (λ x. pairLine l r (Some x)) (to_z-of_z w64 z fits) ∙ ap (λ o. pairLine l r (option_map (λ p. p.0) o)) (sym here))
+    ∙ ap (λ t. string_bytes c.args.text.now ++ t) (c.deref.ensures ∙ c.in_ok-line.ensures ∙ ap (λ x. pair_line l r (Some x)) (to_z-of_z w64 z fits) ∙ ap (λ o. pair_line l r (option_map (λ p. p.0) o)) (sym here))
 
 pub returns-in_default : goal.returns-in_default
 returns-in_default c = λ _.
     let n = c.args.sheet.now.n in
     let l = c.args.left in
     let r = c.args.right in
-    let absent = read-err n (length c.args.costs.now) (length c.args.standing.now) l r c.requires.fitting.0 c.requires.fitting.1 c.requires.inside.0 c.requires.inside.1
+    let absent = read_err n (length c.args.costs.now) (length c.args.standing.now) l r c.requires.fitting.0 c.requires.fitting.1 c.requires.inside.0 c.requires.inside.1
     (byte_of n c.args.standing.now l r) (get_or c.args.costs.now (place_of n l r) (plain (pos 0))) c.in_default.field-0 c.in_default.ensures.answers in
     let none : cell (plain (pos 0)) n c.args.costs.now c.args.standing.now l r ≡ None = cond-false _ _ _ absent in
-    sym (append-nil (string_bytes c.args.text.now)) ∙ ap (λ o. string_bytes c.args.text.now ++ pairLine l r (option_map (λ p. p.0) o)) (sym none)
+    sym (append-nil (string_bytes c.args.text.now)) ∙ ap (λ o. string_bytes c.args.text.now ++ pair_line l r (option_map (λ p. p.0) o)) (sym none)

@@ -4,7 +4,7 @@ ghost use Rattle.std.specs.Prelude.{◌≡◌, ◌<◌, length, replicate, IfOk}
 ghost use Rattle.cost.specs.Columns.{within};
 ghost use Rattle.grid.specs.Tables.{place_of, byte_of};
 ghost use Rattle.sheet.specs.Opening.{Opened};
-ghost use Rattle.sheet.specs.Pairs.{misplaced, strikeRefusal, Entered, Struck, Answered};
+ghost use Rattle.sheet.specs.Pairs.{misplaced, strike_refusal, Entered, Struck, Answered};
 ghost use Rattle.sheet.specs.Refusals.{first_of, answer};
 
 use super::OpenSheet;
@@ -125,7 +125,7 @@ impl OpenSheet {
         left: u16,
         right: u16,
     ) -> Result<usize, Fault>
-        ensures answers { result ≡ answer (strikeRefusal self.now.n (length costs.now) (length standing.now) left right (byte_of self.now.n standing.now left right)) (place_of self.now.n left right) }
+        ensures answers { result ≡ answer (strike_refusal self.now.n (length costs.now) (length standing.now) left right (byte_of self.now.n standing.now left right)) (place_of self.now.n left right) }
         ensures inside { IfOk result (λ at. (at < length costs.now) × (at < length standing.now)) }
     {
         let at = self.locate(costs.len(), standing.len(), left, right)?;

@@ -1,11 +1,11 @@
 -- The row has just the right blocks before r that are tight.
 use Rattle.std.proofs.Common.{get_or}
-use Rattle.grid.specs.Tables.{saysStands}
-use Rattle.tables.specs.Said.{columnsAt}
-use Rattle.tables.specs.Rows.{Passing, addsUp}
+use Rattle.grid.specs.Tables.{says_stands}
+use Rattle.tables.specs.Said.{columns_at}
+use Rattle.tables.specs.Rows.{Passing, adds_up}
 use Rattle.tables.proofs.tight_row.Given as goal
 
 abbrev pub invariant-loop-r : goal.invariant-loop-r
 invariant-loop-r g l =
     let meaning = g.K.Cost.meaning in
-    Passing l.r (λ j. addsUp (saysStands (get_or l.standing j 0)) (meaning l.left) (columnsAt meaning l.right j) (columnsAt meaning l.costs j)) l.row
+    Passing l.r (λ j. adds_up (says_stands (get_or l.standing j 0)) (meaning l.left) (columns_at meaning l.right j) (columns_at meaning l.costs j)) l.row

@@ -3,13 +3,13 @@ use Rattle.std.proofs.Common.{◌<◌, length, set, sym, ◌∙◌, arith, rules
 use Rattle.std.proofs.lemmas.List.{get_or-set_same, get_or-set_other, length-set}
 use Rattle.blockset.specs.Has.{has}
 use Rattle.pairing.specs.Grid.{at}
-use Rattle.assign.specs.Trees.{stageIn}
-use Rattle.assign.proofs.Flipping.{flip-none, asked, gives, flip-more, flip-all}
+use Rattle.assign.specs.Trees.{stage_in}
+use Rattle.assign.proofs.Flipping.{flip_none, asked, gives, flip_more, flip_all}
 use Rattle.assign.proofs.pairs.flip.Goals as goal
 
 pub chain-init : goal.chain-init
 chain-init c = (
-  flip-none (length c.args.partners.now) c.args.goal (has c.args.out) (stageIn c.args.tree.now) (at c.args.tree.now.via) (at c.args.partners.now) (at c.args.owner.now) c.requires.way,
+  flip_none (length c.args.partners.now) c.args.goal (has c.args.out) (stage_in c.args.tree.now) (at c.args.tree.now.via) (at c.args.partners.now) (at c.args.owner.now) c.requires.way,
   search rules,
 )
 
@@ -17,7 +17,7 @@ pub returns-then-contains : goal.returns-then-contains
 returns-then-contains c =
     let n = length c.args.partners.now in
     let out = has c.args.out in
-    let stage = stageIn c.args.tree.now in
+    let stage = stage_in c.args.tree.now in
     let via = at c.args.tree.now.via in
     let p₀ = at c.args.partners.now in
     let o₀ = at c.args.owner.now in
@@ -28,14 +28,14 @@ returns-then-contains c =
     let g = c.chain.invariant.0 in
     let in-partners : l < length ps = omega (arith, asked n c.args.goal out stage via p₀ o₀ c.requires.way h (at ps) (at os) (at ps) (at os) g) in
     let in-owner : h < length os = omega (arith, g.inside, c.chain.invariant.1, c.requires.few) in
-    flip-all n c.args.goal out stage via p₀ o₀ c.requires.way h (at ps) (at os) (at (set ps l h)) (at (set os h l)) g
+    flip_all n c.args.goal out stage via p₀ o₀ c.requires.way h (at ps) (at os) (at (set ps l h)) (at (set os h l)) g
     (get_or-set_same ps l h 0 in-partners) (λ j ne. get_or-set_other ps l j h 0 ne) (get_or-set_same os h l 0 in-owner) (λ j ne. get_or-set_other os h j l 0 ne) (sym c.if-contains.ensures)
 
 pub chain-preserved : goal.chain-preserved
 chain-preserved c =
     let n = length c.args.partners.now in
     let out = has c.args.out in
-    let stage = stageIn c.args.tree.now in
+    let stage = stage_in c.args.tree.now in
     let via = at c.args.tree.now.via in
     let p₀ = at c.args.partners.now in
     let o₀ = at c.args.owner.now in
@@ -46,7 +46,7 @@ chain-preserved c =
     let g = c.chain.invariant.0 in
     let in-partners : l < length ps = omega (arith, asked n c.args.goal out stage via p₀ o₀ c.requires.way h (at ps) (at os) (at ps) (at os) g) in
     let in-owner : h < length os = omega (arith, g.inside, c.chain.invariant.1, c.requires.few) in (
-      flip-more n c.args.goal out stage via p₀ o₀ c.requires.way h (at ps) (at os) (at (set ps l h)) (at (set os h l)) g
+      flip_more n c.args.goal out stage via p₀ o₀ c.requires.way h (at ps) (at os) (at (set ps l h)) (at (set os h l)) g
           (get_or-set_same ps l h 0 in-partners) (λ j ne. get_or-set_other ps l j h 0 ne) (get_or-set_same os h l 0 in-owner) (λ j ne. get_or-set_other os h j l 0 ne) (sym c.if-contains.ensures),
       length-set os h l ∙ c.chain.invariant.1,
     )
@@ -55,5 +55,5 @@ pub chain-smaller : goal.chain-smaller
 chain-smaller c =
     let ps = at c.chain.partners in
     let os = at c.chain.owner in
-    (gives (length c.args.partners.now) c.args.goal (has c.args.out) (stageIn c.args.tree.now) (at c.args.tree.now.via) (at c.args.partners.now) (at c.args.owner.now) c.requires.way
+    (gives (length c.args.partners.now) c.args.goal (has c.args.out) (stage_in c.args.tree.now) (at c.args.tree.now.via) (at c.args.partners.now) (at c.args.owner.now) c.requires.way
     c.chain.block ps os ps os c.chain.invariant.0 (sym c.if-contains.ensures)).2

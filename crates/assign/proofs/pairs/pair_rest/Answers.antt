@@ -3,7 +3,7 @@ use Rattle.std.proofs.Common.{false, sym, subst}
 use mathlib.Core.Path.{fun_ext}
 use Rattle.blockset.specs.Has.{has}
 use Rattle.assign.specs.Pairs.{Paired}
-use Rattle.assign.proofs.Removing.{still-in, fewer}
+use Rattle.assign.proofs.Removing.{still_in, fewer}
 use Rattle.assign.proofs.pairs.pair_rest.Goals as goal
 
 pub loop-k-smaller : goal.loop-k-smaller
@@ -12,7 +12,7 @@ loop-k-smaller g c = fewer (has c.loop-k.out) (has c.remove.new.self) c.in-Some.
 pub loop-k-preserved : goal.loop-k-preserved
 loop-k-preserved g c = (
   subst (λ out. Paired g.K.Cost.meaning c.args.rows.now c.args.costs.now out c.pair_row.new.partners c.pair_row.new.owner c.pair_row.new.right) (sym (fun_ext c.remove.ensures)) c.pair_row.ensures,
-  λ j t. c.loop-k.invariant.1 j (still-in (has c.loop-k.out) (has c.remove.new.self) c.in-Some.k c.remove.ensures j t).0,
+  λ j t. c.loop-k.invariant.1 j (still_in (has c.loop-k.out) (has c.remove.new.self) c.in-Some.k c.remove.ensures j t).0,
 )
 
 pub returns : goal.returns

@@ -3,44 +3,44 @@ use Rattle.std.proofs.Common.{◌≡◌, ℕ, ◌+◌, ◌-◌, ◌*◌, true, n
 use Rattle.std.proofs.lemmas.Bool.{both_ways}
 use Rattle.cost.specs.Columns.{Within}
 use Rattle.cost.proofs.Exact.{zeros_within}
-use Rattle.cost.proofs.Weights.{weight, weight-zeros}
+use Rattle.cost.proofs.Weights.{weight, weight_zeros}
 use Rattle.blockset.specs.Has.{has}
 use Rattle.pairing.specs.Grid.{at}
 use Rattle.matching.specs.Rows.{holds}
-use Rattle.tables.proofs.Filling.{row-end, row-length, columns-at}
-use Rattle.assign.specs.Weighed.{weightAt, costWeight}
+use Rattle.tables.proofs.Filling.{row_end, row_length, columns_at_lem}
+use Rattle.assign.specs.Weighed.{weight_at, cost_weight}
 use Rattle.assign.specs.Search.{Ends, Way, Flipped, Lowered}
-use Rattle.assign.specs.Trees.{stageIn}
-use Rattle.assign.proofs.Adding.{from_row, way_of, root_is, added, free-before, never}
-use Rattle.assign.proofs.Starting.{started-row}
-use Rattle.assign.proofs.Turns.{taken_is, untaken-is}
+use Rattle.assign.specs.Trees.{stage_in}
+use Rattle.assign.proofs.Adding.{from_row, way_of, root_is, added, free_before, never}
+use Rattle.assign.proofs.Starting.{started_row}
+use Rattle.assign.proofs.Turns.{taken_is, untaken_is}
 use Rattle.assign.proofs.pairs.pair_row.Given as given
 use Rattle.assign.proofs.pairs.pair_row.Goals as goal
 
-zero-weighs : (g : given.Over) (x : g.row.K.Denot) → x ≡ g.K.Cost.nought → weight (g.K.Cost.meaning x) ≡ pos 0
-zero-weighs g x e = ap (λ z. weight (g.K.Cost.meaning z)) e ∙ ap weight g.met.K.Cost.nothing ∙ weight-zeros g.K.Cost.columns
+zero_weighs : (g : given.Over) (x : g.row.K.Denot) → x ≡ g.K.Cost.nought → weight (g.K.Cost.meaning x) ≡ pos 0
+zero_weighs g x e = ap (λ z. weight (g.K.Cost.meaning z)) e ∙ ap weight g.met.K.Cost.nothing ∙ weight_zeros g.K.Cost.columns
 
 zero-within : (g : given.Over) (b : ℕ) (x : g.row.K.Denot) → x ≡ g.K.Cost.nought → Within b (g.K.Cost.meaning x)
 zero-within g b x e = subst (Within b) (sym (ap g.K.Cost.meaning e ∙ g.met.K.Cost.nothing)) (zeros_within b g.K.Cost.columns)
 
 pub offset_bounds-costs-k : goal.offset_bounds-costs-k
-offset_bounds-costs-k g c = omega (arith, row-end c.args.costs.now (length c.args.rows.now) c.args.k c.requires.room c.requires.lent.square)
+offset_bounds-costs-k g c = omega (arith, row_end c.args.costs.now (length c.args.rows.now) c.args.k c.requires.room c.requires.lent.square)
 
 pub slice_bounds-offer-end : goal.slice_bounds-offer-end
-slice_bounds-offer-end g c = row-end c.args.costs.now (length c.args.rows.now) c.args.k c.requires.room c.requires.lent.square
+slice_bounds-offer-end g c = row_end c.args.costs.now (length c.args.rows.now) c.args.k c.requires.room c.requires.lent.square
 
 pub offer-requires : goal.offer-requires
 offer-requires g c =
     let m = g.K.Cost.meaning in
     let n = length c.args.rows.now in
     let k = c.args.k in
-    let long = row-length c.args.costs.now n k c.requires.room c.requires.lent.square in
+    let long = row_length c.args.costs.now n k c.requires.room c.requires.lent.square in
     record {
       few = omega (arith, long, c.requires.lent.few);
       sized = c.requires.lefts ∙ sym long;
       block = omega (arith, c.requires.room, c.requires.lent.few);
       inside = λ j r. omega (arith, long, c.requires.lent.inside k j c.requires.room r);
-      modest = λ j r. subst (Within 1000000000) (sym (columns-at m c.args.costs.now n k c.requires.room c.requires.lent.square j (c.requires.lent.inside k j c.requires.room r))) (c.requires.lent.modest k j c.requires.room r);
+      modest = λ j r. subst (Within 1000000000) (sym (columns_at_lem m c.args.costs.now n k c.requires.room c.requires.lent.square j (c.requires.lent.inside k j c.requires.room r))) (c.requires.lent.modest k j c.requires.room r);
       near = zero-within g 400000000000 c.zero.result c.zero.ensures;
     }
 
@@ -63,19 +63,19 @@ lower-requires g c =
     let n = length c.args.rows.now in
     let k = c.args.k in
     let stands = holds c.args.rows.now in
-    let cost = costWeight m n c.args.costs.now in
+    let cost = cost_weight m n c.args.costs.now in
     let out = has c.args.out in
     let p = at c.args.partners.now in
     let o = at c.args.owner.now in
-    let v = weightAt m c.args.right.now in
+    let v = weight_at m c.args.right.now in
     let kept = c.requires.paired.kept in
-    let d = weightAt m c.grow-tree.new.dist in
-    let at_stage = stageIn c.grow-tree.result in
+    let d = weight_at m c.grow-tree.new.dist in
+    let at_stage = stage_in c.grow-tree.result in
     let via = at c.grow-tree.result.via in
     let ends = c.grow-tree.ensures.grown out (from_row stands cost k) p kept
-    (started-row n k stands cost out p o v kept (has c.empty.result) c.empty.ensures (weight (m c.zero.result)) (zero-weighs g c.zero.result c.zero.ensures)
-    (weightAt m (take (k * n + n - k * n) (drop (k * n) c.args.costs.now))) (λ j h. ap weight (columns-at m c.args.costs.now n k c.requires.room c.requires.lent.square j h))
-    (weightAt m c.args.left.now) (at (replicate 64 0)) (weightAt m c.offer.new.dist) (at c.offer.new.via) c.offer.ensures.offered) in
+    (started_row n k stands cost out p o v kept (has c.empty.result) c.empty.ensures (weight (m c.zero.result)) (zero_weighs g c.zero.result c.zero.ensures)
+    (weight_at m (take (k * n + n - k * n) (drop (k * n) c.args.costs.now))) (λ j h. ap weight (columns_at_lem m c.args.costs.now n k c.requires.room c.requires.lent.square j h))
+    (weight_at m c.args.left.now) (at (replicate 64 0)) (weight_at m c.offer.new.dist) (at c.offer.new.via) c.offer.ensures.offered) in
     let f = c.in-Some.goal in
     let found = subst (Ends n stands cost out (from_row stands cost k) p o v d at_stage via) c.in-Some.is ends in
     let long = c.grow-tree.auto.dist ∙ c.offer.auto.dist ∙ c.requires.lefts in
@@ -95,19 +95,19 @@ flip-requires g c =
     let n = length c.args.rows.now in
     let k = c.args.k in
     let stands = holds c.args.rows.now in
-    let cost = costWeight m n c.args.costs.now in
+    let cost = cost_weight m n c.args.costs.now in
     let out = has c.args.out in
     let p = at c.args.partners.now in
     let o = at c.args.owner.now in
-    let v = weightAt m c.args.right.now in
+    let v = weight_at m c.args.right.now in
     let kept = c.requires.paired.kept in
-    let d = weightAt m c.grow-tree.new.dist in
-    let at_stage = stageIn c.grow-tree.result in
+    let d = weight_at m c.grow-tree.new.dist in
+    let at_stage = stage_in c.grow-tree.result in
     let via = at c.grow-tree.result.via in
     let ends = c.grow-tree.ensures.grown out (from_row stands cost k) p kept
-    (started-row n k stands cost out p o v kept (has c.empty.result) c.empty.ensures (weight (m c.zero.result)) (zero-weighs g c.zero.result c.zero.ensures)
-    (weightAt m (take (k * n + n - k * n) (drop (k * n) c.args.costs.now))) (λ j h. ap weight (columns-at m c.args.costs.now n k c.requires.room c.requires.lent.square j h))
-    (weightAt m c.args.left.now) (at (replicate 64 0)) (weightAt m c.offer.new.dist) (at c.offer.new.via) c.offer.ensures.offered) in
+    (started_row n k stands cost out p o v kept (has c.empty.result) c.empty.ensures (weight (m c.zero.result)) (zero_weighs g c.zero.result c.zero.ensures)
+    (weight_at m (take (k * n + n - k * n) (drop (k * n) c.args.costs.now))) (λ j h. ap weight (columns_at_lem m c.args.costs.now n k c.requires.room c.requires.lent.square j h))
+    (weight_at m c.args.left.now) (at (replicate 64 0)) (weight_at m c.offer.new.dist) (at c.offer.new.via) c.offer.ensures.offered) in
     let f = c.in-Some.goal in
     let found = subst (Ends n stands cost out (from_row stands cost k) p o v d at_stage via) c.in-Some.is ends in
     record {
@@ -121,23 +121,23 @@ returns-in-Some g c =
     let n = length c.args.rows.now in
     let k = c.args.k in
     let stands = holds c.args.rows.now in
-    let cost = costWeight m n c.args.costs.now in
+    let cost = cost_weight m n c.args.costs.now in
     let out = has c.args.out in
     let p = at c.args.partners.now in
     let o = at c.args.owner.now in
-    let v = weightAt m c.args.right.now in
+    let v = weight_at m c.args.right.now in
     let kept = c.requires.paired.kept in
-    let d = weightAt m c.grow-tree.new.dist in
-    let at_stage = stageIn c.grow-tree.result in
+    let d = weight_at m c.grow-tree.new.dist in
+    let at_stage = stage_in c.grow-tree.result in
     let via = at c.grow-tree.result.via in
     let ends = c.grow-tree.ensures.grown out (from_row stands cost k) p kept
-    (started-row n k stands cost out p o v kept (has c.empty.result) c.empty.ensures (weight (m c.zero.result)) (zero-weighs g c.zero.result c.zero.ensures)
-    (weightAt m (take (k * n + n - k * n) (drop (k * n) c.args.costs.now))) (λ j h. ap weight (columns-at m c.args.costs.now n k c.requires.room c.requires.lent.square j h))
-    (weightAt m c.args.left.now) (at (replicate 64 0)) (weightAt m c.offer.new.dist) (at c.offer.new.via) c.offer.ensures.offered) in
+    (started_row n k stands cost out p o v kept (has c.empty.result) c.empty.ensures (weight (m c.zero.result)) (zero_weighs g c.zero.result c.zero.ensures)
+    (weight_at m (take (k * n + n - k * n) (drop (k * n) c.args.costs.now))) (λ j h. ap weight (columns_at_lem m c.args.costs.now n k c.requires.room c.requires.lent.square j h))
+    (weight_at m c.args.left.now) (at (replicate 64 0)) (weight_at m c.offer.new.dist) (at c.offer.new.via) c.offer.ensures.offered) in
     let f = c.in-Some.goal in
     let found = subst (Ends n stands cost out (from_row stands cost k) p o v d at_stage via) c.in-Some.is ends in
     let long = c.grow-tree.auto.dist ∙ c.offer.auto.dist ∙ c.requires.lefts in
-    let v' = weightAt m c.lower.new.right in
+    let v' = weight_at m c.lower.new.right in
     let p' = at c.flip.new.partners in
     let o' = at c.flip.new.owner in
     let low = subst (λ z. Lowered z f d at_stage v v') long c.lower.ensures.lowered in
@@ -148,8 +148,8 @@ returns-in-Some g c =
       kept = added n k stands cost out p o v kept c.requires.room c.requires.unpaired d at_stage via found.3.0 f found.3.1 found.0 found.1 found.2 v' low p' o' flip (λ l. out l && not (eqb l k)) (λ l. refl);
       priced = λ j h. c.lower.ensures.bound j (omega (arith, long));
       unsold = λ j h q.
-          let was = free-before n k stands cost out p o v kept c.requires.room c.requires.unpaired d at_stage via found.3.0 f found.3.1 found.0 found.1 found.2 v' low p' o' flip j h q in
-          subst (Within 1000000000) (sym (c.lower.ensures.same j (omega (arith, long)) (untaken-is (has c.grow-tree.result.open) (has c.grow-tree.result.reached) c.grow-tree.result.turn j was.1))) (c.requires.paired.unsold j h was.0);
+          let was = free_before n k stands cost out p o v kept c.requires.room c.requires.unpaired d at_stage via found.3.0 f found.3.1 found.0 found.1 found.2 v' low p' o' flip j h q in
+          subst (Within 1000000000) (sym (c.lower.ensures.same j (omega (arith, long)) (untaken_is (has c.grow-tree.result.open) (has c.grow-tree.result.reached) c.grow-tree.result.turn j was.1))) (c.requires.paired.unsold j h was.0);
     }
 
 pub returns-in_default : goal.returns-in_default
@@ -158,18 +158,18 @@ returns-in_default g c =
     let n = length c.args.rows.now in
     let k = c.args.k in
     let stands = holds c.args.rows.now in
-    let cost = costWeight m n c.args.costs.now in
+    let cost = cost_weight m n c.args.costs.now in
     let out = has c.args.out in
     let p = at c.args.partners.now in
     let o = at c.args.owner.now in
-    let v = weightAt m c.args.right.now in
+    let v = weight_at m c.args.right.now in
     let kept = c.requires.paired.kept in
-    let d = weightAt m c.grow-tree.new.dist in
-    let at_stage = stageIn c.grow-tree.result in
+    let d = weight_at m c.grow-tree.new.dist in
+    let at_stage = stage_in c.grow-tree.result in
     let via = at c.grow-tree.result.via in
     let ends = c.grow-tree.ensures.grown out (from_row stands cost k) p kept
-    (started-row n k stands cost out p o v kept (has c.empty.result) c.empty.ensures (weight (m c.zero.result)) (zero-weighs g c.zero.result c.zero.ensures)
-    (weightAt m (take (k * n + n - k * n) (drop (k * n) c.args.costs.now))) (λ j h. ap weight (columns-at m c.args.costs.now n k c.requires.room c.requires.lent.square j h))
-    (weightAt m c.args.left.now) (at (replicate 64 0)) (weightAt m c.offer.new.dist) (at c.offer.new.via) c.offer.ensures.offered) in
+    (started_row n k stands cost out p o v kept (has c.empty.result) c.empty.ensures (weight (m c.zero.result)) (zero_weighs g c.zero.result c.zero.ensures)
+    (weight_at m (take (k * n + n - k * n) (drop (k * n) c.args.costs.now))) (λ j h. ap weight (columns_at_lem m c.args.costs.now n k c.requires.room c.requires.lent.square j h))
+    (weight_at m c.args.left.now) (at (replicate 64 0)) (weight_at m c.offer.new.dist) (at c.offer.new.via) c.offer.ensures.offered) in
     let stuck = subst (Ends n stands cost out (from_row stands cost k) p o v d at_stage via) c.in_default.is ends in
     absurd (never n k stands cost out p o v kept c.requires.room c.requires.unpaired d at_stage via stuck.1.0 stuck.1.1 stuck.0 c.requires.possible.0 c.requires.possible.1)

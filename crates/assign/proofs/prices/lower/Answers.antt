@@ -3,13 +3,13 @@ use Rattle.std.proofs.Common.{◌<◌, length, set, refl, arith}
 use Rattle.cost.proofs.Exact.{within_more}
 use Rattle.cost.proofs.Weights.{weight}
 use Rattle.blockset.specs.Has.{has}
-use Rattle.tables.specs.Said.{columnsAt}
-use Rattle.tables.proofs.Filling.{value-at}
-use Rattle.assign.specs.Weighed.{weightAt}
+use Rattle.tables.specs.Said.{columns_at}
+use Rattle.tables.proofs.Filling.{value_at}
+use Rattle.assign.specs.Weighed.{weight_at}
 use Rattle.assign.proofs.Removing.{fewer}
-use Rattle.assign.proofs.Entries.{put_other, read-within}
-use Rattle.assign.proofs.Differences.{difference-weighs, put-weighs, put-within}
-use Rattle.assign.proofs.Lowering.{lowering-none, lowering-take, lowering-done}
+use Rattle.assign.proofs.Entries.{put_other, read_within}
+use Rattle.assign.proofs.Differences.{difference_weighs, put_weighs, put_within}
+use Rattle.assign.proofs.Lowering.{lowering_none, lowering_take, lowering_done}
 use Rattle.assign.proofs.prices.lower.Goals as goal
 
 pub exact_difference-far-requires : goal.exact_difference-far-requires
@@ -17,19 +17,19 @@ exact_difference-far-requires g c =
     let meaning = g.K.Cost.meaning in
     let goal = c.args.goal in
     record {
-      first = read-within meaning 200000000000 500000000000000 c.args.dist.now goal c.index-dist-goal.result c.requires.inside c.index-dist-goal.is (omega arith) (c.requires.far goal c.requires.inside c.requires.taken);
-      second = read-within meaning 1000000000 500000000000000 c.args.right.now goal c.index-right-goal.result (omega (arith, c.requires.sized, c.requires.inside)) c.index-right-goal.is (omega arith) c.requires.unsold;
+      first = read_within meaning 200000000000 500000000000000 c.args.dist.now goal c.index-dist-goal.result c.requires.inside c.index-dist-goal.is (omega arith) (c.requires.far goal c.requires.inside c.requires.taken);
+      second = read_within meaning 1000000000 500000000000000 c.args.right.now goal c.index-right-goal.result (omega (arith, c.requires.sized, c.requires.inside)) c.index-right-goal.is (omega arith) c.requires.unsold;
     }
 
 pub loop-c-init : goal.loop-c-init
 loop-c-init g c =
     let meaning = g.K.Cost.meaning in
     let goal = c.args.goal in (
-      lowering-none (length c.args.dist.now) (has c.args.tree.now.open) (weight (meaning c.exact_difference-far.result)) (weightAt meaning c.args.dist.now) (columnsAt meaning c.args.right.now)
+      lowering_none (length c.args.dist.now) (has c.args.tree.now.open) (weight (meaning c.exact_difference-far.result)) (weight_at meaning c.args.dist.now) (columns_at meaning c.args.right.now)
           (has c.all.result) (has c.difference-rest.result) c.requires.few c.all.ensures c.difference-rest.ensures c.requires.priced,
       c.exact_difference-far.ensures.bound 200000000000 1000000000
-          (read-within meaning 200000000000 200000000000 c.args.dist.now goal c.index-dist-goal.result c.requires.inside c.index-dist-goal.is (omega arith) (c.requires.far goal c.requires.inside c.requires.taken))
-          (read-within meaning 1000000000 1000000000 c.args.right.now goal c.index-right-goal.result (omega (arith, c.requires.sized, c.requires.inside)) c.index-right-goal.is (omega arith) c.requires.unsold)
+          (read_within meaning 200000000000 200000000000 c.args.dist.now goal c.index-dist-goal.result c.requires.inside c.index-dist-goal.is (omega arith) (c.requires.far goal c.requires.inside c.requires.taken))
+          (read_within meaning 1000000000 1000000000 c.args.right.now goal c.index-right-goal.result (omega (arith, c.requires.sized, c.requires.inside)) c.index-right-goal.is (omega arith) c.requires.unsold)
           (omega arith),
     )
 
@@ -39,7 +39,7 @@ exact_difference-requires g c =
     let r = c.in-Some.c in
     let waits = c.loop-c.invariant.0.waiting r c.in-Some.ensures.1 in
     record {
-      first = read-within meaning 200000000000 500000000000000 c.args.dist.now r c.index-dist-c.result waits.0 c.index-dist-c.is (omega arith) (c.requires.far r waits.0 waits.1);
+      first = read_within meaning 200000000000 500000000000000 c.args.dist.now r c.index-dist-c.result waits.0 c.index-dist-c.is (omega arith) (c.requires.far r waits.0 waits.1);
       second = within_more 201000000000 500000000000000 (meaning c.exact_difference-far.result) (omega arith) c.loop-c.invariant.1;
     }
 
@@ -58,14 +58,14 @@ loop-c-preserved g c =
     let member = c.in-Some.ensures.1 in
     let waits = c.loop-c.invariant.0.waiting r member in
     let in_right : c.in-Some.c < length c.loop-c.right = omega (arith, c.requires.sized) in (
-      lowering-take n (has c.args.tree.now.open) (weight (meaning far)) (weightAt meaning dist) (columnsAt meaning c.args.right.now) (has c.loop-c.rest) (columnsAt meaning right) c.loop-c.invariant.0
-          r (has c.remove.new.self) (columnsAt meaning (set right r x)) member c.remove.ensures
-          (put-weighs meaning right r x in_right (meaning c.index-dist-c.result) (columnsAt meaning dist r) (meaning far) (meaning far) c.exact_difference.ensures.sum
-          (value-at meaning dist r c.index-dist-c.result waits.0 c.index-dist-c.is) refl)
-          (put-within meaning right r x in_right 500000000000
+      lowering_take n (has c.args.tree.now.open) (weight (meaning far)) (weight_at meaning dist) (columns_at meaning c.args.right.now) (has c.loop-c.rest) (columns_at meaning right) c.loop-c.invariant.0
+          r (has c.remove.new.self) (columns_at meaning (set right r x)) member c.remove.ensures
+          (put_weighs meaning right r x in_right (meaning c.index-dist-c.result) (columns_at meaning dist r) (meaning far) (meaning far) c.exact_difference.ensures.sum
+          (value_at meaning dist r c.index-dist-c.result waits.0 c.index-dist-c.is) refl)
+          (put_within meaning right r x in_right 500000000000
           (within_more 401000000000 500000000000 (meaning x) (omega arith)
           (c.exact_difference.ensures.bound 200000000000 201000000000
-          (read-within meaning 200000000000 200000000000 dist r c.index-dist-c.result waits.0 c.index-dist-c.is (omega arith) (c.requires.far r waits.0 waits.1))
+          (read_within meaning 200000000000 200000000000 dist r c.index-dist-c.result waits.0 c.index-dist-c.is (omega arith) (c.requires.far r waits.0 waits.1))
           c.loop-c.invariant.1 (omega arith))))
           (λ j ne. put_other meaning right r j x ne),
       c.loop-c.invariant.1,
@@ -80,10 +80,10 @@ returns g c =
     let tree = c.args.tree.now in
     let in_right : c.args.goal < length c.args.right.now = omega (arith, c.requires.sized, c.requires.inside) in
     record {
-      lowered = lowering-done (length dist) (has tree.open) (weight (meaning c.exact_difference-far.result)) (weightAt meaning dist) (columnsAt meaning right) (has c.loop-c.rest)
-          (columnsAt meaning c.loop-c.right) c.loop-c.invariant.0 goal (has tree.reached) tree.turn c.in_default.ensures
-          (difference-weighs (weight (meaning c.exact_difference-far.result)) (meaning c.index-dist-goal.result) (columnsAt meaning dist goal) (meaning c.index-right-goal.result) (columnsAt meaning right goal)
-          c.exact_difference-far.ensures.sum (value-at meaning dist goal c.index-dist-goal.result c.requires.inside c.index-dist-goal.is) (value-at meaning right goal c.index-right-goal.result in_right c.index-right-goal.is));
+      lowered = lowering_done (length dist) (has tree.open) (weight (meaning c.exact_difference-far.result)) (weight_at meaning dist) (columns_at meaning right) (has c.loop-c.rest)
+          (columns_at meaning c.loop-c.right) c.loop-c.invariant.0 goal (has tree.reached) tree.turn c.in_default.ensures
+          (difference_weighs (weight (meaning c.exact_difference-far.result)) (meaning c.index-dist-goal.result) (columns_at meaning dist goal) (meaning c.index-right-goal.result) (columns_at meaning right goal)
+          c.exact_difference-far.ensures.sum (value_at meaning dist goal c.index-dist-goal.result c.requires.inside c.index-dist-goal.is) (value_at meaning right goal c.index-right-goal.result in_right c.index-right-goal.is));
       same = λ k h t. c.loop-c.invariant.0.same k t;
       bound = c.loop-c.invariant.0.bound;
     }

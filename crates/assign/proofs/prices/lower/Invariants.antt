@@ -4,15 +4,15 @@ use Rattle.cost.specs.Columns.{Within}
 use Rattle.cost.proofs.Weights.{weight}
 use Rattle.blockset.specs.Has.{has}
 use Rattle.blockset.specs.Sets.{members}
-use Rattle.tables.specs.Said.{columnsAt}
-use Rattle.assign.specs.Weighed.{weightAt}
+use Rattle.tables.specs.Said.{columns_at}
+use Rattle.assign.specs.Weighed.{weight_at}
 use Rattle.assign.proofs.Lowering.{Lowering}
 use Rattle.assign.proofs.prices.lower.Given as goal
 
 abbrev pub invariant-loop-c : goal.invariant-loop-c
 invariant-loop-c g l =
     let meaning = g.K.Cost.meaning in
-    Lowering (length l.dist) (has l.tree.open) (has l.rest) (weight (meaning l.far)) (weightAt meaning l.dist) (columnsAt meaning l.initial.right) (columnsAt meaning l.right)
+    Lowering (length l.dist) (has l.tree.open) (has l.rest) (weight (meaning l.far)) (weight_at meaning l.dist) (columns_at meaning l.initial.right) (columns_at meaning l.right)
     × Within 201000000000 (meaning l.far)
 
 abbrev pub decreases-loop-c : goal.decreases-loop-c

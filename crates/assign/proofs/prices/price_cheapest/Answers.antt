@@ -2,28 +2,28 @@
 use Rattle.std.proofs.Common.{◌+◌, ◌-◌, ◌*◌, length, take, drop, replicate, sym, refl, ap, ◌∙◌, subst, arith}
 use Rattle.cost.specs.Columns.{Within}
 use Rattle.cost.proofs.Exact.{zeros_within}
-use Rattle.cost.proofs.Weights.{weight, weight-zeros}
+use Rattle.cost.proofs.Weights.{weight, weight_zeros}
 use Rattle.blockset.specs.Has.{has}
 use Rattle.pairing.specs.Grid.{at}
 use Rattle.matching.specs.Rows.{holds}
-use Rattle.tables.proofs.Filling.{row-end, row-length, columns-at}
-use Rattle.assign.specs.Weighed.{weightAt, costWeight}
-use Rattle.assign.proofs.Pricing.{cleared-within, cheapest-none, cheapest-more}
+use Rattle.tables.proofs.Filling.{row_end, row_length, columns_at_lem}
+use Rattle.assign.specs.Weighed.{weight_at, cost_weight}
+use Rattle.assign.proofs.Pricing.{cleared_within, cheapest_none, cheapest_more}
 use Rattle.assign.proofs.prices.price_cheapest.Goals as goal
 
 pub loop-l-init : goal.loop-l-init
 loop-l-init g c =
     let m = g.K.Cost.meaning in
     let n = length c.args.rows.now in (
-      cheapest-none n (holds c.args.rows.now) (costWeight m n c.args.costs.now) (has c.empty-priced.result) (at (replicate 64 0)) (weightAt m c.clear.new.table) c.empty-priced.ensures,
-      λ k h. cleared-within m g.K.Cost.nought g.K.Cost.columns g.met.K.Cost.nothing (length c.args.right.now) c.clear.new.table c.clear.ensures 1000000000 k (omega (arith, c.requires.rights)),
+      cheapest_none n (holds c.args.rows.now) (cost_weight m n c.args.costs.now) (has c.empty-priced.result) (at (replicate 64 0)) (weight_at m c.clear.new.table) c.empty-priced.ensures,
+      λ k h. cleared_within m g.K.Cost.nought g.K.Cost.columns g.met.K.Cost.nothing (length c.args.right.now) c.clear.new.table c.clear.ensures 1000000000 k (omega (arith, c.requires.rights)),
     )
 
 pub offset_bounds-costs-l : goal.offset_bounds-costs-l
-offset_bounds-costs-l g c = omega (arith, row-end c.args.costs.now (length c.args.rows.now) c.loop-l.l c.loop-l-test.true c.requires.lent.square)
+offset_bounds-costs-l g c = omega (arith, row_end c.args.costs.now (length c.args.rows.now) c.loop-l.l c.loop-l-test.true c.requires.lent.square)
 
 pub slice_bounds-offer-end : goal.slice_bounds-offer-end
-slice_bounds-offer-end g c = row-end c.args.costs.now (length c.args.rows.now) c.loop-l.l c.loop-l-test.true c.requires.lent.square
+slice_bounds-offer-end g c = row_end c.args.costs.now (length c.args.rows.now) c.loop-l.l c.loop-l-test.true c.requires.lent.square
 
 pub offer-requires : goal.offer-requires
 offer-requires g c =
@@ -31,13 +31,13 @@ offer-requires g c =
     let n = length c.args.rows.now in
     let l = c.loop-l.l in
     let lies = c.loop-l-test.true in
-    let long = row-length c.args.costs.now n l lies c.requires.lent.square in
+    let long = row_length c.args.costs.now n l lies c.requires.lent.square in
     record {
       few = omega (arith, long, c.requires.lent.few);
       sized = omega (arith, long, c.loop-l.auto.right, c.clear.auto.table, c.requires.rights);
       block = omega (arith, c.requires.lent.few);
       inside = λ j r. omega (arith, long, c.requires.lent.inside l j lies r);
-      modest = λ j r. subst (Within 1000000000) (sym (columns-at m c.args.costs.now n l lies c.requires.lent.square j (c.requires.lent.inside l j lies r))) (c.requires.lent.modest l j lies r);
+      modest = λ j r. subst (Within 1000000000) (sym (columns_at_lem m c.args.costs.now n l lies c.requires.lent.square j (c.requires.lent.inside l j lies r))) (c.requires.lent.modest l j lies r);
       near = subst (Within 400000000000) (sym (ap m c.zero.ensures ∙ g.met.K.Cost.nothing)) (zeros_within 400000000000 g.K.Cost.columns);
     }
 
@@ -50,8 +50,8 @@ loop-l-preserved g c =
     let l = c.loop-l.l in
     let lies = c.loop-l-test.true in
     let zero = ap m c.zero.ensures ∙ g.met.K.Cost.nothing in (
-      cheapest-more n (holds rows) (costWeight m n costs) l (has c.loop-l.priced) (at c.loop-l.row) (weightAt m c.loop-l.right) c.loop-l.invariant.0 (weight (m c.zero.result)) (ap weight zero ∙ weight-zeros g.K.Cost.columns)
-          (weightAt m (take (l * n + n - l * n) (drop (l * n) costs))) (holds rows l) (λ j. refl) (λ j r. c.requires.lent.inside l j lies r) (λ j h. ap weight (columns-at m costs n l lies c.requires.lent.square j h))
-          (has c.union-priced.result) c.union-priced.ensures (at c.offer.new.via) (weightAt m c.offer.new.dist) c.offer.ensures.offered,
+      cheapest_more n (holds rows) (cost_weight m n costs) l (has c.loop-l.priced) (at c.loop-l.row) (weight_at m c.loop-l.right) c.loop-l.invariant.0 (weight (m c.zero.result)) (ap weight zero ∙ weight_zeros g.K.Cost.columns)
+          (weight_at m (take (l * n + n - l * n) (drop (l * n) costs))) (holds rows l) (λ j. refl) (λ j r. c.requires.lent.inside l j lies r) (λ j h. ap weight (columns_at_lem m costs n l lies c.requires.lent.square j h))
+          (has c.union-priced.result) c.union-priced.ensures (at c.offer.new.via) (weight_at m c.offer.new.dist) c.offer.ensures.offered,
       λ k h. c.offer.ensures.bound 0 k (subst (Within 0) (sym zero) (zeros_within 0 g.K.Cost.columns)) (omega arith) (λ _. c.loop-l.invariant.1 k h) (λ _. c.loop-l.invariant.1 k h),
     )

@@ -2,18 +2,18 @@
 use Rattle.std.proofs.Common.{◌<◌, length, set, arith}
 use Rattle.pairing.specs.Grid.{at}
 use Rattle.grid.specs.Tables.{place_of}
-use Rattle.tables.specs.Said.{columnsAt}
-use Rattle.tables.proofs.Filling.{value-at}
-use Rattle.assign.specs.Weighed.{weightAt, costWeight}
-use Rattle.assign.proofs.Entries.{put_other, read-within}
-use Rattle.assign.proofs.Differences.{put-weighs, put-within}
-use Rattle.assign.proofs.RowPrices.{place_inside, priced-none, priced-more}
+use Rattle.tables.specs.Said.{columns_at}
+use Rattle.tables.proofs.Filling.{value_at}
+use Rattle.assign.specs.Weighed.{weight_at, cost_weight}
+use Rattle.assign.proofs.Entries.{put_other, read_within}
+use Rattle.assign.proofs.Differences.{put_weighs, put_within}
+use Rattle.assign.proofs.RowPrices.{place_inside, priced_none, priced_more}
 use Rattle.assign.proofs.prices.price_rows.Goals as goal
 
 pub loop-l-init : goal.loop-l-init
 loop-l-init g c =
     let meaning = g.K.Cost.meaning in
-    priced-none (costWeight meaning (length c.args.rows.now) c.args.costs.now) (at c.args.partners.now) (weightAt meaning c.args.right.now) (columnsAt meaning c.args.left.now)
+    priced_none (cost_weight meaning (length c.args.rows.now) c.args.costs.now) (at c.args.partners.now) (weight_at meaning c.args.right.now) (columns_at meaning c.args.left.now)
 
 pub offset_bounds-costs-l : goal.offset_bounds-costs-l
 offset_bounds-costs-l g c =
@@ -50,8 +50,8 @@ exact_difference-requires g c =
     let stands = c.requires.pairs l lies in
     let below = c.requires.lent.inside l r lies stands in
     record {
-      first = read-within meaning 1000000000 500000000000000 costs (place_of (length rows) l r) c.index-costs-l.result (place_inside meaning rows costs c.requires.lent l r lies stands) c.index-costs-l.is (omega arith) (c.requires.lent.modest l r lies stands);
-      second = read-within meaning 200000000000 500000000000000 c.args.right.now r c.index-right-c.result (omega (arith, c.requires.rights)) c.index-right-c.is (omega arith) (c.requires.far r below);
+      first = read_within meaning 1000000000 500000000000000 costs (place_of (length rows) l r) c.index-costs-l.result (place_inside meaning rows costs c.requires.lent l r lies stands) c.index-costs-l.is (omega arith) (c.requires.lent.modest l r lies stands);
+      second = read_within meaning 200000000000 500000000000000 c.args.right.now r c.index-right-c.result (omega (arith, c.requires.rights)) c.index-right-c.is (omega arith) (c.requires.far r below);
     }
 
 pub loop-l-preserved : goal.loop-l-preserved
@@ -71,12 +71,12 @@ loop-l-preserved g c =
     let in_left : c.loop-l.l < length c.loop-l.left = omega arith in
     let in_right : r < length right = omega (arith, c.requires.rights) in
     let in-costs = place_inside meaning rows costs c.requires.lent l r lies stands in
-    priced-more (costWeight meaning n costs) (at c.args.partners.now) (weightAt meaning right) l (columnsAt meaning left) (columnsAt meaning (set left l x)) c.loop-l.invariant
-    (put-weighs meaning left l x in_left (meaning c.index-costs-l.result) (columnsAt meaning costs (place_of n l r)) (meaning c.index-right-c.result) (columnsAt meaning right r) c.exact_difference.ensures.sum
-    (value-at meaning costs (place_of n l r) c.index-costs-l.result in-costs c.index-costs-l.is) (value-at meaning right r c.index-right-c.result in_right c.index-right-c.is))
-    (put-within meaning left l x in_left 201000000000
+    priced_more (cost_weight meaning n costs) (at c.args.partners.now) (weight_at meaning right) l (columns_at meaning left) (columns_at meaning (set left l x)) c.loop-l.invariant
+    (put_weighs meaning left l x in_left (meaning c.index-costs-l.result) (columns_at meaning costs (place_of n l r)) (meaning c.index-right-c.result) (columns_at meaning right r) c.exact_difference.ensures.sum
+    (value_at meaning costs (place_of n l r) c.index-costs-l.result in-costs c.index-costs-l.is) (value_at meaning right r c.index-right-c.result in_right c.index-right-c.is))
+    (put_within meaning left l x in_left 201000000000
     (c.exact_difference.ensures.bound 1000000000 200000000000
-    (read-within meaning 1000000000 1000000000 costs (place_of n l r) c.index-costs-l.result in-costs c.index-costs-l.is (omega arith) (c.requires.lent.modest l r lies stands))
-    (read-within meaning 200000000000 200000000000 right r c.index-right-c.result in_right c.index-right-c.is (omega arith) (c.requires.far r below))
+    (read_within meaning 1000000000 1000000000 costs (place_of n l r) c.index-costs-l.result in-costs c.index-costs-l.is (omega arith) (c.requires.lent.modest l r lies stands))
+    (read_within meaning 200000000000 200000000000 right r c.index-right-c.result in_right c.index-right-c.is (omega arith) (c.requires.far r below))
     (omega arith)))
     (λ j ne. put_other meaning left l j x ne)

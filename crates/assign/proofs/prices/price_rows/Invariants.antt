@@ -1,12 +1,12 @@
 -- The left blocks before l have their prices.
 use Rattle.std.proofs.Common.{length}
 use Rattle.pairing.specs.Grid.{at}
-use Rattle.tables.specs.Said.{columnsAt}
-use Rattle.assign.specs.Weighed.{weightAt, costWeight}
+use Rattle.tables.specs.Said.{columns_at}
+use Rattle.assign.specs.Weighed.{weight_at, cost_weight}
 use Rattle.assign.proofs.RowPrices.{PricedBelow}
 use Rattle.assign.proofs.prices.price_rows.Given as goal
 
 abbrev pub invariant-loop-l : goal.invariant-loop-l
 invariant-loop-l g l =
     let meaning = g.K.Cost.meaning in
-    PricedBelow l.l (costWeight meaning (length l.rows) l.costs) (at l.partners) (weightAt meaning l.right) (columnsAt meaning l.left)
+    PricedBelow l.l (cost_weight meaning (length l.rows) l.costs) (at l.partners) (weight_at meaning l.right) (columns_at meaning l.left)

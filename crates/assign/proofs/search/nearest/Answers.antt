@@ -3,19 +3,19 @@ use Rattle.std.proofs.Common.{◌≡◌, ℕ, ◌<◌, List, length, get_or, ℤ
 use Rattle.std.proofs.lemmas.Int.{ints}
 use Rattle.cost.proofs.Weights.{weight}
 use Rattle.blockset.specs.Has.{has}
-use Rattle.tables.proofs.Filling.{value-at}
-use Rattle.assign.specs.Weighed.{weightAt}
-use Rattle.assign.proofs.Entries.{read-within}
+use Rattle.tables.proofs.Filling.{value_at}
+use Rattle.assign.specs.Weighed.{weight_at}
+use Rattle.assign.proofs.Entries.{read_within}
 use Rattle.assign.proofs.Removing.{fewer}
-use Rattle.assign.proofs.Nearing.{nearing-none, nearing-keep, nearing-take, nearing-done}
+use Rattle.assign.proofs.Nearing.{nearing_none, nearing_keep, nearing_take, nearing_done}
 use Rattle.assign.proofs.search.nearest.Goals as goal
 
 -- how far a right block is beyond its price, from the two values that were read
-key-is : {K : Type 0} (m : K → List ℤ) (dist right : List K) (i : ℕ) (x y : K) (z : ℤ) → i < length dist → i < length right → x ≡ get_or dist i x → y ≡ get_or right i y → z ≡ weight (m x) -ℤ weight (m y)
-    → z ≡ weightAt m dist i -ℤ weightAt m right i
-key-is m dist right i x y z h k ex ey e =
-    let a = ap weight (value-at m dist i x h ex) in
-    let b = ap weight (value-at m right i y k ey) in
+key_is : {K : Type 0} (m : K → List ℤ) (dist right : List K) (i : ℕ) (x y : K) (z : ℤ) → i < length dist → i < length right → x ≡ get_or dist i x → y ≡ get_or right i y → z ≡ weight (m x) -ℤ weight (m y)
+    → z ≡ weight_at m dist i -ℤ weight_at m right i
+key_is m dist right i x y z h k ex ey e =
+    let a = ap weight (value_at m dist i x h ex) in
+    let b = ap weight (value_at m right i y k ey) in
     omega (arith, ints)
 
 pub exact_difference-least-requires : goal.exact_difference-least-requires
@@ -25,8 +25,8 @@ exact_difference-least-requires g c =
     let member = c.in_ok-best.ensures.1 in
     let inside = c.requires.inside c.in_ok-best.best member in
     record {
-      first = read-within m 200000000000 500000000000000 c.args.dist.now i c.index-dist-best.result inside c.index-dist-best.is (omega arith) (c.requires.far i member);
-      second = read-within m 500000000000 500000000000000 c.args.right.now i c.index-right-best.result (omega (arith, c.requires.sized)) c.index-right-best.is (omega arith) (c.requires.priced i inside);
+      first = read_within m 200000000000 500000000000000 c.args.dist.now i c.index-dist-best.result inside c.index-dist-best.is (omega arith) (c.requires.far i member);
+      second = read_within m 500000000000 500000000000000 c.args.right.now i c.index-right-best.result (omega (arith, c.requires.sized)) c.index-right-best.is (omega arith) (c.requires.priced i inside);
     }
 
 pub exact_difference-key-requires : goal.exact_difference-key-requires
@@ -36,8 +36,8 @@ exact_difference-key-requires g c =
     let member = c.loop-least.invariant.part c.in-Some.c c.in-Some.ensures.1 in
     let inside = c.requires.inside c.in-Some.c member in
     record {
-      first = read-within m 200000000000 500000000000000 c.args.dist.now i c.index-dist-c.result inside c.index-dist-c.is (omega arith) (c.requires.far i member);
-      second = read-within m 500000000000 500000000000000 c.args.right.now i c.index-right-c.result (omega (arith, c.requires.sized)) c.index-right-c.is (omega arith) (c.requires.priced i inside);
+      first = read_within m 200000000000 500000000000000 c.args.dist.now i c.index-dist-c.result inside c.index-dist-c.is (omega arith) (c.requires.far i member);
+      second = read_within m 500000000000 500000000000000 c.args.right.now i c.index-right-c.result (omega (arith, c.requires.sized)) c.index-right-c.is (omega arith) (c.requires.priced i inside);
     }
 
 pub loop-least-init : goal.loop-least-init
@@ -46,8 +46,8 @@ loop-least-init g c =
     let i = c.in_ok-best.best in
     let member = c.in_ok-best.ensures.1 in
     let inside = c.requires.inside c.in_ok-best.best member in
-    nearing-none (has c.args.set) (weightAt m c.args.right.now) (weightAt m c.args.dist.now) i (weight (m c.exact_difference-least.result)) member
-    (key-is m c.args.dist.now c.args.right.now i c.index-dist-best.result c.index-right-best.result (weight (m c.exact_difference-least.result)) inside (omega (arith, c.requires.sized)) c.index-dist-best.is c.index-right-best.is c.exact_difference-least.ensures.sum)
+    nearing_none (has c.args.set) (weight_at m c.args.right.now) (weight_at m c.args.dist.now) i (weight (m c.exact_difference-least.result)) member
+    (key_is m c.args.dist.now c.args.right.now i c.index-dist-best.result c.index-right-best.result (weight (m c.exact_difference-least.result)) inside (omega (arith, c.requires.sized)) c.index-dist-best.is c.index-right-best.is c.exact_difference-least.ensures.sum)
 
 pub loop-least-smaller-then-is_less : goal.loop-least-smaller-then-is_less
 loop-least-smaller-then-is_less g c = fewer (has c.loop-least.rest) (has c.remove.new.self) c.in-Some.c c.remove.ensures c.in-Some.ensures.0 c.in-Some.ensures.1
@@ -60,8 +60,8 @@ loop-least-preserved-then-is_less g c =
     let m = g.K.Cost.meaning in
     let i = c.in-Some.c in
     let inside = c.requires.inside c.in-Some.c (c.loop-least.invariant.part c.in-Some.c c.in-Some.ensures.1) in
-    let is = key-is m c.args.dist.now c.args.right.now i c.index-dist-c.result c.index-right-c.result (weight (m c.exact_difference-key.result)) inside (omega (arith, c.requires.sized)) c.index-dist-c.is c.index-right-c.is c.exact_difference-key.ensures.sum in
-    nearing-take (has c.args.set) (weightAt m c.args.right.now) (weightAt m c.args.dist.now) (has c.loop-least.rest) (has c.remove.new.self) i c.remove.ensures c.in-Some.ensures.1
+    let is = key_is m c.args.dist.now c.args.right.now i c.index-dist-c.result c.index-right-c.result (weight (m c.exact_difference-key.result)) inside (omega (arith, c.requires.sized)) c.index-dist-c.is c.index-right-c.is c.exact_difference-key.ensures.sum in
+    nearing_take (has c.args.set) (weight_at m c.args.right.now) (weight_at m c.args.dist.now) (has c.loop-least.rest) (has c.remove.new.self) i c.remove.ensures c.in-Some.ensures.1
     c.loop-least.best (weight (m c.loop-least.least)) c.loop-least.invariant (weight (m c.exact_difference-key.result)) is (c.is_less.ensures.less c.if-is_less.true)
 
 pub loop-least-preserved : goal.loop-least-preserved
@@ -69,14 +69,14 @@ loop-least-preserved g c =
     let m = g.K.Cost.meaning in
     let i = c.in-Some.c in
     let inside = c.requires.inside c.in-Some.c (c.loop-least.invariant.part c.in-Some.c c.in-Some.ensures.1) in
-    let is = key-is m c.args.dist.now c.args.right.now i c.index-dist-c.result c.index-right-c.result (weight (m c.exact_difference-key.result)) inside (omega (arith, c.requires.sized)) c.index-dist-c.is c.index-right-c.is c.exact_difference-key.ensures.sum in
+    let is = key_is m c.args.dist.now c.args.right.now i c.index-dist-c.result c.index-right-c.result (weight (m c.exact_difference-key.result)) inside (omega (arith, c.requires.sized)) c.index-dist-c.is c.index-right-c.is c.exact_difference-key.ensures.sum in
     let kept = c.is_less.ensures.not_less c.if-is_less.false in
-    nearing-keep (has c.args.set) (weightAt m c.args.right.now) (weightAt m c.args.dist.now) (has c.loop-least.rest) (has c.remove.new.self) i c.remove.ensures c.in-Some.ensures.1
+    nearing_keep (has c.args.set) (weight_at m c.args.right.now) (weight_at m c.args.dist.now) (has c.loop-least.rest) (has c.remove.new.self) i c.remove.ensures c.in-Some.ensures.1
     c.loop-least.best (weight (m c.loop-least.least)) c.loop-least.invariant (omega (arith, ints))
 
 pub returns : goal.returns
 returns g c =
     let m = g.K.Cost.meaning in (
       c.requires.inside c.loop-least.best c.loop-least.invariant.member,
-      nearing-done (has c.args.set) (weightAt m c.args.right.now) (weightAt m c.args.dist.now) (has c.loop-least.rest) c.loop-least.best (weight (m c.loop-least.least)) c.loop-least.invariant c.in_default.ensures,
+      nearing_done (has c.args.set) (weight_at m c.args.right.now) (weight_at m c.args.dist.now) (has c.loop-least.rest) c.loop-least.best (weight (m c.loop-least.least)) c.loop-least.invariant c.in_default.ensures,
     )

@@ -4,13 +4,13 @@ use Rattle.std.specs.Ordering.{is_lt}
 use Rattle.std.proofs.lemmas.Bool.{true≢false}
 use Rattle.cost.specs.Columns.{lex}
 use Rattle.cost.proofs.Exact.{within_more}
-use Rattle.cost.proofs.Weights.{less-is, not-less-is}
+use Rattle.cost.proofs.Weights.{less_is, not_less_is}
 use Rattle.assign.proofs.sums.is_less.Goals as goal
 
-is-less : (o : Ordering) → is_lt o ≡ true → o ≡ Less
-is-less Less h = refl
-is-less Equal h = absurd (true≢false (sym h))
-is-less Greater h = absurd (true≢false (sym h))
+is_less_lem : (o : Ordering) → is_lt o ≡ true → o ≡ Less
+is_less_lem Less h = refl
+is_less_lem Equal h = absurd (true≢false (sym h))
+is_less_lem Greater h = absurd (true≢false (sym h))
 
 pub returns : goal.returns
 returns g c =
@@ -22,6 +22,6 @@ returns g c =
     let wa = within_more 1000000000000000 4000000000000000000 a (omega arith) (g.met.K.Cost.bounded c.args.a) in
     let wb = within_more 1000000000000000 4000000000000000000 b (omega arith) (g.met.K.Cost.bounded c.args.b) in
     record {
-      less = λ e. less-is a b same wa wb (is-less _ (sym said ∙ e));
-      not_less = λ e. not-less-is a b same wa wb (λ z. true≢false (sym (said ∙ ap is_lt z) ∙ e));
+      less = λ e. less_is a b same wa wb (is_less_lem _ (sym said ∙ e));
+      not_less = λ e. not_less_is a b same wa wb (λ z. true≢false (sym (said ∙ ap is_lt z) ∙ e));
     }

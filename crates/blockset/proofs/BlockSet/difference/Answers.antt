@@ -2,7 +2,7 @@
 use Rattle.std.proofs.Common.{ltb, ◌∙◌, arith}
 use Rattle.blockset.specs.Sets.{bit}
 use Rattle.blockset.specs.Has.{has}
-use Rattle.blockset.proofs.Holding.{bits-without, and-less}
+use Rattle.blockset.proofs.Holding.{bits_without, and_less}
 use Rattle.blockset.proofs.BlockSet.difference.Goals as goal
 
 pub returns : goal.returns
@@ -10,4 +10,4 @@ unfolding has
 returns c j =
     let a = c.args.self.0 in
     let b = c.args.other.0 in
-    bits-without a b j (omega arith) ∙ and-less (ltb j 64) (bit a j) (bit b j)
+    bits_without a b j (omega arith) ∙ and_less (ltb j 64) (bit a j) (bit b j)

@@ -3,8 +3,8 @@ use Rattle.std.proofs.Common.{◌^◌, ◌<◌, sym, ◌∙◌, arith}
 use Rattle.std.proofs.lemmas.Nat.{ones-le}
 use Rattle.blockset.specs.Sets.{bit}
 use Rattle.blockset.specs.Has.{has}
-use Rattle.blockset.proofs.Bits.{ones-members}
-use Rattle.blockset.proofs.Members.{members-like}
+use Rattle.blockset.proofs.Bits.{ones_members}
+use Rattle.blockset.proofs.Members.{members_like}
 use Rattle.blockset.proofs.Holding.{has-bit}
 use Rattle.blockset.proofs.BlockSet.len.Goals as goal
 
@@ -14,4 +14,4 @@ overflow_cast-result c = let h : c.args.self.0 < 2 ^ 64 = omega arith in omega (
 pub returns : goal.returns
 returns c =
     let s = c.args.self in
-    ones-members 64 s.0 (omega arith) ∙ sym (members-like 64 (bit s.0) (has s) (λ j _. has-bit s j (omega arith)))
+    ones_members 64 s.0 (omega arith) ∙ sym (members_like 64 (bit s.0) (has s) (λ j _. has-bit s j (omega arith)))

@@ -9,7 +9,7 @@ use Rattle.blockset.specs.Sets.{bit}
 use Rattle.blockset.specs.Has.{has}
 use Rattle.blockset.specs.declared.BlockSet.{BlockSet}
 use Rattle.blockset.proofs.Bits.{bit-pow}
-use Rattle.blockset.proofs.Holding.{has_block, bits-without}
+use Rattle.blockset.proofs.Holding.{has_block, bits_without}
 use Rattle.blockset.proofs.BlockSet.remove.Goals as goal
 
 and_assoc : (a b c : Bool) → (a && (b && c)) ≡ ((a && b) && c)
@@ -22,7 +22,7 @@ returns-then-block-lt64 c j =
     let a = c.args.self.now.0 in
     let i = c.args.block in
     ap (λ m. ltb j 64 && bit (bit_and a (18446744073709551615 - m)) j) (one_shl i 64 c.if-block-lt64.true)
-    ∙ bits-without a (2 ^ i) j (pow-lt c.if-block-lt64.true) ∙ ap (λ x. ltb j 64 && (bit a j && not x)) (bit-pow i j)
+    ∙ bits_without a (2 ^ i) j (pow-lt c.if-block-lt64.true) ∙ ap (λ x. ltb j 64 && (bit a j && not x)) (bit-pow i j)
     ∙ and_assoc (ltb j 64) (bit a j) (not (eqb j i))
 
 no_block : (s : BlockSet) (i j : ℕ) → 64 ≤ i → has s j ≡ (has s j && not (eqb j i))

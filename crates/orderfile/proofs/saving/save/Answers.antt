@@ -1,11 +1,11 @@
 -- Each refusal is the first check that holds; past them the file of the listed pairs is written.
 use Rattle.std.proofs.Common.{◌≡◌, ℕ, ◌+◌, ◌*◌, Bool, ◌++◌, length, drop, Ok, Err, sym, refl, ap, ◌∙◌, arith}
-use Rattle.orderfile.specs.Format.{fileOf}
-use Rattle.grid.specs.Tables.{fitting, standingPairs}
-use Rattle.grid.proofs.Lengths.{fits-tells}
-use Rattle.orderfile.specs.Saving.{savedLength, Written, listed}
-use Rattle.orderfile.proofs.Listed.{listed-count, names-all}
-use Rattle.orderfile.proofs.Saves.{file-length, saved, not_saved, save-misfits, save-disturbed, save-short, save-accepts}
+use Rattle.orderfile.specs.Format.{file_of}
+use Rattle.grid.specs.Tables.{fitting, standing_pairs}
+use Rattle.grid.proofs.Lengths.{fits_tells}
+use Rattle.orderfile.specs.Saving.{saved_length, Written, listed}
+use Rattle.orderfile.proofs.Listed.{listed_count, names_all}
+use Rattle.orderfile.proofs.Saves.{file_length, saved, not_saved, save_misfits, save_disturbed, save_short, save_accepts}
 use Rattle.orderfile.proofs.saving.save.Goals as goal
 
 -- the test was made at the size that the sheet has
@@ -15,26 +15,26 @@ fit_is m n costs bytes b e t = ap (λ k. fitting k costs bytes) (sym e) ∙ sym 
 pub returns-then-not-fits : goal.returns-then-not-fits
 returns-then-not-fits c =
     let sheet = c.args.sheet.now in
-    not_saved sheet.n sheet.some sheet.few c.args.costs.now c.args.standing.now c.args.out.now _ _ _ (save-misfits sheet.n _ _ _ (fit_is _ _ _ _ _ c.size-n.ensures c.if-not-fits.ensures)) (ap Err c.at.ensures) refl
+    not_saved sheet.n sheet.some sheet.few c.args.costs.now c.args.standing.now c.args.out.now _ _ _ (save_misfits sheet.n _ _ _ (fit_is _ _ _ _ _ c.size-n.ensures c.if-not-fits.ensures)) (ap Err c.at.ensures) refl
 
 pub returns-then-not-in_order : goal.returns-then-not-in_order
 returns-then-not-in_order c =
     let sheet = c.args.sheet.now in
     let fit = fit_is _ _ _ _ _ c.size-n.ensures c.if-not-fits.ensures in
-    not_saved sheet.n sheet.some sheet.few c.args.costs.now c.args.standing.now c.args.out.now _ _ _ (save-disturbed sheet.n _ _ _ fit (sym c.if-not-in_order.ensures)) (ap Err c.at-then-not-in_order.ensures) refl
+    not_saved sheet.n sheet.some sheet.few c.args.costs.now c.args.standing.now c.args.out.now _ _ _ (save_disturbed sheet.n _ _ _ fit (sym c.if-not-in_order.ensures)) (ap Err c.at-then-not-in_order.ensures) refl
 
 pub returns-then-out-length : goal.returns-then-out-length
 returns-then-out-length c =
     let sheet = c.args.sheet.now in
     let fit = fit_is _ _ _ _ _ c.size-n.ensures c.if-not-fits.ensures in
     not_saved sheet.n sheet.some sheet.few c.args.costs.now c.args.standing.now c.args.out.now _ _ _
-    (save-short sheet.n _ _ _ fit (sym c.if-not-in_order.ensures) (omega (arith, c.if-out-length.true, c.standing_pairs.ensures.value))) (ap Err c.at-then-out-length.ensures) refl
+    (save_short sheet.n _ _ _ fit (sym c.if-not-in_order.ensures) (omega (arith, c.if-out-length.true, c.standing_pairs.ensures.value))) (ap Err c.at-then-out-length.ensures) refl
 
 pub write_file-requires : goal.write_file-requires
 write_file-requires c =
     let sheet = c.args.sheet.now in
     let n = c.size-n.result in
-    let long = fits-tells n (length c.args.costs.now) (length c.args.standing.now) (sym c.if-not-fits.ensures) in
+    let long = fits_tells n (length c.args.costs.now) (length c.args.standing.now) (sym c.if-not-fits.ensures) in
     record {
       some = omega (arith, sheet.some, c.size-n.ensures);
       few = omega (arith, sheet.few, c.size-n.ensures);
@@ -50,14 +50,14 @@ returns c =
     let costs = c.args.costs.now in
     let standing = c.args.standing.now in
     let fit = fit_is _ _ _ _ _ c.size-n.ensures c.if-not-fits.ensures in
-    let long = fits-tells n (length costs) (length standing) fit in
+    let long = fits_tells n (length costs) (length standing) fit in
     let good = sym c.if-not-in_order.ensures in
-    let count : length (listed n costs standing 0 (n * n)) ≡ standingPairs standing = listed-count n sheet.some costs standing 0 (n * n) (omega (arith, long.1)) in
+    let count : length (listed n costs standing 0 (n * n)) ≡ standing_pairs standing = listed_count n sheet.some costs standing 0 (n * n) (omega (arith, long.1)) in
     let wrote : Written n costs standing c.args.out.now c.write_file.new.out = record {
       pairs = listed n costs standing 0 (n * n);
-      names = names-all n sheet.some costs standing long.0 long.1 good;
-      long = file-length n (listed n costs standing 0 (n * n)) ∙ ap (λ k. 7 + 13 * k) count;
-      file = c.write_file.ensures ∙ ap (λ k. fileOf (record { size = k; pairs = listed k costs standing 0 (k * k) }) ++ drop (savedLength standing) c.args.out.now) c.size-n.ensures;
+      names = names_all n sheet.some costs standing long.0 long.1 good;
+      long = file_length n (listed n costs standing 0 (n * n)) ∙ ap (λ k. 7 + 13 * k) count;
+      file = c.write_file.ensures ∙ ap (λ k. file_of (record { size = k; pairs = listed k costs standing 0 (k * k) }) ++ drop (saved_length standing) c.args.out.now) c.size-n.ensures;
     } in
-    saved n sheet.some sheet.few costs standing c.args.out.now _ _ (save-accepts n _ _ _ fit good (omega (arith, c.if-out-length.false, c.standing_pairs.ensures.value)))
+    saved n sheet.some sheet.few costs standing c.args.out.now _ _ (save_accepts n _ _ _ fit good (omega (arith, c.if-out-length.false, c.standing_pairs.ensures.value)))
     (ap Ok (omega (arith, c.standing_pairs.ensures.value))) wrote

@@ -1,9 +1,9 @@
 -- The three writes make the file, and the length of its parts is the saved length, so that there is room.
 use Rattle.std.proofs.Common.{◌*◌, ◌++◌, drop, ap, ◌∙◌, arith}
 use Rattle.std.specs.List.{flat_map}
-use Rattle.orderfile.specs.Format.{pairField, fileOf}
+use Rattle.orderfile.specs.Format.{pair_field, file_of}
 use Rattle.orderfile.specs.Saving.{listed}
-use Rattle.orderfile.proofs.Saves.{listed-length, three-writes}
+use Rattle.orderfile.proofs.Saves.{listed-length, three_writes}
 use Rattle.orderfile.proofs.saving.write_file.Goals as goal
 
 pub write_pairs-at-requires : goal.write_pairs-at-requires
@@ -19,8 +19,8 @@ put-requires-2 c =
 pub returns : goal.returns
 returns c =
     let n = c.args.n in
-    let pairs = flat_map pairField (listed n c.args.costs.now c.args.standing.now 0 (n * n)) in
+    let pairs = flat_map pair_field (listed n c.args.costs.now c.args.standing.now 0 (n * n)) in
     let long = listed-length n c.requires.some c.args.costs.now c.args.standing.now c.requires.standing_fits in
-    three-writes n pairs c.args.out.now c.put.new.out c.write_pairs-at.new.out c.put-2.new.out c.write_pairs-at.result
+    three_writes n pairs c.args.out.now c.put.new.out c.write_pairs-at.new.out c.put-2.new.out c.write_pairs-at.result
     c.put.ensures c.write_pairs-at.ensures.behind c.write_pairs-at.ensures.writes c.put-2.ensures
-    ∙ ap (λ k. fileOf (record { size = n; pairs = listed n c.args.costs.now c.args.standing.now 0 (n * n) }) ++ drop k c.args.out.now) long
+    ∙ ap (λ k. file_of (record { size = n; pairs = listed n c.args.costs.now c.args.standing.now 0 (n * n) }) ++ drop k c.args.out.now) long

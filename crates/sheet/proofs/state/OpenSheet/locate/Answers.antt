@@ -1,7 +1,7 @@
 -- Past the checks the lengths are n * n, and the place of a pair of existing blocks is below that.
 use Rattle.std.proofs.Common.{Ok, sym, ap, ◌∙◌, arith}
 use Rattle.std.proofs.lemmas.Nat.{mul-add-lt}
-use Rattle.grid.proofs.Lengths.{fits-tells}
+use Rattle.grid.proofs.Lengths.{fits_tells}
 use Rattle.sheet.proofs.Pairs.{misplaced-not}
 use Rattle.sheet.proofs.Refused.{accepted}
 use Rattle.sheet.proofs.state.OpenSheet.locate.Goals as goal
@@ -9,7 +9,7 @@ use Rattle.sheet.proofs.state.OpenSheet.locate.Goals as goal
 pub returns : goal.returns
 returns c =
     let n = c.args.self.now.n in
-    let long = fits-tells n c.args.costs c.args.standing (sym c.if-not-fits.ensures) in
+    let long = fits_tells n c.args.costs c.args.standing (sym c.if-not-fits.ensures) in
     let e = misplaced-not n c.args.costs c.args.standing c.args.left c.args.right long.0 long.1 (omega arith) (omega arith) in
     let h = mul-add-lt c.args.left n c.args.right n (omega arith) (omega arith) in
     record { answers = ap Ok c.place.ensures ∙ accepted _ _ e; inside = (omega (arith, h, long, c.place.ensures), omega (arith, h, long, c.place.ensures)) }
