@@ -5,8 +5,7 @@ use Rattle.std.proofs.lemmas.List.{length-replicate}
 use Rattle.cost.specs.declared.plain_kind.Plain.{Plain}
 use Rattle.sheet.specs.declared.fault.Cause.TheVariants.{TableLength}
 use Rattle.sheet.specs.declared.fault.Fault.{Fault}
-use Rattle.sheet.specs.declared.state.OpenSheet.{OpenSheet}
-use Rattle.sheet.specs.Opening.{sizes, open_refusal, Opened}
+use Rattle.sheet.specs.Opening.{open_refusal, Opened}
 use Rattle.sheet.specs.Refusals.{fault}
 use Rattle.sheet.proofs.Opening.{open_accepts, open_misfits, open_fitting}
 use Rattle.sheet.proofs.Refused.{from_err, from_ok, kept, renewed}
@@ -31,8 +30,8 @@ checked_ok file n h =
     (λ g. let e = h.faulty g.0 g.1 in let z : ◌≡◌ {A = ℕ} 0 1 = cc in absurd (omega arith))
     h.verdict
 
-module _ (file : List ℕ) (costs : List Plain) (standing : List ℕ) (r : Result OpenSheet Fault) (costs' : List Plain) (standing' : List ℕ) where
-  pub loaded_faulty : (f : Fault) → FirstFault file f → sizes r ≡ Err f → costs' ≡ costs → standing' ≡ standing → Loaded file costs standing r costs' standing'
+module _ (file : List ℕ) (costs : List Plain) (standing : List ℕ) (r : Result ℕ Fault) (costs' : List Plain) (standing' : List ℕ) where
+  pub loaded_faulty : (f : Fault) → FirstFault file f → r ≡ Err f → costs' ≡ costs → standing' ≡ standing → Loaded file costs standing r costs' standing'
   loaded_faulty f s e ec eb = record {
     verdict = inr (f, s);
     faulty = λ g t. record { answers = e ∙ ap Err (one_fault file f g s t); costs_stay = ec; standing_stays = eb };
@@ -40,7 +39,7 @@ module _ (file : List ℕ) (costs : List Plain) (standing : List ℕ) (r : Resul
     loads = λ o t _. absurd (not_both file o f t s);
   }
 
-  pub loaded_misfit : (order : Order) → States file order → (Fitting order.size costs standing → ⊥) → sizes r ≡ Err (fault TableLength 0) → costs' ≡ costs → standing' ≡ standing → Loaded file costs standing r costs' standing'
+  pub loaded_misfit : (order : Order) → States file order → (Fitting order.size costs standing → ⊥) → r ≡ Err (fault TableLength 0) → costs' ≡ costs → standing' ≡ standing → Loaded file costs standing r costs' standing'
   loaded_misfit order s unfit e ec eb = record {
     verdict = inl (order, s);
     faulty = λ g t. absurd (not_both file order g s t);
@@ -48,7 +47,7 @@ module _ (file : List ℕ) (costs : List Plain) (standing : List ℕ) (r : Resul
     loads = λ o t fit. absurd (unfit (subst (λ (x : Order). Fitting x.size costs standing) (one_order file o order t s) fit));
   }
 
-  pub loaded : (order : Order) → States file order → Fitting order.size costs standing → sizes r ≡ Ok order.size
+  pub loaded : (order : Order) → States file order → Fitting order.size costs standing → r ≡ Ok order.size
       → costs' ≡ costs_after order.size order.pairs (replicate (order.size * order.size) (plain (pos 0)))
       → standing' ≡ standing_after order.size order.pairs (replicate (order.size * order.size) 0)
       → Loaded file costs standing r costs' standing'
@@ -94,11 +93,11 @@ module _ (order : Order) (n : ℕ) (size : order.size ≡ n) (sound : Sound orde
       (h.blanks ∙ sym (kept _ f _ _ refuses), h.clears ∙ sym (kept _ f _ _ refuses))
 
 -- a sheet that was opened has the size asked for, over blank tables
-module _ (n : ℕ) (costs : List Plain) (standing : List ℕ) (sheet : OpenSheet) (costs' : List Plain) (standing' : List ℕ) (h : Opened (plain (pos 0)) n costs standing (Ok sheet) costs' standing') where
-  opens : (open_refusal n (length costs) (length standing) ≡ None) × (sheet.n ≡ n)
-  opens = from_ok _ n sheet.n h.answers
+module _ (n : ℕ) (costs : List Plain) (standing : List ℕ) (sheet : ℕ) (costs' : List Plain) (standing' : List ℕ) (h : Opened (plain (pos 0)) n costs standing (Ok sheet) costs' standing') where
+  opens : (open_refusal n (length costs) (length standing) ≡ None) × (sheet ≡ n)
+  opens = from_ok _ n sheet h.answers
 
-  pub opened_size : sheet.n ≡ n
+  pub opened_size : sheet ≡ n
   opened_size = opens.1
 
   pub opened_fits : Fitting n costs standing
@@ -110,7 +109,7 @@ module _ (n : ℕ) (costs : List Plain) (standing : List ℕ) (sheet : OpenSheet
   pub opened_standing : standing' ≡ replicate (n * n) 0
   opened_standing = h.clears ∙ sym (renewed _ _ _ opens.0)
 
-  pub opened_fitting : Fitting sheet.n costs' standing'
+  pub opened_fitting : Fitting sheet costs' standing'
   opened_fitting =
       subst (λ (k : ℕ). Fitting k costs' standing') (sym opened_size)
       (ap length opened_costs ∙ length-replicate (n * n) (plain (pos 0)), ap length opened_standing ∙ length-replicate (n * n) 0)

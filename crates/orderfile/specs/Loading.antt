@@ -3,11 +3,9 @@ use Rattle.std.specs.Prelude.{◌≡◌, ℕ, ◌*◌, ◌<◌, cond, ◌&&◌, 
 use Rattle.std.specs.Option.{option_map}
 use Rattle.cost.specs.declared.plain_kind.Plain.{Plain}
 use Rattle.grid.specs.Tables.{cell, costs_opened, standing_opened, costs_entered, standing_entered}
-use Rattle.sheet.specs.Opening.{sizes}
 use Rattle.sheet.specs.Refusals.{fault}
 use Rattle.sheet.specs.declared.fault.Cause.TheVariants.{TableLength}
 use Rattle.sheet.specs.declared.fault.Fault.{Fault}
-use Rattle.sheet.specs.declared.state.OpenSheet.{OpenSheet}
 use Rattle.orderfile.specs.declared.record.StatedPair.{StatedPair}
 use Rattle.orderfile.specs.Format.{Order, States}
 use Rattle.orderfile.specs.Faults.{FirstFault}
@@ -52,13 +50,13 @@ Fitting n costs standing = (length costs ≡ n * n) × (length standing ≡ n * 
 abbrev pub Shows : Order → List Plain → List ℕ → Type 0
 Shows order costs standing = (l r : ℕ) → l < order.size → r < order.size → cell (plain (pos 0)) order.size costs standing l r ≡ option_map plain (stated order.pairs l r)
 
-pub record Refused (f : Fault) (costs : List Plain) (standing : List ℕ) (r : Result OpenSheet Fault) (costs' : List Plain) (standing' : List ℕ) : Type 0 where
-  pub answers : sizes r ≡ Err f
+pub record Refused (f : Fault) (costs : List Plain) (standing : List ℕ) (r : Result ℕ Fault) (costs' : List Plain) (standing' : List ℕ) : Type 0 where
+  pub answers : r ≡ Err f
   pub costs_stay : costs' ≡ costs
   pub standing_stays : standing' ≡ standing
 
-pub record Accepted (order : Order) (r : Result OpenSheet Fault) (costs' : List Plain) (standing' : List ℕ) : Type 0 where
-  pub answers : sizes r ≡ Ok order.size
+pub record Accepted (order : Order) (r : Result ℕ Fault) (costs' : List Plain) (standing' : List ℕ) : Type 0 where
+  pub answers : r ≡ Ok order.size
   -- exactly the tables that opening a sheet and entering the pairs in turn leave
   pub enters_costs : costs' ≡ costs_after order.size order.pairs (costs_opened (plain (pos 0)) order.size)
   pub enters_standing : standing' ≡ standing_after order.size order.pairs (standing_opened order.size)
@@ -66,7 +64,7 @@ pub record Accepted (order : Order) (r : Result OpenSheet Fault) (costs' : List 
   pub shows : Shows order costs' standing'
 
 -- loading: the first fault of the file, else tables of the wrong length, else the sheet that the file states
-pub record Loaded (file : List ℕ) (costs : List Plain) (standing : List ℕ) (r : Result OpenSheet Fault) (costs' : List Plain) (standing' : List ℕ) : Type 0 where
+pub record Loaded (file : List ℕ) (costs : List Plain) (standing : List ℕ) (r : Result ℕ Fault) (costs' : List Plain) (standing' : List ℕ) : Type 0 where
   pub verdict : Verdict file
   pub faulty : (f : Fault) → FirstFault file f → Refused f costs standing r costs' standing'
   pub misfits : (order : Order) → States file order → (Fitting order.size costs standing → ⊥) → Refused (fault TableLength 0) costs standing r costs' standing'

@@ -4,11 +4,9 @@ use Rattle.std.specs.List.{AllByRecursion}
 use Rattle.cost.specs.Columns.{railed}
 use Rattle.cost.specs.declared.plain_kind.Plain.{Plain}
 use Rattle.grid.specs.Tables.{fitting, says_stands, byte_of, cell, orderly, standing_pairs}
-use Rattle.sheet.specs.Opening.{sizes}
 use Rattle.sheet.specs.Refusals.{fault, first_of, answer}
 use Rattle.sheet.specs.declared.fault.Cause.TheVariants.{TableLength, Inconsistent, ShortBuffer}
 use Rattle.sheet.specs.declared.fault.Fault.{Fault}
-use Rattle.sheet.specs.declared.state.OpenSheet.{OpenSheet}
 use Rattle.orderfile.specs.declared.record.StatedPair.{StatedPair}
 use Rattle.orderfile.specs.Format.{SoundPair, file_of}
 use Rattle.orderfile.specs.Loading.{plain, Fitting, Loaded}
@@ -53,9 +51,9 @@ pub record Written (n : ℕ) (costs : List Plain) (standing out out' : List ℕ)
 -- whatever tables of the right lengths the file is loaded into, the sheet there is the same one: its size, its standing pairs and their costs
 abbrev pub Reloads : ℕ → List Plain → List ℕ → List ℕ → Type 0
 Reloads n costs standing file =
-    (costs₀ : List Plain) (standing₀ : List ℕ) (r : Result OpenSheet Fault) (costs' : List Plain) (standing' : List ℕ)
+    (costs₀ : List Plain) (standing₀ : List ℕ) (r : Result ℕ Fault) (costs' : List Plain) (standing' : List ℕ)
     → Fitting n costs₀ standing₀ → Loaded file costs₀ standing₀ r costs' standing'
-    → (sizes r ≡ Ok n) × ((l r : ℕ) → l < n → r < n → cell (plain (pos 0)) n costs' standing' l r ≡ cell (plain (pos 0)) n costs standing l r)
+    → (r ≡ Ok n) × ((l r : ℕ) → l < n → r < n → cell (plain (pos 0)) n costs' standing' l r ≡ cell (plain (pos 0)) n costs standing l r)
 
 pub record Saved (n : ℕ) (costs : List Plain) (standing out : List ℕ) (r : Result ℕ Fault) (out' : List ℕ) : Type 0 where
   pub answers : r ≡ answer (save_refusal n costs standing (length out)) (saved_length standing)

@@ -47,8 +47,8 @@ fn enter_all(
     costs: &mut [Plain],
     standing: &mut [u8],
 ) -> Result<(), Fault>
-    requires stated { (order : Order) × States file.now order × (order.size ≡ sheet.now.n) }
-    requires fitting { Fitting sheet.now.n costs.old standing.old }
+    requires stated { (order : Order) × States file.now order × (order.size ≡ sheet.now) }
+    requires fitting { Fitting sheet.now costs.old standing.old }
     ensures answers { result ≡ Done tt }
     ensures enters { (order : Order) → States file.now order → (costs.new ≡ costs_after order.size order.pairs costs.old) × (standing.new ≡ standing_after order.size order.pairs standing.old) }
 {
@@ -66,11 +66,11 @@ fn enter(
     standing: &mut [u8],
     stated: Record,
 ) -> Result<(), Fault>
-    requires fitting { Fitting sheet.now.n costs.old standing.old }
-    requires sound { AllByRecursion (SoundPair sheet.now.n) (pairs_stated stated) }
+    requires fitting { Fitting sheet.now costs.old standing.old }
+    requires sound { AllByRecursion (SoundPair sheet.now) (pairs_stated stated) }
     ensures answers { result ≡ Done tt }
-    ensures stores { costs.new ≡ costs_after sheet.now.n (pairs_stated stated) costs.old }
-    ensures raises { standing.new ≡ standing_after sheet.now.n (pairs_stated stated) standing.old }
+    ensures stores { costs.new ≡ costs_after sheet.now (pairs_stated stated) costs.old }
+    ensures raises { standing.new ≡ standing_after sheet.now (pairs_stated stated) standing.old }
 {
     let Record::Pair(pair) = stated else {
         return Ok(());

@@ -29,7 +29,7 @@ pub fn save(
     standing: &[u8],
     out: &mut [u8],
 ) -> Result<usize, Fault>
-    ensures { Saved sheet.now.n costs.now standing.now out.old result out.new }
+    ensures { Saved sheet.now costs.now standing.now out.old result out.new }
 {
     let n = sheet.size();
     if !fits(n, costs.len(), standing.len()) {

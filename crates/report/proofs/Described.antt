@@ -5,7 +5,6 @@ use Rattle.std.proofs.lemmas.Result.{IfOk-weaker}
 use Rattle.std.specs.Option.{option_map}
 use Rattle.cost.specs.declared.plain_kind.Plain.{Plain}
 use Rattle.sheet.specs.declared.fault.Fault.{Fault}
-use Rattle.sheet.specs.declared.state.OpenSheet.{OpenSheet}
 use Rattle.orderfile.specs.Format.{Order, States}
 use Rattle.orderfile.specs.Faults.{FirstFault}
 use Rattle.orderfile.specs.Loading.{plain, stated, Fitting, Shows, Accepted, Loaded}
@@ -35,7 +34,7 @@ line_describes bytes line file f s h = IfOk-weaker line (λ text. bytes text ≡
 
 -- what loading into tables that fit tells
 module _ (file : List ℕ) (costs : List Plain) (standing : List ℕ) (fits : (order : Order) → States file order → Fitting order.size costs standing) (costs' : List Plain) (standing' : List ℕ) where
-  pub loads_order : (sheet : OpenSheet) → Loaded file costs standing (Ok sheet) costs' standing' → (order : Order) × States file order × Accepted order (Ok sheet) costs' standing'
+  pub loads_order : (sheet : ℕ) → Loaded file costs standing (Ok sheet) costs' standing' → (order : Order) × States file order × Accepted order (Ok sheet) costs' standing'
   loads_order sheet h =
       ⊎_elim
       (λ o. (o.0, o.1, h.loads o.0 o.1 (fits o.0 o.1)))

@@ -49,9 +49,9 @@ fn push_pair(
     left: u16,
     right: u16,
 ) -> Result<(), AllocError>
-    requires fitting { Fitting sheet.now.n costs.now standing.now }
-    requires inside { (left < sheet.now.n) × (right < sheet.now.n) }
-    ensures { is_ok result ≡ true → string_bytes text.new ≡ string_bytes text.old ++ pair_line left right (cost_in sheet.now.n costs.now standing.now left right) }
+    requires fitting { Fitting sheet.now costs.now standing.now }
+    requires inside { (left < sheet.now) × (right < sheet.now) }
+    ensures { is_ok result ≡ true → string_bytes text.new ≡ string_bytes text.old ++ pair_line left right (cost_in sheet.now costs.now standing.now left right) }
 {
     if let Ok(cost) = sheet.read(costs, standing, left, right) {
         let line = pair_line(heap, left, right, cost.0)?;
@@ -69,9 +69,9 @@ fn push_row(
     standing: &[u8],
     left: u16,
 ) -> Result<(), AllocError>
-    requires fitting { Fitting sheet.now.n costs.now standing.now }
-    requires inside { left < sheet.now.n }
-    ensures { is_ok result ≡ true → string_bytes text.new ≡ string_bytes text.old ++ row_lines sheet.now.n costs.now standing.now left sheet.now.n }
+    requires fitting { Fitting sheet.now costs.now standing.now }
+    requires inside { left < sheet.now }
+    ensures { is_ok result ≡ true → string_bytes text.new ≡ string_bytes text.old ++ row_lines sheet.now costs.now standing.now left sheet.now }
 {
     for right in 0..sheet.size() {
         push_pair(heap, text, sheet, costs, standing, left, right)?;
@@ -87,8 +87,8 @@ fn push_rows(
     costs: &[Plain],
     standing: &[u8],
 ) -> Result<(), AllocError>
-    requires { Fitting sheet.now.n costs.now standing.now }
-    ensures { is_ok result ≡ true → string_bytes text.new ≡ string_bytes text.old ++ all_lines sheet.now.n costs.now standing.now sheet.now.n }
+    requires { Fitting sheet.now costs.now standing.now }
+    ensures { is_ok result ≡ true → string_bytes text.new ≡ string_bytes text.old ++ all_lines sheet.now costs.now standing.now sheet.now }
 {
     for left in 0..sheet.size() {
         push_row(heap, text, sheet, costs, standing, left)?;
@@ -103,8 +103,8 @@ fn tell(
     costs: &[Plain],
     standing: &[u8],
 ) -> Result<String, AllocError>
-    requires { Fitting sheet.now.n costs.now standing.now }
-    ensures { IfOk result (λ text. string_bytes text ≡ sheet_text sheet.now.n costs.now standing.now) }
+    requires { Fitting sheet.now costs.now standing.now }
+    ensures { IfOk result (λ text. string_bytes text ≡ sheet_text sheet.now costs.now standing.now) }
 {
     let n = sheet.size();
     let mut text = format!(in heap; "size {n}\n")?;

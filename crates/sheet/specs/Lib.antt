@@ -1,3 +1,4 @@
+pub mod Size
 pub mod Numbers
 pub mod Refusals
 pub mod Opening

@@ -4,7 +4,6 @@ use Rattle.grid.specs.Tables.{fitting, costs_opened, standing_opened}
 use Rattle.sheet.specs.Refusals.{fault, first_of, answer, after}
 use Rattle.sheet.specs.declared.fault.Fault.{Fault}
 use Rattle.sheet.specs.declared.fault.Cause.TheVariants.{Size, TableLength}
-use Rattle.sheet.specs.declared.state.OpenSheet.{OpenSheet}
 
 -- costs and stands are the lengths of the two pair tables
 unfoldable pub open_refusal : (n costs stands : ℕ) → Option Fault
@@ -12,13 +11,8 @@ open_refusal n costs stands = first_of (
     (n == 0 || nat_lt 64 n, fault Size 0) ∷
     (not (fitting n costs stands), fault TableLength 0) ∷ [])
 
--- an answer with the sheet as its size alone
-abbrev pub sizes : Result OpenSheet Fault → Result ℕ Fault
-sizes (Ok sheet) = Ok sheet.n
-sizes (Err f) = Err f
-
 pub record Opened {K : Type 0} (nought : K) (n : ℕ) (costs : List K) (standing : List ℕ)
-    (r : Result OpenSheet Fault) (costs' : List K) (standing' : List ℕ) : Type 0 where
-  pub answers : sizes r ≡ answer (open_refusal n (length costs) (length standing)) n
+    (r : Result ℕ Fault) (costs' : List K) (standing' : List ℕ) : Type 0 where
+  pub answers : r ≡ answer (open_refusal n (length costs) (length standing)) n
   pub blanks : costs' ≡ after (open_refusal n (length costs) (length standing)) costs (costs_opened nought n)
   pub clears : standing' ≡ after (open_refusal n (length costs) (length standing)) standing (standing_opened n)

@@ -1,12 +1,16 @@
 -- Refusals: the checks of a call in their order, and what a refused call answers and leaves.
-use Rattle.std.specs.Prelude.{ℕ, Bool, cond, not, List, [], ◌∷◌, Some, None, Ok, Err, Option, Result, ◌==◌}
+use Rattle.std.specs.Prelude.{ℕ, Bool, cond, not, List, [], ◌∷◌, ◌++◌, codes, decimal, Some, None, Ok, Err, Option, Result, ◌==◌}
 use Rattle.sheet.specs.declared.fault.Cause.{Cause}
 use Rattle.sheet.specs.declared.fault.Fault.{Fault}
-use Rattle.sheet.specs.Numbers.{layer_of}
+use Rattle.sheet.specs.Numbers.{cause_number, layer_number, layer_of}
 
 -- the refusal for a cause at a place; the cause tells the layer
 abbrev pub fault : Cause → ℕ → Fault
 fault cause place = record { cause = cause; place = place; layer = layer_of cause }
+
+-- what tells a refusal: `refused NUMBER at PLACE layer LAYER`
+abbrev pub refusal_text : Fault → List ℕ
+refusal_text f = codes "refused " ++ (decimal (cause_number f.cause) ++ (codes " at " ++ (decimal f.place ++ (codes " layer " ++ decimal (layer_number f.layer)))))
 
 -- the checks of a call, in order: the first that holds refuses
 abbrev pub first_of : List (Bool × Fault) → Option Fault

@@ -1,8 +1,11 @@
 //! Refusals: why a call was turned down, where, and in which layer.
 
-ghost use Rattle.std.specs.Prelude.{◌≡◌};
+ghost use Rattle.std.specs.Prelude.{◌≡◌, Some};
 ghost use Rattle.sheet.specs.Numbers.{cause_number, layer_number, layer_of};
-ghost use Rattle.sheet.specs.Refusals.{fault};
+ghost use Rattle.sheet.specs.Refusals.{fault, refusal_text};
+
+use std::error::Error;
+use std::fmt;
 
 /// Why a call was refused. The numbers are part of the interface and never move.
 #[derive(Clone, Copy, PartialEq, Eq, Debug)]
@@ -49,6 +52,20 @@ pub struct Fault {
     pub place: usize,
     pub layer: Layer,
 }
+
+// `refused NUMBER at PLACE layer LAYER`
+impl fmt::Display for Fault {
+    ghost output = { λ f. Some (refusal_text f) };
+
+    fn fmt<W: fmt::Write>(&self, f: &mut fmt::Formatter<W>) -> fmt::Result {
+        let cause = self.cause.number();
+        let place = self.place;
+        let layer = self.layer.number();
+        write!(f, "refused {cause} at {place} layer {layer}")
+    }
+}
+
+impl Error for Fault {}
 
 impl Cause {
     /// The number that stands for the cause in files, listings and calls from C.

@@ -10,15 +10,15 @@ pub tell-requires : goal.tell-requires
 tell-requires c =
     let o = loads_order _ _ _ c.requires _ _ c.in-Ok.sheet c.in-Ok.ensures in
     let fit = c.requires o.0 o.1 in
-    let size : o.0.size ≡ c.in-Ok.sheet.n = let e = o.2.answers in cc in
+    let size : o.0.size ≡ c.in-Ok.sheet = let e = o.2.answers in cc in
     let square = ap (λ k. k * k) size in
     (c.load.auto.costs ∙ fit.0 ∙ square, c.load.auto.standing ∙ fit.1 ∙ square)
 
 pub returns-in-Ok : goal.returns-in-Ok
 returns-in-Ok c =
     let o = loads_order _ _ _ c.requires _ _ c.in-Ok.sheet c.in-Ok.ensures in
-    let size : c.in-Ok.sheet.n ≡ o.0.size = let e = o.2.answers in cc in
-    IfOk-weaker c.tell.result (λ text. string_bytes text ≡ sheet_text c.in-Ok.sheet.n c.load.new.costs c.load.new.standing) (λ text. Describes c.args.file.now (string_bytes text))
+    let size : c.in-Ok.sheet ≡ o.0.size = let e = o.2.answers in cc in
+    IfOk-weaker c.tell.result (λ text. string_bytes text ≡ sheet_text c.in-Ok.sheet c.load.new.costs c.load.new.standing) (λ text. Describes c.args.file.now (string_bytes text))
     (λ text e. describes_order c.args.file.now (string_bytes text) o.0 o.1 (e ∙ ap (λ k. sheet_text k c.load.new.costs c.load.new.standing) size ∙ told o.0 c.load.new.costs c.load.new.standing o.2.shows))
     c.tell.ensures
 

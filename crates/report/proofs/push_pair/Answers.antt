@@ -11,7 +11,7 @@ use Rattle.report.proofs.push_pair.Goals as goal
 
 pub returns-in_ok-push_str : goal.returns-in_ok-push_str
 returns-in_ok-push_str c = λ _.
-    let n = c.args.sheet.now.n in
+    let n = c.args.sheet.now in
     let l = c.args.left in
     let r = c.args.right in
     let read = read_ok n (length c.args.costs.now) (length c.args.standing.now) l r c.requires.fitting.0 c.requires.fitting.1 c.requires.inside.0 c.requires.inside.1
@@ -24,7 +24,7 @@ returns-in_ok-push_str c = λ _.
 
 pub returns-in_default : goal.returns-in_default
 returns-in_default c = λ _.
-    let n = c.args.sheet.now.n in
+    let n = c.args.sheet.now in
     let l = c.args.left in
     let r = c.args.right in
     let absent = read_err n (length c.args.costs.now) (length c.args.standing.now) l r c.requires.fitting.0 c.requires.fitting.1 c.requires.inside.0 c.requires.inside.1

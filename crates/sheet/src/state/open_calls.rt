@@ -6,6 +6,7 @@ ghost use Rattle.grid.specs.Tables.{place_of, byte_of};
 ghost use Rattle.sheet.specs.Opening.{Opened};
 ghost use Rattle.sheet.specs.Pairs.{misplaced, strike_refusal, Entered, Struck, Answered};
 ghost use Rattle.sheet.specs.Refusals.{first_of, answer};
+ghost use Rattle.sheet.specs.Size.{IsSize};
 
 use super::OpenSheet;
 use crate::fault::{Cause, Fault};
@@ -42,7 +43,8 @@ fn fill<T: Copy>(table: &mut [T], value: T)
 impl OpenSheet {
     /// The number of left blocks, which is that of the right blocks too.
     pub fn size(&self) -> u16
-        ensures { result ≡ self.now.n }
+        ensures value { result ≡ self.now }
+        ensures range { IsSize self.now }
     {
         self.n
     }
@@ -59,7 +61,7 @@ impl OpenSheet {
         right: u16,
         cost: K,
     ) -> Result<(), Fault>
-        ensures { Entered self.now.n costs.old standing.old left right cost (within 1000000000 (K.meaning cost)) result costs.new standing.new }
+        ensures { Entered self.now costs.old standing.old left right cost (within 1000000000 (K.meaning cost)) result costs.new standing.new }
     {
         let at = self.locate(costs.len(), standing.len(), left, right)?;
         if !cost.within(COST_LIMIT) {
@@ -81,7 +83,7 @@ impl OpenSheet {
         left: u16,
         right: u16,
     ) -> Result<(), Fault>
-        ensures { Struck K.nought self.now.n costs.old standing.old left right result costs.new standing.new }
+        ensures { Struck K.nought self.now costs.old standing.old left right result costs.new standing.new }
     {
         let at = self.find(costs, standing, left, right)?;
         costs[at] = K::zero();
@@ -97,7 +99,7 @@ impl OpenSheet {
         left: u16,
         right: u16,
     ) -> Result<K, Fault>
-        ensures { Answered K.nought self.now.n costs.now standing.now left right result }
+        ensures { Answered K.nought self.now costs.now standing.now left right result }
     {
         let at = self.find(costs, standing, left, right)?;
         Ok(costs[at])
@@ -105,7 +107,7 @@ impl OpenSheet {
 
     // Refuses tables of the wrong length and blocks that do not exist, and else gives the pair's place.
     fn locate(&self, costs: usize, standing: usize, left: u16, right: u16) -> Result<usize, Fault>
-        ensures answers { result ≡ answer (first_of (misplaced self.now.n costs standing left right)) (place_of self.now.n left right) }
+        ensures answers { result ≡ answer (first_of (misplaced self.now costs standing left right)) (place_of self.now left right) }
         ensures inside { IfOk result (λ at. (at < costs) × (at < standing)) }
     {
         if !fits(self.n, costs, standing) {
@@ -125,7 +127,7 @@ impl OpenSheet {
         left: u16,
         right: u16,
     ) -> Result<usize, Fault>
-        ensures answers { result ≡ answer (strike_refusal self.now.n (length costs.now) (length standing.now) left right (byte_of self.now.n standing.now left right)) (place_of self.now.n left right) }
+        ensures answers { result ≡ answer (strike_refusal self.now (length costs.now) (length standing.now) left right (byte_of self.now standing.now left right)) (place_of self.now left right) }
         ensures inside { IfOk result (λ at. (at < length costs.now) × (at < length standing.now)) }
     {
         let at = self.locate(costs.len(), standing.len(), left, right)?;

@@ -16,7 +16,7 @@ use Rattle.orderfile.proofs.loading.enter.Goals as goal
 
 pub returns : goal.returns
 returns c =
-    let n = c.args.sheet.now.n in
+    let n = c.args.sheet.now in
     let p = c.in-Pair.pair in
     let sound = (subst (λ (t : Record). AllByRecursion (SoundPair n) (pairs_stated t)) c.in-Pair.is c.requires.sound).0 in
     let same : to_z w64 (of_z w64 p.cost) ≡ p.cost = to_z-of_z w64 p.cost (fits p.cost sound.cost_within) in

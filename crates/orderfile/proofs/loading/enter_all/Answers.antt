@@ -29,6 +29,6 @@ loop-record-preserved c =
     let was = c.loop-record.records in
     let now' = c.next.new.self in
     let found = from_ok (field_fault was.stage was.fields.rest.now was.fields.at) (record_next was.stage was.fields.rest.now) (Some c.in-Some.record) (ap Ok (sym c.in-Some.is) ∙ c.in_ok-record.ensures.answers) in
-    entering_more c.args.file.now c.args.sheet.now.n c.args.costs.now c.args.standing.now was.stage was.fields.rest.now c.loop-record.costs c.loop-record.standing
+    entering_more c.args.file.now c.args.sheet.now c.args.costs.now c.args.standing.now was.stage was.fields.rest.now c.loop-record.costs c.loop-record.standing
     now'.stage now'.fields.rest.now c.enter.new.costs c.enter.new.standing c.in-Some.record c.loop-record.invariant (sym found.1)
     (c.next.ensures.stages ∙ sym (renewed _ _ _ found.0)) (c.next.ensures.passes ∙ sym (renewed _ _ _ found.0)) c.enter.ensures.stores c.enter.ensures.raises

@@ -1,7 +1,6 @@
 -- A fault that `check` finds is the file's first; `open` then refuses tables of the wrong length only; and the pairs go into the blank tables.
 use Rattle.std.proofs.Common.{◌≡◌, ℕ, ◌*◌, replicate, pos, Ok, Err, sym, refl, ap, ◌∙◌, subst}
 use Rattle.std.proofs.lemmas.Result.{err_from_is_err_and}
-use Rattle.sheet.specs.Opening.{sizes}
 use Rattle.orderfile.specs.Loading.{plain, costs_after, standing_after, Fitting}
 use Rattle.orderfile.proofs.Ends.{checked_err, checked_ok, loaded_faulty, loaded_misfit, loaded, open_unfit, open_fault, open_kept, opened_size, opened_fits, opened_costs, opened_standing, opened_fitting}
 use Rattle.orderfile.proofs.loading.load.Goals as goal
@@ -10,7 +9,7 @@ pub returns-in_err-n : goal.returns-in_err-n
 returns-in_err-n c =
     let p = err_from_is_err_and c.from_residual.result c.from_residual.ensures.1 in
     let f = c.in_err-n.field-0.0 in
-    loaded_faulty _ _ _ _ _ _ f (checked_err c.args.file.now f c.in_err-n.ensures) (ap sizes p.1 ∙ ap Err p.2) refl refl
+    loaded_faulty _ _ _ _ _ _ f (checked_err c.args.file.now f c.in_err-n.ensures) (p.1 ∙ ap Err p.2) refl refl
 
 pub returns-in_err-sheet : goal.returns-in_err-sheet
 returns-in_err-sheet c =
@@ -20,7 +19,7 @@ returns-in_err-sheet c =
     let h = c.in_err-sheet.ensures in
     let stay = open_kept o.0 _ o.2 o.1.sound _ _ _ _ f h in
     loaded_misfit _ _ _ _ _ _ o.0 o.1 (open_unfit o.0 _ o.2 o.1.sound _ _ _ _ f h)
-    (ap sizes p.1 ∙ ap Err (p.2 ∙ open_fault o.0 _ o.2 o.1.sound _ _ _ _ f h)) stay.0 stay.1
+    (p.1 ∙ ap Err (p.2 ∙ open_fault o.0 _ o.2 o.1.sound _ _ _ _ f h)) stay.0 stay.1
 
 pub enter_all-requires : goal.enter_all-requires
 enter_all-requires c =

@@ -15,20 +15,20 @@ fit_is m n costs bytes b e t = ap (λ k. fitting k costs bytes) (sym e) ∙ sym 
 pub returns-then-not-fits : goal.returns-then-not-fits
 returns-then-not-fits c =
     let sheet = c.args.sheet.now in
-    not_saved sheet.n sheet.some sheet.few c.args.costs.now c.args.standing.now c.args.out.now _ _ _ (save_misfits sheet.n _ _ _ (fit_is _ _ _ _ _ c.size-n.ensures c.if-not-fits.ensures)) (ap Err c.at.ensures) refl
+    not_saved sheet c.size-n.ensures.range.some c.size-n.ensures.range.few c.args.costs.now c.args.standing.now c.args.out.now _ _ _ (save_misfits sheet _ _ _ (fit_is _ _ _ _ _ c.size-n.ensures.value c.if-not-fits.ensures)) (ap Err c.at.ensures) refl
 
 pub returns-then-not-in_order : goal.returns-then-not-in_order
 returns-then-not-in_order c =
     let sheet = c.args.sheet.now in
-    let fit = fit_is _ _ _ _ _ c.size-n.ensures c.if-not-fits.ensures in
-    not_saved sheet.n sheet.some sheet.few c.args.costs.now c.args.standing.now c.args.out.now _ _ _ (save_disturbed sheet.n _ _ _ fit (sym c.if-not-in_order.ensures)) (ap Err c.at-then-not-in_order.ensures) refl
+    let fit = fit_is _ _ _ _ _ c.size-n.ensures.value c.if-not-fits.ensures in
+    not_saved sheet c.size-n.ensures.range.some c.size-n.ensures.range.few c.args.costs.now c.args.standing.now c.args.out.now _ _ _ (save_disturbed sheet _ _ _ fit (sym c.if-not-in_order.ensures)) (ap Err c.at-then-not-in_order.ensures) refl
 
 pub returns-then-out-length : goal.returns-then-out-length
 returns-then-out-length c =
     let sheet = c.args.sheet.now in
-    let fit = fit_is _ _ _ _ _ c.size-n.ensures c.if-not-fits.ensures in
-    not_saved sheet.n sheet.some sheet.few c.args.costs.now c.args.standing.now c.args.out.now _ _ _
-    (save_short sheet.n _ _ _ fit (sym c.if-not-in_order.ensures) (omega (arith, c.if-out-length.true, c.standing_pairs.ensures.value))) (ap Err c.at-then-out-length.ensures) refl
+    let fit = fit_is _ _ _ _ _ c.size-n.ensures.value c.if-not-fits.ensures in
+    not_saved sheet c.size-n.ensures.range.some c.size-n.ensures.range.few c.args.costs.now c.args.standing.now c.args.out.now _ _ _
+    (save_short sheet _ _ _ fit (sym c.if-not-in_order.ensures) (omega (arith, c.if-out-length.true, c.standing_pairs.ensures.value))) (ap Err c.at-then-out-length.ensures) refl
 
 pub write_file-requires : goal.write_file-requires
 write_file-requires c =
@@ -36,8 +36,8 @@ write_file-requires c =
     let n = c.size-n.result in
     let long = fits_tells n (length c.args.costs.now) (length c.args.standing.now) (sym c.if-not-fits.ensures) in
     record {
-      some = omega (arith, sheet.some, c.size-n.ensures);
-      few = omega (arith, sheet.few, c.size-n.ensures);
+      some = omega (arith, c.size-n.ensures.range.some, c.size-n.ensures.value);
+      few = omega (arith, c.size-n.ensures.range.few, c.size-n.ensures.value);
       costs_fit = long.0;
       standing_fits = long.1;
       room = omega (arith, c.if-out-length.false, c.standing_pairs.ensures.value);
@@ -46,18 +46,18 @@ write_file-requires c =
 pub returns : goal.returns
 returns c =
     let sheet = c.args.sheet.now in
-    let n = sheet.n in
+    let n = sheet in
     let costs = c.args.costs.now in
     let standing = c.args.standing.now in
-    let fit = fit_is _ _ _ _ _ c.size-n.ensures c.if-not-fits.ensures in
+    let fit = fit_is _ _ _ _ _ c.size-n.ensures.value c.if-not-fits.ensures in
     let long = fits_tells n (length costs) (length standing) fit in
     let good = sym c.if-not-in_order.ensures in
-    let count : length (listed n costs standing 0 (n * n)) ≡ standing_pairs standing = listed_count n sheet.some costs standing 0 (n * n) (omega (arith, long.1)) in
+    let count : length (listed n costs standing 0 (n * n)) ≡ standing_pairs standing = listed_count n c.size-n.ensures.range.some costs standing 0 (n * n) (omega (arith, long.1)) in
     let wrote : Written n costs standing c.args.out.now c.write_file.new.out = record {
       pairs = listed n costs standing 0 (n * n);
-      names = names_all n sheet.some costs standing long.0 long.1 good;
+      names = names_all n c.size-n.ensures.range.some costs standing long.0 long.1 good;
       long = file_length n (listed n costs standing 0 (n * n)) ∙ ap (λ k. 7 + 13 * k) count;
-      file = c.write_file.ensures ∙ ap (λ k. file_of (record { size = k; pairs = listed k costs standing 0 (k * k) }) ++ drop (saved_length standing) c.args.out.now) c.size-n.ensures;
+      file = c.write_file.ensures ∙ ap (λ k. file_of (record { size = k; pairs = listed k costs standing 0 (k * k) }) ++ drop (saved_length standing) c.args.out.now) c.size-n.ensures.value;
     } in
-    saved n sheet.some sheet.few costs standing c.args.out.now _ _ (save_accepts n _ _ _ fit good (omega (arith, c.if-out-length.false, c.standing_pairs.ensures.value)))
+    saved n c.size-n.ensures.range.some c.size-n.ensures.range.few costs standing c.args.out.now _ _ (save_accepts n _ _ _ fit good (omega (arith, c.if-out-length.false, c.standing_pairs.ensures.value)))
     (ap Ok (omega (arith, c.standing_pairs.ensures.value))) wrote

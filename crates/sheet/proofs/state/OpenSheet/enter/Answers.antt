@@ -10,20 +10,20 @@ pub returns-in_err-at : goal.returns-in_err-at
 returns-in_err-at g c =
     let p = err_from_is_err_and c.from_residual.result c.from_residual.ensures.1 in
     let f = c.in_err-at.field-0.0 in
-    let e = enter_misplaced c.args.self.now.n (length c.args.costs.now) (length c.args.standing.now) c.args.left c.args.right
+    let e = enter_misplaced c.args.self.now (length c.args.costs.now) (length c.args.standing.now) c.args.left c.args.right
     (within 1000000000 (g.K.Cost.meaning c.args.cost)) f (from_err _ _ f c.in_err-at.ensures.answers) in
     record { answers = p.1 ∙ ap Err p.2 ∙ refused _ _ _ e; stores = kept _ _ _ _ e; raises = kept _ _ _ _ e }
 
 pub returns-then-not-within : goal.returns-then-not-within
 returns-then-not-within g c =
-    let e = enter_goes_on c.args.self.now.n (length c.args.costs.now) (length c.args.standing.now) c.args.left c.args.right
+    let e = enter_goes_on c.args.self.now (length c.args.costs.now) (length c.args.standing.now) c.args.left c.args.right
     (within 1000000000 (g.K.Cost.meaning c.args.cost)) (from_ok _ _ _ c.in_ok-at.ensures.answers).0 ∙ too_large _ _ c.if-not-within.ensures in
     record { answers = ap Err c.at.ensures ∙ refused _ _ _ e; stores = kept _ _ _ _ e; raises = kept _ _ _ _ e }
 
 pub returns : goal.returns
 returns g c =
     let found = from_ok _ _ _ c.in_ok-at.ensures.answers in
-    let e = enter_goes_on c.args.self.now.n (length c.args.costs.now) (length c.args.standing.now) c.args.left c.args.right
+    let e = enter_goes_on c.args.self.now (length c.args.costs.now) (length c.args.standing.now) c.args.left c.args.right
     (within 1000000000 (g.K.Cost.meaning c.args.cost)) found.0 ∙ too_large _ _ c.if-not-within.ensures in
     record {
       answers = accepted _ _ e;

@@ -8,8 +8,10 @@ use Rattle.sheet.proofs.state.OpenSheet.locate.Goals as goal
 
 pub returns : goal.returns
 returns c =
-    let n = c.args.self.now.n in
-    let long = fits_tells n c.args.costs c.args.standing (sym c.if-not-fits.ensures) in
+    let n = c.args.self.now in
+    let fit = rw c.self.view_is at c.if-not-fits.ensures in
+    let at = rw c.self.view_is at c.place.ensures in
+    let long = fits_tells n c.args.costs c.args.standing (sym fit) in
     let e = misplaced-not n c.args.costs c.args.standing c.args.left c.args.right long.0 long.1 (omega arith) (omega arith) in
     let h = mul-add-lt c.args.left n c.args.right n (omega arith) (omega arith) in
-    record { answers = ap Ok c.place.ensures ∙ accepted _ _ e; inside = (omega (arith, h, long, c.place.ensures), omega (arith, h, long, c.place.ensures)) }
+    record { answers = ap Ok at ∙ accepted _ _ e; inside = (omega (arith, h, long, at), omega (arith, h, long, at)) }

@@ -16,6 +16,6 @@ returns g c =
     let found = from_ok _ _ _ c.in_ok-at.ensures.answers in
     record {
       answers = accepted _ _ found.0;
-      clears = ap (λ p. set c.args.costs.now p c.zero.result) found.1 ∙ ap (set c.args.costs.now (place_of c.args.self.now.n c.args.left c.args.right)) c.zero.ensures ∙ renewed _ _ _ found.0;
+      clears = ap (λ p. set c.args.costs.now p c.zero.result) found.1 ∙ ap (set c.args.costs.now (place_of c.args.self.now c.args.left c.args.right)) c.zero.ensures ∙ renewed _ _ _ found.0;
       lowers = ap (λ p. set c.args.standing.now p 0) found.1 ∙ renewed _ _ _ found.0;
     }
