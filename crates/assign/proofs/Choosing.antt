@@ -6,7 +6,7 @@ use Rattle.std.proofs.lemmas.List.{get_or-replicate}
 use Rattle.std.proofs.lemmas.Bool.{cases_eq, both_ways, and_parts, and_from, ltb-true, lt-ltb}
 use Rattle.pairing.specs.Grid.{at}
 use Rattle.assign.specs.Pairs.{Chosen}
-use Rattle.assign.proofs.Removing.{still_in, gone, out_of}
+use Rattle.blockset.proofs.Removing.{still_in, gone, out_of}
 
 -- the pairs so far, and the right blocks of `rest`, which are still to come
 pub record Choosing (n : ℕ) (priced : ℕ → Bool) (row : ℕ → ℕ) (rest out : ℕ → Bool) (p o : ℕ → ℕ) : Type 0 where

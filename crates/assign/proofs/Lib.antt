@@ -1,5 +1,4 @@
 pub mod Entries
-pub mod Removing
 pub mod Differences
 pub mod Growing
 pub mod Flipping

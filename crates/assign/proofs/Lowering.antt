@@ -8,7 +8,7 @@ use Rattle.cost.specs.Columns.{Within}
 use Rattle.cost.proofs.Weights.{weight}
 use Rattle.pairing.specs.Grid.{at}
 use Rattle.assign.specs.Search.{stage, Lowered}
-use Rattle.assign.proofs.Removing.{still_in, gone}
+use Rattle.blockset.proofs.Removing.{still_in, gone}
 
 -- only open right blocks are not taken
 open_if_low : (is_open is-reached : Bool) (turn : ℕ) → cond is_open (cond is-reached 1 0) (turn + 2) < 2 → is_open ≡ true

@@ -4,7 +4,7 @@ use Rattle.std.proofs.Common.{◌≡◌, ℕ, Bool, true, false, not, ◌&&◌, 
 use Rattle.std.proofs.lemmas.Int.{ints}
 use Rattle.std.proofs.lemmas.Bool.{cases_eq, both_ways}
 use Rattle.assign.specs.Offers.{Nearest}
-use Rattle.assign.proofs.Removing.{still_in, gone}
+use Rattle.blockset.proofs.Removing.{still_in, gone}
 
 module _ (set : ℕ → Bool) (v d : ℕ → ℤ) where
   -- key is how far the best of those that are not in rest is beyond its price

@@ -6,7 +6,7 @@ use Rattle.std.proofs.lemmas.Bool.{cases_eq, both_ways}
 use Rattle.cost.specs.Columns.{Within}
 use Rattle.cost.proofs.Weights.{weight}
 use Rattle.assign.specs.Offers.{Offered}
-use Rattle.assign.proofs.Removing.{still_in, gone}
+use Rattle.blockset.proofs.Removing.{still_in, gone}
 
 module _ (shift : List ℤ) (cost : ℕ → List ℤ) (from : ℕ) (to reached : ℕ → Bool) (d : ℕ → List ℤ) (via : ℕ → ℕ) where
   -- how far the distance of c can be, if it was not farther where it had one

@@ -10,7 +10,7 @@ use Rattle.blockset.proofs.Members.{members_like, members_all, members_without, 
 use Rattle.pairing.specs.Grid.{at}
 use Rattle.assign.specs.Search.{stage, Kept, Start, Grown}
 use Rattle.assign.specs.Offers.{Offered, Nearest}
-use Rattle.assign.proofs.Removing.{gone, out_of}
+use Rattle.blockset.proofs.Removing.{gone, out_of}
 use Rattle.assign.proofs.Growing.{Eased, took, looked}
 
 -- ---- what the sets tell of a stage

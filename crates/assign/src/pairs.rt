@@ -24,9 +24,7 @@ pub fn pair_cheapest(n: usize, cheapest: &Cheapest, partners: &mut [u16]) -> Own
 {
     let mut out = BlockSet::all(n);
     let mut owner = [64u8; 64];
-    let mut rest = cheapest.priced;
-    while let Some(c) = rest.least() {
-        rest.remove(c);
+    for c in cheapest.priced {
         let l = cheapest.row[c] as usize;
         if out.contains(l) {
             out.remove(l);

@@ -68,9 +68,7 @@ pub fn lower<K: Cost>(goal: usize, tree: &Tree, dist: &[K], right: &mut [K])
     ensures bound { Bounded K.meaning 500000000000 (length dist.now) right.new }
 {
     let far = exact_difference(dist[goal], right[goal]);
-    let mut rest = BlockSet::all(dist.len()).difference(tree.open);
-    while let Some(c) = rest.least() {
-        rest.remove(c);
+    for c in BlockSet::all(dist.len()).difference(tree.open) {
         right[c] = exact_difference(dist[c], far);
     }
 }

@@ -38,9 +38,7 @@ pub fn offer<K: Cost>(
     ensures offered { (c : ℕ) → Offered (weight (K.meaning shift)) (weight_at K.meaning costs.now) from (has to) (has reached) (weight_at K.meaning dist.old) (at via.old) (weight_at K.meaning dist.new) (at via.new) c }
     ensures bound { (b c : ℕ) → Within b (K.meaning shift) → b ≤ 400000000000 → (has to c ≡ false → Within (b + 1000000000) (columns_at K.meaning dist.old c)) → (has reached c ≡ true → Within (b + 1000000000) (columns_at K.meaning dist.old c)) → Within (b + 1000000000) (columns_at K.meaning dist.new c) }
 {
-    let mut rest = to;
-    while let Some(c) = rest.least() {
-        rest.remove(c);
+    for c in to {
         let way = exact_sum(shift, costs[c]);
         if !reached.contains(c) || is_less(way, dist[c]) {
             dist[c] = way;
@@ -59,9 +57,7 @@ pub fn nearest<K: Cost>(set: BlockSet, dist: &[K], right: &[K]) -> Option<usize>
 {
     let mut best = set.least()?;
     let mut least = exact_difference(dist[best], right[best]);
-    let mut rest = set;
-    while let Some(c) = rest.least() {
-        rest.remove(c);
+    for c in set {
         let key = exact_difference(dist[c], right[c]);
         if is_less(key, least) {
             best = c;

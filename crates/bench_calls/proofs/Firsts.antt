@@ -1,12 +1,6 @@
 -- The first pairing over the tight rows is the first optimum pairing, and the greatest prices go with it too.
 -- Idea: under the greatest prices the perfect pairings of tight pairs are the optimum pairings, and there is only one list of these in dictionary order.
-use mathlib.Core.Path.{◌≡◌, refl, sym, subst}
-use mathlib.Core.Logic.{◌↔◌, inl}
-use mathlib.Core.Bool.{true}
-use mathlib.Core.List.{List, [], ◌∷◌}
-use Prim.Native.Nat.{ℕ, ◌*◌, ◌≤◌}
-use native.Mathlib.Omega.{arith}
-use lib.ListN.{length}
+use Rattle.std.proofs.Common.{◌≡◌, ℕ, ◌*◌, ◌≤◌, true, ◌↔◌, List, [], ◌∷◌, length, refl, sym, subst, inl, arith}
 use Rattle.cost.specs.declared.plain_kind.Plain.{Plain}
 use Rattle.blockset.specs.declared.BlockSet.{BlockSet}
 use Rattle.pairing.specs.Grid.{Sane, Optimum}

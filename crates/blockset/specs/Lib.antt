@@ -1,2 +1,3 @@
 pub mod Sets
 pub mod Has
+pub mod Taking

@@ -3,7 +3,9 @@
 
 ghost use Rattle.std.specs.Prelude.{◌≡◌, ℕ, ◌<◌, true, false, not, ◌&&◌, ◌||◌, IsTrue, ◌↔◌, MatchOption, ◌==◌, nat_lt};
 ghost use Rattle.blockset.specs.Sets.{members, bit};
+ghost use Rattle.std.specs.Iterator.{at_most};
 ghost use Rattle.blockset.specs.Has.{has};
+ghost use Rattle.blockset.specs.Taking.{TakesLeast};
 
 /// A set of the block numbers 0 to 63. A number of 64 or more is no block: it is in no set, and inserting it changes nothing.
 #[derive(Clone, Copy)]
@@ -120,5 +122,37 @@ impl BlockSet {
         if block < 64 {
             self.0 &= !(1 << block);
         }
+    }
+}
+
+impl IntoIterator for BlockSet {
+    type Item = usize;
+
+    type IntoIter = Blocks;
+
+    ghost into_iter_gives = { λ set blocks. blocks.rest ≡ set };
+
+    fn into_iter(self) -> Blocks {
+        Blocks { rest: self }
+    }
+}
+
+/// The blocks of a set, the least first.
+#[derive(Clone, Copy)]
+pub struct Blocks {
+    rest: BlockSet,
+}
+
+impl Iterator for Blocks {
+    type Item = usize;
+
+    ghost next_gives = { λ before block after. TakesLeast before.rest block after.rest };
+
+    ghost remaining = { λ blocks. at_most (members 64 (has blocks.rest)) };
+
+    fn next(&mut self) -> Option<usize> {
+        let least = self.rest.least()?;
+        self.rest.remove(least);
+        Some(least)
     }
 }

@@ -4,7 +4,7 @@ use Rattle.std.specs.Option.{option_map}
 use Rattle.std.specs.Fmt.{signed_decimal}
 use Rattle.cost.specs.declared.plain_kind.Plain.{Plain}
 use Rattle.grid.specs.Tables.{cell}
-use Rattle.sheet.specs.Numbers.{cause_number, layer_number}
+use Rattle.sheet.specs.Refusals.{refusal_text}
 use Rattle.sheet.specs.declared.fault.Fault.{Fault}
 use Rattle.orderfile.specs.Format.{Order}
 use Rattle.orderfile.specs.Loading.{plain, stated}
@@ -43,8 +43,5 @@ abbrev pub statement : Order → List ℕ
 statement order = (codes "size " ++ (decimal order.size ++ codes "\n")) ++ (pair_lines order.size (stated order.pairs) ++ codes "end\n")
 
 -- why it is refused: `refused NUMBER at PLACE layer LAYER`
-abbrev pub refusal_line : ℕ → ℕ → ℕ → List ℕ
-refusal_line number place layer = codes "refused " ++ (decimal number ++ (codes " at " ++ (decimal place ++ (codes " layer " ++ (decimal layer ++ codes "\n")))))
-
 abbrev pub refusal : Fault → List ℕ
-refusal f = refusal_line (cause_number f.cause) f.place (layer_number f.layer)
+refusal f = refusal_text f ++ codes "\n"

@@ -5,7 +5,7 @@ ghost use Rattle.std.specs.Prelude.{◌≡◌, ◌<◌, true, ◌++◌, is_ok, I
 ghost use Rattle.orderfile.specs.Format.{Order, States};
 ghost use Rattle.orderfile.specs.Loading.{Fitting};
 ghost use Rattle.report.specs.Describing.{Describes};
-ghost use Rattle.report.specs.Text.{pair_line, cost_in, row_lines, all_lines, sheet_text, refusal_line, refusal};
+ghost use Rattle.report.specs.Text.{pair_line, cost_in, row_lines, all_lines, sheet_text, refusal};
 
 use cost::Plain;
 use grid::pairs_of;
@@ -18,30 +18,11 @@ use std::alloc::{AllocError, Global};
 pub fn refusal_line(heap: Global, fault: Fault) -> Result<String, AllocError>
     ensures { IfOk result (λ text. string_bytes text ≡ refusal fault) }
 {
-    refusal_text(
-        heap,
-        fault.cause.number(),
-        fault.place,
-        fault.layer.number(),
-    )
+    format!(in heap; "{fault}\n")
 }
 
-fn refusal_text(heap: Global, number: u8, place: usize, layer: u8) -> Result<String, AllocError>
-    ensures { IfOk result (λ text. string_bytes text ≡ refusal_line number place layer) }
-{
-    format!(in heap; "refused {number} at {place} layer {layer}\n")
-}
-
-// The line that tells a standing pair: `pair L R COST`.
-fn pair_line(heap: Global, left: u16, right: u16, cost: i64) -> Result<String, AllocError>
-    ensures { IfOk result (λ text. string_bytes text ≡ pair_line left right (Some cost)) }
-{
-    format!(in heap; "pair {left} {right} {cost}\n")
-}
-
-// Appends the line of a pair, if it stands.
+// Appends the line of a pair, if it stands: `pair L R COST`.
 fn push_pair(
-    heap: Global,
     text: &mut String,
     sheet: &OpenSheet,
     costs: &[Plain],
@@ -54,15 +35,14 @@ fn push_pair(
     ensures { is_ok result ≡ true → string_bytes text.new ≡ string_bytes text.old ++ pair_line left right (cost_in sheet.now costs.now standing.now left right) }
 {
     if let Ok(cost) = sheet.read(costs, standing, left, right) {
-        let line = pair_line(heap, left, right, cost.0)?;
-        text.push_str(&line)?;
+        let Plain(cost) = cost;
+        write!(text, "pair {left} {right} {cost}\n")?;
     }
     Ok(())
 }
 
 // Appends the lines of the pairs of a left block.
 fn push_row(
-    heap: Global,
     text: &mut String,
     sheet: &OpenSheet,
     costs: &[Plain],
@@ -74,14 +54,13 @@ fn push_row(
     ensures { is_ok result ≡ true → string_bytes text.new ≡ string_bytes text.old ++ row_lines sheet.now costs.now standing.now left sheet.now }
 {
     for right in 0..sheet.size() {
-        push_pair(heap, text, sheet, costs, standing, left, right)?;
+        push_pair(text, sheet, costs, standing, left, right)?;
     }
     Ok(())
 }
 
 // Appends the lines of all pairs.
 fn push_rows(
-    heap: Global,
     text: &mut String,
     sheet: &OpenSheet,
     costs: &[Plain],
@@ -91,7 +70,7 @@ fn push_rows(
     ensures { is_ok result ≡ true → string_bytes text.new ≡ string_bytes text.old ++ all_lines sheet.now costs.now standing.now sheet.now }
 {
     for left in 0..sheet.size() {
-        push_row(heap, text, sheet, costs, standing, left)?;
+        push_row(text, sheet, costs, standing, left)?;
     }
     Ok(())
 }
@@ -108,7 +87,7 @@ fn tell(
 {
     let n = sheet.size();
     let mut text = format!(in heap; "size {n}\n")?;
-    push_rows(heap, &mut text, sheet, costs, standing)?;
+    push_rows(&mut text, sheet, costs, standing)?;
     text.push_str("end\n")?;
     Ok(text)
 }

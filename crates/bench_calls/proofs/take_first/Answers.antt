@@ -1,8 +1,5 @@
 -- The optimum pairing is one over the tight rows, so that `first` accepts it, and what it makes of it is the first optimum pairing.
-use mathlib.Core.Path.{◌≡◌, sym, ◌∙◌}
-use lib.ListN.{length}
-use native.Mathlib.Omega.{arith}
-use borrow.Author.Rules.{rules}
+use Rattle.std.proofs.Common.{◌≡◌, length, sym, ◌∙◌, arith, rules}
 use Rattle.matching.specs.Rows.{Pairs}
 use Rattle.bench_calls.proofs.Firsts.{accepted, settled, never_refused}
 use Rattle.bench_calls.proofs.take_first.Goals as goal

@@ -9,8 +9,8 @@ use Rattle.orderfile.specs.Loading.{plain}
 use Rattle.report.specs.Text.{pair_line}
 use Rattle.report.proofs.push_pair.Goals as goal
 
-pub returns-in_ok-push_str : goal.returns-in_ok-push_str
-returns-in_ok-push_str c = λ _.
+pub returns-in_ok-write : goal.returns-in_ok-write
+returns-in_ok-write c = λ _.
     let n = c.args.sheet.now in
     let l = c.args.left in
     let r = c.args.right in
@@ -19,8 +19,9 @@ returns-in_ok-push_str c = λ _.
     let here : cell (plain (pos 0)) n c.args.costs.now c.args.standing.now l r ≡ Some c.in-Ok.cost = cond-true _ _ _ read.0 ∙ ap Some (sym read.1) in
     let z = c.in-Ok.cost.0 in
     let fits : SFits w64 z = search rules in
-    c.in_ok-push_str.ensures.bytes
-    ∙ ap (λ t. string_bytes c.args.text.now ++ t) (c.deref.ensures ∙ c.in_ok-line.ensures ∙ ap (λ x. pair_line l r (Some x)) (to_z-of_z w64 z fits) ∙ ap (λ o. pair_line l r (option_map (λ p. p.0) o)) (sym here))
+    c.in_ok-write.ensures.bytes
+    ∙ ap (λ x. string_bytes c.args.text.now ++ pair_line l r (Some x)) (to_z-of_z w64 z fits)
+    ∙ ap (λ o. string_bytes c.args.text.now ++ pair_line l r (option_map (λ p. p.0) o)) (sym here)
 
 pub returns-in_default : goal.returns-in_default
 returns-in_default c = λ _.

@@ -3,7 +3,7 @@ use Rattle.std.proofs.Common.{false, sym, subst}
 use mathlib.Core.Path.{fun_ext}
 use Rattle.blockset.specs.Has.{has}
 use Rattle.assign.specs.Pairs.{Paired}
-use Rattle.assign.proofs.Removing.{still_in, fewer}
+use Rattle.blockset.proofs.Removing.{still_in, fewer}
 use Rattle.assign.proofs.pairs.pair_rest.Goals as goal
 
 pub loop-k-smaller : goal.loop-k-smaller

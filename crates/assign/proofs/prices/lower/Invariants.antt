@@ -1,9 +1,8 @@
--- The state of proofs/Lowering.antt, with a bound on what every distance is lowered by; each turn lowers the price of one right block of `rest`.
+-- The state of proofs/Lowering.antt, with a bound on what every distance is lowered by; each turn lowers the price of one right block that the iterator has left.
 use Rattle.std.proofs.Common.{length}
 use Rattle.cost.specs.Columns.{Within}
 use Rattle.cost.proofs.Weights.{weight}
 use Rattle.blockset.specs.Has.{has}
-use Rattle.blockset.specs.Sets.{members}
 use Rattle.tables.specs.Said.{columns_at}
 use Rattle.assign.specs.Weighed.{weight_at}
 use Rattle.assign.proofs.Lowering.{Lowering}
@@ -12,8 +11,6 @@ use Rattle.assign.proofs.prices.lower.Given as goal
 abbrev pub invariant-loop-c : goal.invariant-loop-c
 invariant-loop-c g l =
     let meaning = g.K.Cost.meaning in
-    Lowering (length l.dist) (has l.tree.open) (has l.rest) (weight (meaning l.far)) (weight_at meaning l.dist) (columns_at meaning l.initial.right) (columns_at meaning l.right)
+    (goal.iterator-loop-c g).can_next l.c-iterator × (goal.iterator-loop-c g).is_finite l.c-iterator
+    × Lowering (length l.dist) (has l.tree.open) (has l.c-iterator.rest) (weight (meaning l.far)) (weight_at meaning l.dist) (columns_at meaning l.initial.right) (columns_at meaning l.right)
     × Within 201000000000 (meaning l.far)
-
-abbrev pub decreases-loop-c : goal.decreases-loop-c
-decreases-loop-c g l = members 64 (has l.rest)

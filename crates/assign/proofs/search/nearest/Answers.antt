@@ -6,7 +6,6 @@ use Rattle.blockset.specs.Has.{has}
 use Rattle.tables.proofs.Filling.{value_at}
 use Rattle.assign.specs.Weighed.{weight_at}
 use Rattle.assign.proofs.Entries.{read_within}
-use Rattle.assign.proofs.Removing.{fewer}
 use Rattle.assign.proofs.Nearing.{nearing_none, nearing_keep, nearing_take, nearing_done}
 use Rattle.assign.proofs.search.nearest.Goals as goal
 
@@ -33,50 +32,53 @@ pub exact_difference-key-requires : goal.exact_difference-key-requires
 exact_difference-key-requires g c =
     let m = g.K.Cost.meaning in
     let i = c.in-Some.c in
-    let member = c.loop-least.invariant.part c.in-Some.c c.in-Some.ensures.1 in
+    let member = c.loop-c.invariant.2.part c.in-Some.c c.in-Some.ensures.steps.member in
     let inside = c.requires.inside c.in-Some.c member in
     record {
       first = read_within m 200000000000 500000000000000 c.args.dist.now i c.index-dist-c.result inside c.index-dist-c.is (omega arith) (c.requires.far i member);
       second = read_within m 500000000000 500000000000000 c.args.right.now i c.index-right-c.result (omega (arith, c.requires.sized)) c.index-right-c.is (omega arith) (c.requires.priced i inside);
     }
 
-pub loop-least-init : goal.loop-least-init
-loop-least-init g c =
+pub loop-c-init : goal.loop-c-init
+loop-c-init g c =
     let m = g.K.Cost.meaning in
     let i = c.in_ok-best.best in
     let member = c.in_ok-best.ensures.1 in
-    let inside = c.requires.inside c.in_ok-best.best member in
-    nearing_none (has c.args.set) (weight_at m c.args.right.now) (weight_at m c.args.dist.now) i (weight (m c.exact_difference-least.result)) member
-    (key_is m c.args.dist.now c.args.right.now i c.index-dist-best.result c.index-right-best.result (weight (m c.exact_difference-least.result)) inside (omega (arith, c.requires.sized)) c.index-dist-best.is c.index-right-best.is c.exact_difference-least.ensures.sum)
+    let inside = c.requires.inside c.in_ok-best.best member in (
+      tt,
+      tt,
+      rw c.into_iter-c-iterator.ensures.into_iter_gives (nearing_none (has c.args.set) (weight_at m c.args.right.now) (weight_at m c.args.dist.now) i (weight (m c.exact_difference-least.result)) member
+          (key_is m c.args.dist.now c.args.right.now i c.index-dist-best.result c.index-right-best.result (weight (m c.exact_difference-least.result)) inside (omega (arith, c.requires.sized)) c.index-dist-best.is c.index-right-best.is c.exact_difference-least.ensures.sum)),
+    )
 
-pub loop-least-smaller-then-is_less : goal.loop-least-smaller-then-is_less
-loop-least-smaller-then-is_less g c = fewer (has c.loop-least.rest) (has c.remove.new.self) c.in-Some.c c.remove.ensures c.in-Some.ensures.0 c.in-Some.ensures.1
-
-pub loop-least-smaller : goal.loop-least-smaller
-loop-least-smaller g c = fewer (has c.loop-least.rest) (has c.remove.new.self) c.in-Some.c c.remove.ensures c.in-Some.ensures.0 c.in-Some.ensures.1
-
-pub loop-least-preserved-then-is_less : goal.loop-least-preserved-then-is_less
-loop-least-preserved-then-is_less g c =
+pub loop-c-preserved-then-is_less : goal.loop-c-preserved-then-is_less
+loop-c-preserved-then-is_less g c =
     let m = g.K.Cost.meaning in
     let i = c.in-Some.c in
-    let inside = c.requires.inside c.in-Some.c (c.loop-least.invariant.part c.in-Some.c c.in-Some.ensures.1) in
-    let is = key_is m c.args.dist.now c.args.right.now i c.index-dist-c.result c.index-right-c.result (weight (m c.exact_difference-key.result)) inside (omega (arith, c.requires.sized)) c.index-dist-c.is c.index-right-c.is c.exact_difference-key.ensures.sum in
-    nearing_take (has c.args.set) (weight_at m c.args.right.now) (weight_at m c.args.dist.now) (has c.loop-least.rest) (has c.remove.new.self) i c.remove.ensures c.in-Some.ensures.1
-    c.loop-least.best (weight (m c.loop-least.least)) c.loop-least.invariant (weight (m c.exact_difference-key.result)) is (c.is_less.ensures.less c.if-is_less.true)
+    let inside = c.requires.inside c.in-Some.c (c.loop-c.invariant.2.part c.in-Some.c c.in-Some.ensures.steps.member) in
+    let is = key_is m c.args.dist.now c.args.right.now i c.index-dist-c.result c.index-right-c.result (weight (m c.exact_difference-key.result)) inside (omega (arith, c.requires.sized)) c.index-dist-c.is c.index-right-c.is c.exact_difference-key.ensures.sum in (
+      tt,
+      tt,
+      nearing_take (has c.args.set) (weight_at m c.args.right.now) (weight_at m c.args.dist.now) (has c.loop-c.c-iterator.rest) (has c.next.new.self.rest) i c.in-Some.ensures.steps.others c.in-Some.ensures.steps.member
+          c.loop-c.best (weight (m c.loop-c.least)) c.loop-c.invariant.2 (weight (m c.exact_difference-key.result)) is (c.is_less.ensures.less c.if-is_less.true),
+    )
 
-pub loop-least-preserved : goal.loop-least-preserved
-loop-least-preserved g c =
+pub loop-c-preserved : goal.loop-c-preserved
+loop-c-preserved g c =
     let m = g.K.Cost.meaning in
     let i = c.in-Some.c in
-    let inside = c.requires.inside c.in-Some.c (c.loop-least.invariant.part c.in-Some.c c.in-Some.ensures.1) in
+    let inside = c.requires.inside c.in-Some.c (c.loop-c.invariant.2.part c.in-Some.c c.in-Some.ensures.steps.member) in
     let is = key_is m c.args.dist.now c.args.right.now i c.index-dist-c.result c.index-right-c.result (weight (m c.exact_difference-key.result)) inside (omega (arith, c.requires.sized)) c.index-dist-c.is c.index-right-c.is c.exact_difference-key.ensures.sum in
-    let kept = c.is_less.ensures.not_less c.if-is_less.false in
-    nearing_keep (has c.args.set) (weight_at m c.args.right.now) (weight_at m c.args.dist.now) (has c.loop-least.rest) (has c.remove.new.self) i c.remove.ensures c.in-Some.ensures.1
-    c.loop-least.best (weight (m c.loop-least.least)) c.loop-least.invariant (omega (arith, ints))
+    let kept = c.is_less.ensures.not_less c.if-is_less.false in (
+      tt,
+      tt,
+      nearing_keep (has c.args.set) (weight_at m c.args.right.now) (weight_at m c.args.dist.now) (has c.loop-c.c-iterator.rest) (has c.next.new.self.rest) i c.in-Some.ensures.steps.others c.in-Some.ensures.steps.member
+          c.loop-c.best (weight (m c.loop-c.least)) c.loop-c.invariant.2 (omega (arith, ints)),
+    )
 
 pub returns : goal.returns
 returns g c =
     let m = g.K.Cost.meaning in (
-      c.requires.inside c.loop-least.best c.loop-least.invariant.member,
-      nearing_done (has c.args.set) (weight_at m c.args.right.now) (weight_at m c.args.dist.now) (has c.loop-least.rest) c.loop-least.best (weight (m c.loop-least.least)) c.loop-least.invariant c.in_default.ensures,
+      c.requires.inside c.loop-c.best c.loop-c.invariant.2.member,
+      nearing_done (has c.args.set) (weight_at m c.args.right.now) (weight_at m c.args.dist.now) (has c.loop-c.c-iterator.rest) c.loop-c.best (weight (m c.loop-c.least)) c.loop-c.invariant.2 c.in-None.ensures.steps,
     )

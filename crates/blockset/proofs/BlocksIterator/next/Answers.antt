@@ -1,0 +1,13 @@
+-- The set has one block fewer.
+use Rattle.blockset.specs.Has.{has}
+use Rattle.blockset.proofs.Removing.{fewer}
+use Rattle.blockset.proofs.BlocksIterator.next.Goals as goal
+
+pub returns-clause-goes : goal.returns-clause-goes
+returns-clause-goes c =
+    let taken = c.in_ok-least.ensures in
+    record {
+      on = λ _. (tt, tt, fewer (has c.args.self.now.rest) (has c.remove.new.self) c.in_ok-least.least c.remove.ensures taken.0 taken.1);
+      keeps = tt;
+      rests = λ f. tt;
+    }
