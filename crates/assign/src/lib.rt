@@ -30,7 +30,7 @@ use prices::{price_cheapest, price_greatest};
 use tables::{Unfit, standing_rows};
 
 /// What `optimum` finds.
-#[derive(Clone, Copy)]
+#[derive(Clone, Copy, Debug, PartialEq, Eq)]
 pub enum Outcome {
     /// The tables hold an optimum pairing and the greatest prices.
     Optimal,
@@ -40,7 +40,7 @@ pub enum Outcome {
 
 /// Why no pairing is perfect. The crowd set has the left blocks that some largest pairing leaves out, bit l for left block l; it is `short` of as many right blocks: that many
 /// fewer right blocks stand with any of it than it has left blocks.
-#[derive(Clone, Copy)]
+#[derive(Clone, Copy, Debug, PartialEq, Eq)]
 pub struct Shortfall {
     pub crowd: u64,
     pub short: usize,

@@ -8,7 +8,7 @@ ghost use Rattle.blockset.specs.Has.{has};
 ghost use Rattle.blockset.specs.Taking.{TakesLeast};
 
 /// A set of the block numbers 0 to 63. A number of 64 or more is no block: it is in no set, and inserting it changes nothing.
-#[derive(Clone, Copy)]
+#[derive(Clone, Copy, Debug, Default, PartialEq, Eq, Hash)]
 #[repr(C)]
 pub struct BlockSet(u64);
 
@@ -138,7 +138,7 @@ impl IntoIterator for BlockSet {
 }
 
 /// The blocks of a set, the least first.
-#[derive(Clone, Copy)]
+#[derive(Clone, Copy, Debug)]
 pub struct Blocks {
     rest: BlockSet,
 }

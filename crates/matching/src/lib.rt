@@ -19,9 +19,11 @@ ghost use Rattle.matching.specs.Steps.{Improved, Unimproved, Settled};
 ghost use Rattle.matching.specs.Answers.{Place, Steps, Marked, PairsMost};
 
 use blockset::BlockSet;
+use std::error::Error;
+use std::fmt;
 
 /// Why a call is refused: the tables that it is handed do not fit together. It then leaves them as they were.
-#[derive(Clone, Copy)]
+#[derive(Clone, Copy, Debug, PartialEq, Eq)]
 pub enum Unfit {
     /// There are more than 64 rows.
     Size,
@@ -31,8 +33,20 @@ pub enum Unfit {
     Pairing,
 }
 
+impl fmt::Display for Unfit {
+    fn fmt<W: fmt::Write>(&self, f: &mut fmt::Formatter<W>) -> fmt::Result {
+        f.write_str(match self {
+            Unfit::Size => "more than 64 rows",
+            Unfit::Length => "a table of the wrong length",
+            Unfit::Pairing => "no perfect pairing over the rows",
+        })
+    }
+}
+
+impl Error for Unfit {}
+
 /// Where a step from a perfect pairing leads.
-#[derive(Clone, Copy)]
+#[derive(Clone, Copy, Debug, PartialEq, Eq)]
 pub enum Step {
     /// To the next perfect pairing in dictionary order.
     Next,
@@ -41,7 +55,7 @@ pub enum Step {
 }
 
 /// What `largest` finds.
-#[derive(Clone, Copy)]
+#[derive(Clone, Copy, Debug, PartialEq, Eq)]
 pub enum Found {
     Perfect,
     Short(Shortfall),
@@ -49,7 +63,7 @@ pub enum Found {
 
 /// Why no pairing is perfect. The crowd set has the left blocks that some largest pairing leaves out, bit l for left block l; it
 /// is `short` of as many right blocks: that many fewer right blocks stand in any of its rows than it has left blocks.
-#[derive(Clone, Copy)]
+#[derive(Clone, Copy, Debug, PartialEq, Eq)]
 pub struct Shortfall {
     /// The left blocks that the pairing in the list leaves out.
     pub out: BlockSet,

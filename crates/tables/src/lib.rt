@@ -10,9 +10,11 @@ ghost use Rattle.tables.specs.Rows.{Passing, StandingRows, adds_up, TightRows};
 use blockset::BlockSet;
 use cost::Cost;
 use grid::{fits, stands};
+use std::error::Error;
+use std::fmt;
 
 /// Why tables are refused. They are then left as they were.
-#[derive(Clone, Copy)]
+#[derive(Clone, Copy, Debug, PartialEq, Eq)]
 pub enum Unfit {
     /// There are more than 64 blocks a plane.
     Size,
@@ -21,6 +23,18 @@ pub enum Unfit {
     /// A standing byte is above 1, or a standing pair's cost is not within 10^9.
     Order,
 }
+
+impl fmt::Display for Unfit {
+    fn fmt<W: fmt::Write>(&self, f: &mut fmt::Formatter<W>) -> fmt::Result {
+        f.write_str(match self {
+            Unfit::Size => "more than 64 blocks a plane",
+            Unfit::Length => "a table of the wrong length",
+            Unfit::Order => "a standing byte above 1, or a standing pair's cost not within 10^9",
+        })
+    }
+}
+
+impl Error for Unfit {}
 
 /// The right blocks that stand with one left block, whose standing bytes these are.
 fn standing_row(bytes: &[u8]) -> BlockSet
