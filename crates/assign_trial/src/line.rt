@@ -1,5 +1,9 @@
 //! A line of the input: `KIND N SEED COSTS PAIRS`, the cost kind, the number of blocks a plane, where the random numbers start, how the costs are made, and which pairs stand.
 
+use std::num::ParseIntError;
+use std::str::{FromStr, Split};
+use thiserror::Error;
+
 /// A cost kind; its name tells the number of columns and how two-step kinds are nested.
 #[derive(Clone, Copy)]
 pub enum Kind {
@@ -74,65 +78,103 @@ pub struct Order {
     pub pairs: Pairs,
 }
 
-fn read_kind(word: &str) -> Option<Kind> {
-    match word {
-        "plain" => Some(Kind::Plain),
-        "free" => Some(Kind::Free),
-        "two" => Some(Kind::Two),
-        "two-free" => Some(Kind::TwoFree),
-        "three-left" => Some(Kind::ThreeLeft),
-        "three-right" => Some(Kind::ThreeRight),
-        "four-even" => Some(Kind::FourEven),
-        "four-right" => Some(Kind::FourRight),
-        _ => None,
+/// Why a line names no sheet.
+#[derive(Debug, Drop, Error)]
+pub enum LineError {
+    #[error("a word is missing: a line is KIND N SEED COSTS PAIRS")]
+    MissingWord,
+    #[error("no such cost kind")]
+    Kind,
+    #[error("no such rule for costs")]
+    Costs,
+    #[error("no number where one has to be")]
+    Number,
+}
+
+impl From<ParseIntError> for LineError {
+    fn from(_error: ParseIntError) -> LineError {
+        LineError::Number
     }
 }
 
-fn read_costs(word: &str) -> Option<Costs> {
-    match word {
-        "wide" => Some(Costs::Wide),
-        "small" => Some(Costs::Small),
-        "bits" => Some(Costs::Bits),
-        "mixed" => Some(Costs::Mixed),
-        "equal" => Some(Costs::Equal),
-        "high" => Some(Costs::High),
-        "low" => Some(Costs::Low),
-        "checks" => Some(Costs::Checks),
-        "by-left" => Some(Costs::ByLeft),
-        "by-right" => Some(Costs::ByRight),
-        "corner" => Some(Costs::Corner),
-        "signs" => Some(Costs::Signs),
-        "edge" => Some(Costs::Edge),
-        "products" => Some(Costs::Products),
-        "steep" => Some(Costs::Steep),
-        "apart" => Some(Costs::Apart),
-        _ => None,
+impl FromStr for Kind {
+    type Err = LineError;
+
+    fn from_str(word: &str) -> Result<Kind, LineError> {
+        match word {
+            "plain" => Ok(Kind::Plain),
+            "free" => Ok(Kind::Free),
+            "two" => Ok(Kind::Two),
+            "two-free" => Ok(Kind::TwoFree),
+            "three-left" => Ok(Kind::ThreeLeft),
+            "three-right" => Ok(Kind::ThreeRight),
+            "four-even" => Ok(Kind::FourEven),
+            "four-right" => Ok(Kind::FourRight),
+            _ => Err(LineError::Kind),
+        }
     }
 }
 
-fn read_pairs(word: &str) -> Option<Pairs> {
-    match word {
-        "full" => Some(Pairs::Full),
-        "chain" => Some(Pairs::Chain),
-        "band" => Some(Pairs::Band),
-        "crowded" => Some(Pairs::Crowded),
-        _ => Some(Pairs::Percent(word.parse::<u64>().ok()?)),
+impl FromStr for Costs {
+    type Err = LineError;
+
+    fn from_str(word: &str) -> Result<Costs, LineError> {
+        match word {
+            "wide" => Ok(Costs::Wide),
+            "small" => Ok(Costs::Small),
+            "bits" => Ok(Costs::Bits),
+            "mixed" => Ok(Costs::Mixed),
+            "equal" => Ok(Costs::Equal),
+            "high" => Ok(Costs::High),
+            "low" => Ok(Costs::Low),
+            "checks" => Ok(Costs::Checks),
+            "by-left" => Ok(Costs::ByLeft),
+            "by-right" => Ok(Costs::ByRight),
+            "corner" => Ok(Costs::Corner),
+            "signs" => Ok(Costs::Signs),
+            "edge" => Ok(Costs::Edge),
+            "products" => Ok(Costs::Products),
+            "steep" => Ok(Costs::Steep),
+            "apart" => Ok(Costs::Apart),
+            _ => Err(LineError::Costs),
+        }
     }
 }
 
-/// The sheet that a line names, or `None` where it names none.
-pub fn read_order(line: &str) -> Option<Order> {
-    let mut words = line.split(' ');
-    let kind = read_kind(words.next()?)?;
-    let n = words.next()?.parse::<u16>().ok()?;
-    let seed = words.next()?.parse::<u64>().ok()?;
-    let costs = read_costs(words.next()?)?;
-    let pairs = read_pairs(words.next()?)?;
-    Some(Order {
-        kind,
-        n,
-        seed,
-        costs,
-        pairs,
-    })
+impl FromStr for Pairs {
+    type Err = LineError;
+
+    fn from_str(word: &str) -> Result<Pairs, LineError> {
+        match word {
+            "full" => Ok(Pairs::Full),
+            "chain" => Ok(Pairs::Chain),
+            "band" => Ok(Pairs::Band),
+            "crowded" => Ok(Pairs::Crowded),
+            _ => Ok(Pairs::Percent(word.parse()?)),
+        }
+    }
+}
+
+/// The next word as a value.
+fn word<'a, T: FromStr>(words: &mut Split<'a, char>) -> Result<T, LineError>
+where
+    LineError: From<T::Err>,
+{
+    let word = words.next().ok_or(LineError::MissingWord)?;
+    Ok(word.parse::<T>()?)
+}
+
+impl FromStr for Order {
+    type Err = LineError;
+
+    fn from_str(line: &str) -> Result<Order, LineError> {
+        let mut words = line.split(' ');
+        Ok(Order {
+            kind: word(&mut words)?,
+            n: word(&mut words)?,
+            seed: word(&mut words)?,
+            costs: word(&mut words)?,
+            pairs: word(&mut words)?,
+        })
+    }
 }

@@ -7,9 +7,9 @@ mod kinds;
 mod line;
 mod solve;
 
-use anyhow::anyhow;
+use anyhow::Context;
 use cost::{Free, Plain, TwoStep};
-use line::{Kind, Order, read_order};
+use line::{Kind, Order};
 use solve::solve;
 use std::alloc::Global;
 use std::io;
@@ -35,9 +35,9 @@ fn answer(heap: Global, order: Order) -> anyhow::Result<String> {
 fn run(rt: &HostRuntime) -> anyhow::Result<()> {
     let input = io::read_to_string(rt.alloc(), rt.stdin())?;
     for line in input.lines() {
-        let Some(order) = read_order(line) else {
-            return Err(anyhow!("a line names no sheet"));
-        };
+        let order = line
+            .parse::<Order>()
+            .context(format_args!("reading {line:?}"))?;
         println!(rt; "{line}")?;
         rt.print(answer(rt.alloc(), order)?)?;
     }
