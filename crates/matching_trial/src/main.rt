@@ -33,22 +33,11 @@ struct Most {
 
 // ---- Plain enumeration
 
-/// How many lists of `n` numbers below `base` there are, for up to six numbers and a base of `n` or `n + 1`.
-fn lists(base: usize, n: usize) -> u32 {
-    match (base, n) {
-        (1, 1) => 1,
-        (2, 1) => 2,
-        (2, 2) => 4,
-        (3, 2) => 9,
-        (3, 3) => 27,
-        (4, 3) => 64,
-        (4, 4) => 256,
-        (5, 4) => 625,
-        (5, 5) => 3125,
-        (6, 5) => 7776,
-        (6, 6) => 46656,
-        _ => 117649,
-    }
+/// How many lists of `n` numbers below `base` there are.
+fn lists(base: u32, n: usize) -> u32
+    requires { n ≤ 6 }
+{
+    base.saturating_pow(n as u32)
 }
 
 /// The list of `n` digits of a number: counting the number up goes through the lists in dictionary order.
@@ -58,8 +47,8 @@ fn digits(number: u32, base: u32, n: usize) -> [u16; 6]
 {
     let mut list = [0u16; 6];
     let mut rest = number;
-    for i in (0..n).rev() {
-        list[i] = (rest % base) as u16;
+    for digit in list[0..n].iter_mut().rev() {
+        *digit = (rest % base) as u16;
         rest /= base;
     }
     list
@@ -71,8 +60,8 @@ fn left_out(sheet: Sheet, list: &[u16; 6]) -> Option<BlockSet>
 {
     let mut out = BlockSet::empty();
     let mut seen = BlockSet::empty();
-    for l in 0..sheet.n {
-        let r = list[l] as usize;
+    for (l, r) in list[0..sheet.n].iter().enumerate() {
+        let r = *r as usize;
         if r == sheet.n {
             out.insert(l);
         } else if r > sheet.n || seen.contains(r) || !sheet.rows[l].contains(r) {
@@ -87,10 +76,7 @@ fn left_out(sheet: Sheet, list: &[u16; 6]) -> Option<BlockSet>
 fn is_perfect(sheet: Sheet, list: &[u16; 6]) -> bool
     requires { sheet.n ≤ 6 }
 {
-    match left_out(sheet, list) {
-        Some(out) => out.is_empty(),
-        None => false,
-    }
+    left_out(sheet, list).is_some_and(|out| out.is_empty())
 }
 
 /// Goes through all pairings of a sheet that leave any blocks out.
@@ -99,7 +85,7 @@ fn count_most(sheet: Sheet) -> Most
 {
     let mut pairs = 0;
     let mut crowd = BlockSet::all(sheet.n);
-    for number in 0..lists(sheet.n + 1, sheet.n) {
+    for number in 0..lists(sheet.n as u32 + 1, sheet.n) {
         let list = digits(number, sheet.n as u32 + 1, sheet.n);
         if let Some(out) = left_out(sheet, &list) {
             let paired = BlockSet::all(sheet.n).difference(out).len();
@@ -132,7 +118,7 @@ fn occurring(sheet: Sheet) -> [BlockSet; 6]
     requires { (0 < sheet.n) × (sheet.n ≤ 6) }
 {
     let mut pairs = [BlockSet::empty(); 6];
-    for number in 0..lists(sheet.n, sheet.n) {
+    for number in 0..lists(sheet.n as u32, sheet.n) {
         let list = digits(number, sheet.n as u32, sheet.n);
         if is_perfect(sheet, &list) {
             join(&mut pairs, &list);
@@ -143,24 +129,12 @@ fn occurring(sheet: Sheet) -> [BlockSet; 6]
 
 /// Puts the pairs of a list into the rows.
 fn join(pairs: &mut [BlockSet; 6], list: &[u16; 6]) {
-    for l in 0..6 {
-        pairs[l].insert(list[l] as usize);
+    for (row, r) in pairs.iter_mut().zip(list) {
+        row.insert(*r as usize);
     }
 }
 
 // ---- Comparing
-
-/// Whether the first `n` numbers of two lists are the same.
-fn same(n: usize, a: &[u16; 6], b: &[u16; 6]) -> bool
-    requires { n ≤ 6 }
-{
-    for i in 0..n {
-        if a[i] != b[i] {
-            return false;
-        }
-    }
-    true
-}
 
 /// Whether an answer that the sheet has no perfect pairing is right, and the list in it is a pairing that leaves out what it says.
 fn short_is_right(sheet: Sheet, found: Most, s: Shortfall, list: &[u16; 6]) -> bool
@@ -172,12 +146,9 @@ fn short_is_right(sheet: Sheet, found: Most, s: Shortfall, list: &[u16; 6]) -> b
             kept[l] = sheet.n as u16;
         }
     }
-    let out = match left_out(sheet, &kept) {
-        Some(out) => out,
-        None => BlockSet::empty(),
-    };
+    let out = left_out(sheet, &kept).unwrap_or(BlockSet::empty());
     found.pairs < sheet.n
-        && out.bits() == s.out.bits()
+        && out == s.out
         && s.crowd == found.crowd.bits()
         && s.short == sheet.n - found.pairs
         && around(sheet, found.crowd).saturating_add(s.short) == found.crowd.len()
@@ -200,16 +171,16 @@ fn walk(sheet: Sheet, p: &mut [u16; 6], tally: &mut Tally)
 {
     let mut right = matching::first(&sheet.rows[0..sheet.n], &mut p[0..sheet.n]).is_ok();
     let mut ended = false;
-    for number in 0..lists(sheet.n, sheet.n) {
+    for number in 0..lists(sheet.n as u32, sheet.n) {
         let list = digits(number, sheet.n as u32, sheet.n);
         if is_perfect(sheet, &list) {
             tally.pairings = tally.pairings.saturating_add(1);
-            right = right && !ended && same(sheet.n, p, &list);
+            right = right && !ended && p[0..sheet.n] == list[0..sheet.n];
             match matching::next(&sheet.rows[0..sheet.n], &mut p[0..sheet.n]) {
                 Ok(Step::Next) => {}
                 Ok(Step::End) => {
                     ended = true;
-                    right = right && same(sheet.n, p, &list);
+                    right = right && p[0..sheet.n] == list[0..sheet.n];
                 }
                 Err(_) => right = false,
             }
@@ -244,10 +215,7 @@ fn marks_are_right(sheet: Sheet, p: &[u16; 6]) -> bool
     }
     let pairs = occurring(sheet);
     for i in 0..places {
-        let row = match pairs.get(i / sheet.n) {
-            Some(row) => *row,
-            None => BlockSet::empty(),
-        };
+        let row = pairs.get(i / sheet.n).copied().unwrap_or(BlockSet::empty());
         if table[i] != u8::from(row.contains(i % sheet.n)) {
             return false;
         }
