@@ -7,6 +7,8 @@ ghost use Rattle.std.specs.Iterator.{at_most};
 ghost use Rattle.blockset.specs.Has.{has};
 ghost use Rattle.blockset.specs.Taking.{TakesLeast};
 
+use std::marker::Model;
+
 /// A set of the block numbers 0 to 63. A number of 64 or more is no block: it is in no set, and inserting it changes nothing.
 #[derive(Clone, Copy, Debug, Default, PartialEq, Eq, Hash)]
 #[repr(C)]
@@ -130,25 +132,33 @@ impl IntoIterator for BlockSet {
 
     type IntoIter = Blocks;
 
-    ghost into_iter_gives = { λ set blocks. blocks.rest ≡ set };
+    ghost into_iter_gives = { λ set blocks. blocks ≡ set };
 
     fn into_iter(self) -> Blocks {
         Blocks { rest: self }
     }
 }
 
-/// The blocks of a set, the least first.
-#[derive(Clone, Copy, Debug)]
+/// The blocks of a set, the least first. A contract sees the set of those that are left.
+#[derive(Debug, Drop)]
 pub struct Blocks {
     rest: BlockSet,
+}
+
+impl Model for Blocks {
+    ghost use Rattle.blockset.specs.declared.BlockSet.{BlockSet};
+
+    ghost Value = { BlockSet };
+
+    ghost view = { λ blocks. blocks.rest };
 }
 
 impl Iterator for Blocks {
     type Item = usize;
 
-    ghost next_gives = { λ before block after. TakesLeast before.rest block after.rest };
+    ghost next_gives = { TakesLeast };
 
-    ghost remaining = { λ blocks. at_most (members 64 (has blocks.rest)) };
+    ghost remaining = { λ blocks. at_most (members 64 (has blocks)) };
 
     fn next(&mut self) -> Option<usize> {
         let least = self.rest.least()?;

@@ -7,7 +7,7 @@ use Rattle.std.proofs.lemmas.List.{get_or-set_same, get_or-set_other, places}
 use Rattle.std.proofs.lemmas.Bool.Decides.{Decides-at, same_from_decides}
 use Rattle.std.proofs.lemmas.Bool.{cases_eq, cases_Bool, both_ways, and_parts, and_from, cond-true, cond-false, lt-ltb, ltb-true}
 use Rattle.blockset.specs.declared.BlockSet.{BlockSet}
-use Rattle.blockset.specs.Has.{has}
+use Rattle.blockset.specs.Has.{no_blocks, has}
 use Rattle.pairing.specs.Grid.{at}
 use Rattle.pairing.specs.Chains.{Chain, here, step}
 use Rattle.pairing.specs.Optima.{has_pair}
@@ -97,12 +97,12 @@ pub led_more : (rows : List BlockSet) (p : List ℕ) (led : List BlockSet) (l : 
 led_more rows p led l s few sized h i before new x c j k =
     elim (cases_eq x l) [
       | inl e ↦
-          let same : get_or (set led (at p l) s) (at p x) (record { 0 = 0 }) ≡ s =
-          ap (λ y. get_or (set led (at p l) s) (at p y) (record { 0 = 0 })) e ∙ get_or-set_same led (at p l) s (record { 0 = 0 }) (omega (arith, h.below l i)) in
+          let same : get_or (set led (at p l) s) (at p x) no_blocks ≡ s =
+          ap (λ y. get_or (set led (at p l) s) (at p y) no_blocks) e ∙ get_or-set_same led (at p l) s no_blocks (omega (arith, h.below l i)) in
           Decides-at _ (has s c) (ap (λ y. has y c) same) (subst (λ y. Decides (has s c) (Chain (length rows) 0 (holds rows) p (at p y) c)) (sym e) (new c k))
       | inr ne ↦
           let apart : at p x ≡ at p l → ⊥ = λ e. ne (h.once x l (omega arith) i e) in
-          Decides-at _ (holds led (at p x) c) (ap (λ y. has y c) (get_or-set_other led (at p l) (at p x) s (record { 0 = 0 }) apart)) (before x c (omega arith) k)
+          Decides-at _ (holds led (at p x) c) (ap (λ y. has y c) (get_or-set_other led (at p l) (at p x) s no_blocks apart)) (before x c (omega arith) k)
     ]
 
 -- the pair of l and r occurs exactly if r is in l's row and a chain leads from r to the right block that l has

@@ -18,14 +18,14 @@ pub loop-c-preserved-then-contains : goal.loop-c-preserved-then-contains
 loop-c-preserved-then-contains c =
     let priced = has c.args.cheapest.now.priced in
     let row = at c.args.cheapest.now.row in
-    let rest = has c.loop-c.c-iterator.rest in
+    let rest = has c.loop-c.c-iterator in
     let out = has c.loop-c.out in
     let partners = c.loop-c.partners in
     let owner = c.loop-c.owner in
     let r = c.in-Some.c in
     let l = row r in
     let member = c.in-Some.ensures.steps.member in
-    let rest' = has c.next.new.self.rest in
+    let rest' = has c.next.new.self in
     let lies = cheapest_inside c.args.n priced row c.requires.inside rest out (at partners) (at owner) c.loop-c.invariant.2 r rest' c.in-Some.ensures.steps.others member in
     let in-partners : at c.args.cheapest.now.row c.in-Some.c < length c.loop-c.partners = omega (arith, c.requires.sized) in
     let in-owner : c.in-Some.c < length c.loop-c.owner = omega (arith, c.in-Some.ensures.steps.is_block, c.loop-c.invariant.3) in (
@@ -41,7 +41,7 @@ pub loop-c-preserved : goal.loop-c-preserved
 loop-c-preserved c = (
   tt,
   tt,
-  choosing_keep c.args.n (has c.args.cheapest.now.priced) (at c.args.cheapest.now.row) c.requires.inside (has c.loop-c.c-iterator.rest) (has c.loop-c.out) (at c.loop-c.partners) (at c.loop-c.owner) c.loop-c.invariant.2
-      c.in-Some.c (has c.next.new.self.rest) c.in-Some.ensures.steps.others,
+  choosing_keep c.args.n (has c.args.cheapest.now.priced) (at c.args.cheapest.now.row) c.requires.inside (has c.loop-c.c-iterator) (has c.loop-c.out) (at c.loop-c.partners) (at c.loop-c.owner) c.loop-c.invariant.2
+      c.in-Some.c (has c.next.new.self) c.in-Some.ensures.steps.others,
   c.loop-c.invariant.3,
 )

@@ -8,4 +8,4 @@ use Rattle.assign.proofs.pairs.pair_cheapest.Given as goal
 abbrev pub invariant-loop-c : goal.invariant-loop-c
 invariant-loop-c l =
     (goal.iterator-loop-c).can_next l.c-iterator × (goal.iterator-loop-c).is_finite l.c-iterator
-    × Choosing l.n (has l.cheapest.priced) (at l.cheapest.row) (has l.c-iterator.rest) (has l.out) (at l.partners) (at l.owner) × (length l.owner ≡ 64)
+    × Choosing l.n (has l.cheapest.priced) (at l.cheapest.row) (has l.c-iterator) (has l.out) (at l.partners) (at l.owner) × (length l.owner ≡ 64)

@@ -58,8 +58,8 @@ loop-c-preserved g c =
     let in_right : c.in-Some.c < length c.loop-c.right = omega (arith, c.requires.sized) in (
       tt,
       tt,
-      lowering_take n (has c.args.tree.now.open) (weight (meaning far)) (weight_at meaning dist) (columns_at meaning c.args.right.now) (has c.loop-c.c-iterator.rest) (columns_at meaning right) c.loop-c.invariant.2
-          r (has c.next.new.self.rest) (columns_at meaning (set right r x)) member c.in-Some.ensures.steps.others
+      lowering_take n (has c.args.tree.now.open) (weight (meaning far)) (weight_at meaning dist) (columns_at meaning c.args.right.now) (has c.loop-c.c-iterator) (columns_at meaning right) c.loop-c.invariant.2
+          r (has c.next.new.self) (columns_at meaning (set right r x)) member c.in-Some.ensures.steps.others
           (put_weighs meaning right r x in_right (meaning c.index-dist-c.result) (columns_at meaning dist r) (meaning far) (meaning far) c.exact_difference.ensures.sum
           (value_at meaning dist r c.index-dist-c.result waits.0 c.index-dist-c.is) refl)
           (put_within meaning right r x in_right 500000000000
@@ -80,7 +80,7 @@ returns g c =
     let tree = c.args.tree.now in
     let in_right : c.args.goal < length c.args.right.now = omega (arith, c.requires.sized, c.requires.inside) in
     record {
-      lowered = lowering_done (length dist) (has tree.open) (weight (meaning c.exact_difference-far.result)) (weight_at meaning dist) (columns_at meaning right) (has c.loop-c.c-iterator.rest)
+      lowered = lowering_done (length dist) (has tree.open) (weight (meaning c.exact_difference-far.result)) (weight_at meaning dist) (columns_at meaning right) (has c.loop-c.c-iterator)
           (columns_at meaning c.loop-c.right) c.loop-c.invariant.2 goal (has tree.reached) tree.turn c.in-None.ensures.steps
           (difference_weighs (weight (meaning c.exact_difference-far.result)) (meaning c.index-dist-goal.result) (columns_at meaning dist goal) (meaning c.index-right-goal.result) (columns_at meaning right goal)
           c.exact_difference-far.ensures.sum (value_at meaning dist goal c.index-dist-goal.result c.requires.inside c.index-dist-goal.is) (value_at meaning right goal c.index-right-goal.result in_right c.index-right-goal.is));

@@ -12,5 +12,5 @@ abbrev pub invariant-loop-c : goal.invariant-loop-c
 invariant-loop-c g l =
     let meaning = g.K.Cost.meaning in
     (goal.iterator-loop-c g).can_next l.c-iterator × (goal.iterator-loop-c g).is_finite l.c-iterator
-    × Lowering (length l.dist) (has l.tree.open) (has l.c-iterator.rest) (weight (meaning l.far)) (weight_at meaning l.dist) (columns_at meaning l.initial.right) (columns_at meaning l.right)
+    × Lowering (length l.dist) (has l.tree.open) (has l.c-iterator) (weight (meaning l.far)) (weight_at meaning l.dist) (columns_at meaning l.initial.right) (columns_at meaning l.right)
     × Within 201000000000 (meaning l.far)

@@ -59,7 +59,7 @@ loop-c-preserved-then-is_less g c =
     let is = key_is m c.args.dist.now c.args.right.now i c.index-dist-c.result c.index-right-c.result (weight (m c.exact_difference-key.result)) inside (omega (arith, c.requires.sized)) c.index-dist-c.is c.index-right-c.is c.exact_difference-key.ensures.sum in (
       tt,
       tt,
-      nearing_take (has c.args.set) (weight_at m c.args.right.now) (weight_at m c.args.dist.now) (has c.loop-c.c-iterator.rest) (has c.next.new.self.rest) i c.in-Some.ensures.steps.others c.in-Some.ensures.steps.member
+      nearing_take (has c.args.set) (weight_at m c.args.right.now) (weight_at m c.args.dist.now) (has c.loop-c.c-iterator) (has c.next.new.self) i c.in-Some.ensures.steps.others c.in-Some.ensures.steps.member
           c.loop-c.best (weight (m c.loop-c.least)) c.loop-c.invariant.2 (weight (m c.exact_difference-key.result)) is (c.is_less.ensures.less c.if-is_less.true),
     )
 
@@ -72,7 +72,7 @@ loop-c-preserved g c =
     let kept = c.is_less.ensures.not_less c.if-is_less.false in (
       tt,
       tt,
-      nearing_keep (has c.args.set) (weight_at m c.args.right.now) (weight_at m c.args.dist.now) (has c.loop-c.c-iterator.rest) (has c.next.new.self.rest) i c.in-Some.ensures.steps.others c.in-Some.ensures.steps.member
+      nearing_keep (has c.args.set) (weight_at m c.args.right.now) (weight_at m c.args.dist.now) (has c.loop-c.c-iterator) (has c.next.new.self) i c.in-Some.ensures.steps.others c.in-Some.ensures.steps.member
           c.loop-c.best (weight (m c.loop-c.least)) c.loop-c.invariant.2 (omega (arith, ints)),
     )
 
@@ -80,5 +80,5 @@ pub returns : goal.returns
 returns g c =
     let m = g.K.Cost.meaning in (
       c.requires.inside c.loop-c.best c.loop-c.invariant.2.member,
-      nearing_done (has c.args.set) (weight_at m c.args.right.now) (weight_at m c.args.dist.now) (has c.loop-c.c-iterator.rest) c.loop-c.best (weight (m c.loop-c.least)) c.loop-c.invariant.2 c.in-None.ensures.steps,
+      nearing_done (has c.args.set) (weight_at m c.args.right.now) (weight_at m c.args.dist.now) (has c.loop-c.c-iterator) c.loop-c.best (weight (m c.loop-c.least)) c.loop-c.invariant.2 c.in-None.ensures.steps,
     )

@@ -41,7 +41,7 @@ loop-c-preserved-in-loop-c g c =
       tt,
       tt,
       offering_take s (columns_at m c.args.costs.now) c.args.from (has c.args.to) (has c.args.reached) (columns_at m c.args.dist.now) (at c.args.via.now)
-          (has c.loop-c.c-iterator.rest) (has c.next.new.self.rest) i c.in-Some.ensures.steps.others c.in-Some.ensures.steps.member d' (at c.loop-c.via) c.loop-c.invariant.2
+          (has c.loop-c.c-iterator) (has c.next.new.self) i c.in-Some.ensures.steps.others c.in-Some.ensures.steps.member d' (at c.loop-c.via) c.loop-c.invariant.2
           (columns_at m (set c.loop-c.dist i x)) (at (set c.loop-c.via i c.args.from))
           (λ j ne. (put_other m c.loop-c.dist i j x ne, get_or-set_other c.loop-c.via i j c.args.from 0 ne))
           w-here
@@ -73,6 +73,6 @@ loop-c-preserved g c =
       tt,
       tt,
       offering_keep s (columns_at m c.args.costs.now) c.args.from (has c.args.to) (has c.args.reached) (columns_at m c.args.dist.now) (at c.args.via.now)
-          (has c.loop-c.c-iterator.rest) (has c.next.new.self.rest) i c.in-Some.ensures.steps.others c.in-Some.ensures.steps.member (columns_at m c.loop-c.dist) (at c.loop-c.via) c.loop-c.invariant.2
+          (has c.loop-c.c-iterator) (has c.next.new.self) i c.in-Some.ensures.steps.others c.in-Some.ensures.steps.member (columns_at m c.loop-c.dist) (at c.loop-c.via) c.loop-c.invariant.2
           (sym c.contains.ensures ∙ c.if-not-contains.false) (omega (arith, ints)),
     )
