@@ -51,7 +51,7 @@ passed (Ended n) rest = 0
 
 -- one step of a record reader that stands at a stage, with `rest` left from the offset `at` on: it answers the fault of the next field and stays,
 -- or else answers its record and stands behind it
-pub record Steps (stage : Stage) (rest : List ℕ) (at : ℕ) (r : Result (Option Record) Fault) (stage' : Stage) (rest' : List ℕ) (at' : ℕ) : Type 0 where
+pub record StepsFrom (stage : Stage) (rest : List ℕ) (at : ℕ) (r : Result (Option Record) Fault) (stage' : Stage) (rest' : List ℕ) (at' : ℕ) : Type 0 where
   pub answers : r ≡ answer (field_fault stage rest at) (record_next stage rest)
   pub stages : stage' ≡ after (field_fault stage rest at) stage (stage_next stage rest)
   pub passes : rest' ≡ after (field_fault stage rest at) rest (drop (passed stage rest) rest)

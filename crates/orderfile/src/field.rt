@@ -24,24 +24,26 @@ pub struct FieldReader<'a> {
 }
 
 impl<'a> FieldReader<'a> {
+    ghost use Rattle.orderfile.specs.Readers.{rest_of, offset_of};
+
     /// A reader that stands before the first field.
     pub fn new(file: &'a [u8]) -> FieldReader<'a>
-        ensures whole { result.rest.now ≡ file.now }
-        ensures first { result.at ≡ 0 }
+        ensures whole { rest_of result ≡ file.now }
+        ensures first { offset_of result ≡ 0 }
     {
         FieldReader { rest: file, at: 0 }
     }
 
     /// The offset of the next field's tag.
     pub fn place(&self) -> usize
-        ensures { result ≡ self.now.at }
+        ensures { result ≡ offset_of self.now }
     {
         self.at
     }
 
     /// Whether no byte is left.
     pub fn is_done(&self) -> bool
-        ensures { result ≡ (length self.now.rest.now == 0) }
+        ensures { result ≡ (length (rest_of self.now) == 0) }
     {
         self.rest.is_empty()
     }
@@ -49,9 +51,9 @@ impl<'a> FieldReader<'a> {
     /// Hands out the next field and moves behind it; refuses a field that runs past the file, and
     /// then stays before it.
     pub fn next(&mut self) -> Result<Field<'a>, Fault>
-        ensures hands { MatchResult result (λ field. Handed self.old.rest.now self.old.at field.tag field.value.now field.place) (λ f. RunsPast self.old.rest.now self.old.at f) }
-        ensures passes { self.new.rest.now ≡ (if overruns self.old.rest.now then self.old.rest.now else drop (extent self.old.rest.now) self.old.rest.now) }
-        ensures moves { self.new.at ≡ (if overruns self.old.rest.now then self.old.at else self.old.at + extent self.old.rest.now) }
+        ensures hands { MatchResult result (λ field. Handed (rest_of self.old) (offset_of self.old) field.tag field.value.now field.place) (RunsPast (rest_of self.old) (offset_of self.old)) }
+        ensures passes { rest_of self.new ≡ (if overruns (rest_of self.old) then rest_of self.old else drop (extent (rest_of self.old)) (rest_of self.old)) }
+        ensures moves { offset_of self.new ≡ (if overruns (rest_of self.old) then offset_of self.old else offset_of self.old + extent (rest_of self.old)) }
     {
         let rest = self.rest;
         if rest.len() < 3 {

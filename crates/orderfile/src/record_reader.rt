@@ -4,7 +4,8 @@ ghost use Rattle.std.specs.Prelude.{◌≡◌, length};
 ghost use Rattle.sheet.specs.Refusals.{first_of, answer};
 ghost use Rattle.orderfile.specs.Faults.{size_checks, pair_checks, end_checks, record_fault};
 ghost use Rattle.orderfile.specs.Format.{pair_in};
-ghost use Rattle.orderfile.specs.Records.{size_in, record_in, stage_after, Steps};
+ghost use Rattle.orderfile.specs.Records.{size_in, record_in, stage_after};
+ghost use Rattle.orderfile.specs.Readers.{rest_of, offset_of, fields_of, stage_of, Steps};
 ghost use Rattle.orderfile.specs.declared.record.Record.TheVariants.{End as EndRecord};
 ghost use Rattle.orderfile.specs.declared.record.Stage.TheVariants.{Start as AtStart};
 
@@ -23,9 +24,9 @@ pub struct RecordReader<'a> {
 impl<'a> RecordReader<'a> {
     /// A reader that stands before the first record.
     pub fn new(file: &'a [u8]) -> RecordReader<'a>
-        ensures whole { result.fields.rest.now ≡ file.now }
-        ensures first { result.fields.at ≡ 0 }
-        ensures starts { result.stage ≡ AtStart }
+        ensures whole { rest_of (fields_of result) ≡ file.now }
+        ensures first { offset_of (fields_of result) ≡ 0 }
+        ensures starts { stage_of result ≡ AtStart }
     {
         RecordReader {
             fields: FieldReader::new(file),
@@ -35,7 +36,7 @@ impl<'a> RecordReader<'a> {
 
     /// The next record, or none where the file is at its end; a fault leaves the reader before it.
     pub fn next(&mut self) -> Result<Option<Record>, Fault>
-        ensures { Steps self.old.stage self.old.fields.rest.now self.old.fields.at result self.new.stage self.new.fields.rest.now self.new.fields.at }
+        ensures { Steps self.old result self.new }
     {
         if let Stage::Ended(_) = self.stage {
             return if self.fields.is_done() {
