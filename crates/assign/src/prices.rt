@@ -17,14 +17,13 @@ use crate::sums::exact_difference;
 use crate::tree::{Cheapest, Tree};
 use blockset::BlockSet;
 use cost::Cost;
+use grid::fill;
 
 /// Writes zero everywhere.
 fn clear<K: Cost>(table: &mut [K])
     ensures { table.new ≡ replicate (length table.old) K.nought }
 {
-    for x in table.iter_mut() {
-        *x = K::zero();
-    }
+    fill(table, K::zero());
 }
 
 /// Makes the price of each right block the least cost that it stands at.

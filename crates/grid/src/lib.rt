@@ -1,7 +1,7 @@
 //! The two pair tables that a caller lends: where a pair lies in them, and what they say of it.
 #![tactic(auto)]
 
-ghost use Rattle.std.specs.Prelude.{◌≡◌, ◌*◌, ◌≤◌, length};
+ghost use Rattle.std.specs.Prelude.{◌≡◌, ◌*◌, ◌≤◌, length, replicate};
 ghost use Rattle.grid.specs.Tables.{place_of, fitting, says_stands, says_disturbed, place_orderly, orderly, standing_pairs};
 
 use cost::Cost;
@@ -79,4 +79,13 @@ pub fn standing_pairs(standing: &[u8]) -> usize
         }
     }
     pairs
+}
+
+/// Writes `value` everywhere.
+pub fn fill<T: Copy>(table: &mut [T], value: T)
+    ensures { table.new ≡ replicate (length table.old) value }
+{
+    for x in table.iter_mut() {
+        *x = value;
+    }
 }

@@ -34,10 +34,8 @@ struct Most {
 // ---- Plain enumeration
 
 /// How many lists of `n` numbers below `base` there are.
-fn lists(base: u32, n: usize) -> u32
-    requires { n ≤ 6 }
-{
-    base.saturating_pow(n as u32)
+fn lists(base: u32, n: u32) -> u32 {
+    base.saturating_pow(n)
 }
 
 /// The list of `n` digits of a number: counting the number up goes through the lists in dictionary order.
@@ -85,7 +83,7 @@ fn count_most(sheet: Sheet) -> Most
 {
     let mut pairs = 0;
     let mut crowd = BlockSet::all(sheet.n);
-    for number in 0..lists(sheet.n as u32 + 1, sheet.n) {
+    for number in 0..lists(sheet.n as u32 + 1, sheet.n as u32) {
         let list = digits(number, sheet.n as u32 + 1, sheet.n);
         if let Some(out) = left_out(sheet, &list) {
             let paired = BlockSet::all(sheet.n).difference(out).len();
@@ -118,7 +116,7 @@ fn occurring(sheet: Sheet) -> [BlockSet; 6]
     requires { (0 < sheet.n) × (sheet.n ≤ 6) }
 {
     let mut pairs = [BlockSet::empty(); 6];
-    for number in 0..lists(sheet.n as u32, sheet.n) {
+    for number in 0..lists(sheet.n as u32, sheet.n as u32) {
         let list = digits(number, sheet.n as u32, sheet.n);
         if is_perfect(sheet, &list) {
             join(&mut pairs, &list);
@@ -171,7 +169,7 @@ fn walk(sheet: Sheet, p: &mut [u16; 6], tally: &mut Tally)
 {
     let mut right = matching::first(&sheet.rows[0..sheet.n], &mut p[0..sheet.n]).is_ok();
     let mut ended = false;
-    for number in 0..lists(sheet.n as u32, sheet.n) {
+    for number in 0..lists(sheet.n as u32, sheet.n as u32) {
         let list = digits(number, sheet.n as u32, sheet.n);
         if is_perfect(sheet, &list) {
             tally.pairings = tally.pairings.saturating_add(1);

@@ -1,7 +1,7 @@
 //! Order files as text: what a file states, or why it is refused.
 #![tactic(auto)]
 
-ghost use Rattle.std.specs.Prelude.{◌≡◌, ◌<◌, true, ◌++◌, is_ok, IfOk, Some, string_bytes};
+ghost use Rattle.std.specs.Prelude.{◌≡◌, ◌<◌, ◌++◌, IfOk, OnOk, Some, string_bytes};
 ghost use Rattle.orderfile.specs.Format.{Order, States};
 ghost use Rattle.orderfile.specs.Loading.{Fitting};
 ghost use Rattle.report.specs.Describing.{Describes};
@@ -32,7 +32,7 @@ fn push_pair(
 ) -> Result<(), AllocError>
     requires fitting { Fitting sheet.now costs.now standing.now }
     requires inside { (left < sheet.now) × (right < sheet.now) }
-    ensures { is_ok result ≡ true → string_bytes text.new ≡ string_bytes text.old ++ pair_line left right (cost_in sheet.now costs.now standing.now left right) }
+    ensures { OnOk result (string_bytes text.new ≡ string_bytes text.old ++ pair_line left right (cost_in sheet.now costs.now standing.now left right)) }
 {
     if let Ok(cost) = sheet.read(costs, standing, left, right) {
         let Plain(cost) = cost;
@@ -51,7 +51,7 @@ fn push_row(
 ) -> Result<(), AllocError>
     requires fitting { Fitting sheet.now costs.now standing.now }
     requires inside { left < sheet.now }
-    ensures { is_ok result ≡ true → string_bytes text.new ≡ string_bytes text.old ++ row_lines sheet.now costs.now standing.now left sheet.now }
+    ensures { OnOk result (string_bytes text.new ≡ string_bytes text.old ++ row_lines sheet.now costs.now standing.now left sheet.now) }
 {
     for right in 0..sheet.size() {
         push_pair(text, sheet, costs, standing, left, right)?;
@@ -67,7 +67,7 @@ fn push_rows(
     standing: &[u8],
 ) -> Result<(), AllocError>
     requires { Fitting sheet.now costs.now standing.now }
-    ensures { is_ok result ≡ true → string_bytes text.new ≡ string_bytes text.old ++ all_lines sheet.now costs.now standing.now sheet.now }
+    ensures { OnOk result (string_bytes text.new ≡ string_bytes text.old ++ all_lines sheet.now costs.now standing.now sheet.now) }
 {
     for left in 0..sheet.size() {
         push_row(text, sheet, costs, standing, left)?;

@@ -10,7 +10,7 @@ use Rattle.report.specs.Text.{pair_line}
 use Rattle.report.proofs.push_pair.Goals as goal
 
 pub returns-in_ok-write : goal.returns-in_ok-write
-returns-in_ok-write c = λ _.
+returns-in_ok-write c =
     let n = c.args.sheet.now in
     let l = c.args.left in
     let r = c.args.right in
@@ -24,7 +24,7 @@ returns-in_ok-write c = λ _.
     ∙ ap (λ o. string_bytes c.args.text.now ++ pair_line l r (option_map (λ p. p.0) o)) (sym here)
 
 pub returns-in_default : goal.returns-in_default
-returns-in_default c = λ _.
+returns-in_default c =
     let n = c.args.sheet.now in
     let l = c.args.left in
     let r = c.args.right in

@@ -7,4 +7,4 @@ use Rattle.report.proofs.push_row.Goals as goal
 pub loop-right-preserved : goal.loop-right-preserved
 loop-right-preserved c =
     up_more (string_bytes c.args.text.now) _ _ (λ r. pair_line c.args.left r (cost_in c.args.sheet.now c.args.costs.now c.args.standing.now c.args.left r)) c.loop-right.right
-    c.loop-right.invariant (c.in_ok-push_pair.ensures refl)
+    c.loop-right.invariant (c.in_ok-push_pair.ensures)

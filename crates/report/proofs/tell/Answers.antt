@@ -13,5 +13,5 @@ returns c =
     let lines = all_lines n c.args.costs.now c.args.standing.now n in
     let first : string_bytes c.in_ok-text.text ≡ head n = c.in_ok-text.ensures.ok ∙ ap head c.size-n.ensures.value in
     c.in_ok-push_str.ensures.bytes
-    ∙ ap (λ t. t ++ codes "end\n") (c.in_ok-push_rows.ensures refl ∙ ap (λ t. t ++ lines) first)
+    ∙ ap (λ t. t ++ codes "end\n") (c.in_ok-push_rows.ensures ∙ ap (λ t. t ++ lines) first)
     ∙ append_assoc (head n) lines (codes "end\n")

@@ -1,6 +1,6 @@
 //! The calls on an open sheet: open one, then enter, strike and read pairs.
 
-ghost use Rattle.std.specs.Prelude.{◌≡◌, ◌<◌, length, replicate, IfOk};
+ghost use Rattle.std.specs.Prelude.{◌≡◌, ◌<◌, length, IfOk};
 ghost use Rattle.cost.specs.Columns.{within};
 ghost use Rattle.grid.specs.Tables.{place_of, byte_of};
 ghost use Rattle.sheet.specs.Opening.{Opened};
@@ -11,7 +11,7 @@ ghost use Rattle.sheet.specs.Size.{IsSize};
 use super::OpenSheet;
 use crate::fault::{Cause, Fault};
 use cost::Cost;
-use grid::{COST_LIMIT, MOST_BLOCKS, disturbed, fits, place, stands};
+use grid::{COST_LIMIT, MOST_BLOCKS, disturbed, fill, fits, place, stands};
 
 /// Opens a sheet of n left and n right blocks, with every pair absent and at cost zero.
 ///
@@ -29,15 +29,6 @@ pub fn open<K: Cost>(n: u16, costs: &mut [K], standing: &mut [u8]) -> Result<Ope
     fill(costs, K::zero());
     fill(standing, 0);
     Ok(OpenSheet { n })
-}
-
-// Writes `value` everywhere.
-fn fill<T: Copy>(table: &mut [T], value: T)
-    ensures { table.new ≡ replicate (length table.old) value }
-{
-    for x in table.iter_mut() {
-        *x = value;
-    }
 }
 
 impl OpenSheet {

@@ -1,7 +1,7 @@
 -- One more place is filled; at the end all are.
 use Rattle.std.proofs.Common.{◌≡◌, ◌<◌, ◌≤◌, [], ◌∷◌, ◌++◌, length, replicate, sym, ap, ◌∙◌, arith}
 use Rattle.std.proofs.lemmas.List.{take_more_set, replicate_more, take_all}
-use Rattle.sheet.proofs.state.open_calls.fill.Goals as goal
+use Rattle.grid.proofs.fill.Goals as goal
 
 pub loop-x-preserved : goal.loop-x-preserved
 loop-x-preserved g c =
