@@ -34,10 +34,6 @@ module _ (n : ℕ) (priced : ℕ → Bool) (row : ℕ → ℕ) (inside : (c : �
       unpaired l h f = both_ways (out l) f (is l ∙ and_from (ltb l 64) (ltb l n) (lt-ltb l 64 (omega arith)) (lt-ltb l n h))
 
   module _ (rest out : ℕ → Bool) (p o : ℕ → ℕ) (so_far : Choosing n priced row rest out p o) (c : ℕ) (rest' : ℕ → Bool) (is : (j : ℕ) → rest' j ≡ (rest j && not (eqb j c))) where
-    -- the left block that c is cheapest with has a right block already
-    pub choosing_keep : Choosing n priced row rest' out p o
-    choosing_keep = record { chosen = so_far.chosen; waiting = λ j t. so_far.waiting j (still_in rest rest' c is j t).0 }
-
     module _ (waits : rest c ≡ true) where
       -- which left block that is
       pub cheapest_inside : (c < n) × (row c < n)

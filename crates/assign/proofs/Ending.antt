@@ -10,7 +10,6 @@ use Rattle.cost.proofs.Exact.{zeros_within}
 use Rattle.cost.proofs.Weights.{weight, weight_zeros}
 use Rattle.pairing.specs.Grid.{Grid, Sane, at, Perfect}
 use Rattle.pairing.specs.Prices.{Value, Valid, Greatest}
-use Rattle.pairing.proofs.Counting.{onto}
 use Rattle.pairing.proofs.Weighing.{zeros_sized, value_from, value_same, price_from, price_same}
 use Rattle.pairing.proofs.Attained.{Attained, attained_greatest}
 use Rattle.tables.proofs.Alike.{Alike, perfect_like}
@@ -30,13 +29,6 @@ perfect_of n stands cost p o v out len kept all = record {
 module _ (g : Grid) (s : Sane g) (stands : ℕ → ℕ → Bool) (alike : Alike g.size stands g.stands) (p : List ℕ) (o : ℕ → ℕ) (v : ℕ → ℤ) (out : ℕ → Bool)
     (kept : Kept g.size stands (λ l r. weight (g.cost l r)) out (at p) o v) (all : (l : ℕ) → l < g.size → out l ≡ false) (perfect : Perfect g.size stands p)
     (d : ℕ → ℤ) (stage via : ℕ → ℕ) where
-  -- every right block has a left block, so the search finds no free one
-  pub none_free : (c : ℕ) → c < g.size → o c < g.size
-  none_free c h =
-      let w = onto g.size stands p perfect c h in
-      let q : o (at p w.0) ≡ o c = ap o w.2 in
-      omega (arith, kept.owned w.0 w.1 (all w.0 w.1), w.1)
-
   module _ (t : ℕ) (grown : Grown g.size stands (λ l r. weight (g.cost l r)) out (from_all g.size) (at p) o v d stage via t g.size) (done : (c : ℕ) → c < g.size → stage c ≡ 1 → ⊥)
       (left right : ℕ → List ℤ) (lefts : (l : ℕ) → l < g.size → Value g.columns (left l)) (rights : (r : ℕ) → r < g.size → Value g.columns (right r))
       (same : (r : ℕ) → r < g.size → weight (right r) ≡ d r) (tight : (l : ℕ) → l < g.size → weight (left l) +ℤ weight (right (at p l)) ≡ weight (g.cost l (at p l))) where

@@ -18,19 +18,6 @@ pub record Flipping (n f : ℕ) (out : ℕ → Bool) (stage via p₀ o₀ : ℕ 
   pub ahead : (l : ℕ) → l < n → out l ≡ false → stage (p₀ l) < stage h → p l ≡ p₀ l
 
 module _ (n f : ℕ) (out : ℕ → Bool) (stage via p₀ o₀ : ℕ → ℕ) (way : Way n f out stage via p₀ o₀) where
-  pub flip_none : Flipping n f out stage via p₀ o₀ f p₀ o₀
-  flip_none = record {
-    inside = way.inside;
-    taken = way.taken;
-    below = way.below;
-    owned = way.owned;
-    apart = λ l h q e. let s : o₀ (p₀ l) ≡ o₀ f = ap o₀ e in omega (arith, way.owned l h q, way.free);
-    owns = λ c h ne. way.owns c h;
-    free = λ c h ne m. (refl, ne);
-    came = λ l h q. inl refl;
-    ahead = λ l h q m. refl;
-  }
-
   module _ (h : ℕ) (p o p' o' : ℕ → ℕ) (g : Flipping n f out stage via p₀ o₀ h p o) where
     -- which left block is asked
     pub asked : via h < n

@@ -21,9 +21,6 @@ pub record PricedBelow (k : ℕ) (cost : ℕ → ℕ → ℤ) (p : ℕ → ℕ) 
   pub bound : (l : ℕ) → l < k → Within 201000000000 (left l)
 
 module _ (cost : ℕ → ℕ → ℤ) (p : ℕ → ℕ) (right : ℕ → ℤ) where
-  pub priced_none : (left : ℕ → List ℤ) → PricedBelow 0 cost p right left
-  priced_none left = record { tight = λ l h. absurd (omega arith); bound = λ l h. absurd (omega arith) }
-
   pub priced_more : (k : ℕ) (left left' : ℕ → List ℤ) → PricedBelow k cost p right left → weight (left' k) ≡ cost k (p k) -ℤ right (p k) → Within 201000000000 (left' k)
       → ((l : ℕ) → (l ≡ k → ⊥) → left' l ≡ left l) → PricedBelow (k + 1) cost p right left'
   priced_more k left left' so_far new near others = record {

@@ -11,12 +11,6 @@ orderly_no_bytes meaning [] = refl
 orderly_no_bytes meaning (cost ∷ costs) = refl
 
 module _ {K : Type 0} (meaning : K → List ℤ) (costs : List K) (bytes : List ℕ) (k : ℕ) where
-  pub orderly_more : (cost : K) → k < length costs → k < length bytes → cost ≡ get_or costs k cost
-      → orderly meaning (drop k costs) (drop k bytes) ≡ (place_orderly (meaning cost) (get_or bytes k 0) && orderly meaning (drop (k + 1) costs) (drop (k + 1) bytes))
-  orderly_more cost h i e =
-      ap (λ t. orderly meaning t (drop k bytes)) (drop_more costs k cost h) ∙ ap (orderly meaning (get_or costs k cost ∷ drop (k + 1) costs)) (drop_more bytes k 0 i)
-      ∙ ap (λ t. place_orderly (meaning t) (get_or bytes k 0) && orderly meaning (drop (k + 1) costs) (drop (k + 1) bytes)) (sym e)
-
   pub orderly_all : min (length costs) (length bytes) ≤ k → orderly meaning (drop k costs) (drop k bytes) ≡ true
   orderly_all h =
       ⊎_elim

@@ -8,7 +8,7 @@ use Rattle.std.proofs.lemmas.Bool.{cases_eq, both_ways, and_from, and_parts, not
 use Rattle.blockset.specs.Sets.{members}
 use Rattle.blockset.proofs.Members.{members_with, members-le, members-within}
 use Rattle.pairing.specs.Grid.{at}
-use Rattle.matching.specs.Search.{ReachedBy, Complete}
+use Rattle.matching.specs.Search.{ReachedBy}
 use Rattle.matching.proofs.Inserting.{new_in, old_in, old_from}
 
 module _ (n : ℕ) (along : ℕ → ℕ → Bool) (roots held goals : ℕ → Bool) (row : List ℕ) where
@@ -44,12 +44,6 @@ module _ (n : ℕ) (along : ℕ → ℕ → Bool) (roots held goals : ℕ → Bo
       }
 
   module _ (pending reached : ℕ → Bool) (from rank : List ℕ) (s : Searching pending reached from rank) where
-    pub search_done : ((l : ℕ) → pending l ≡ false) → Complete along roots held row reached
-    search_done none = record {
-      rooted = λ l c t a. elim (s.rooted l c t a) [ inl e ↦ e | inr e ↦ absurd (both_ways (pending l) (none l) e) ];
-      onward = λ d c t h a. elim (s.onward d c t h a) [ inl e ↦ e | inr e ↦ absurd (both_ways (pending (at row d)) (none (at row d)) e) ];
-    }
-
     -- left block l leads to nothing new
     pub search_retired : (l : ℕ) (pending' : ℕ → Bool) → ((c : ℕ) → along l c ≡ true → reached c ≡ true) → ((j : ℕ) → pending' j ≡ (pending j && not (eqb j l)))
         → Searching pending' reached from rank

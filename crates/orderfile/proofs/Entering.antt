@@ -1,7 +1,7 @@
 -- Entering the pairs of a file that has no fault: what is left to read, and what the tables hold.
 -- Idea: what is left of the file is always the bytes of the pairs that are still to come, and the tables are those after the pairs that came.
 -- A sound field has no fault and states what was written, so each step takes one pair over from the first list to the second.
-use Rattle.std.proofs.Common.{◌≡◌, ℕ, ◌≤◌, true, ◌&&◌, leb, List, [], ◌∷◌, ◌++◌, drop, set, ℤ, nat_abs, Some, None, sym, refl, ap, ◌∙◌, subst, append_assoc, append-nil, arith}
+use Rattle.std.proofs.Common.{◌≡◌, ℕ, ◌≤◌, true, ◌&&◌, leb, List, [], ◌∷◌, ◌++◌, drop, set, ℤ, nat_abs, Some, None, sym, refl, ap, ◌∙◌, subst, append_assoc, arith}
 use Rattle.std.proofs.lemmas.Bool.Decides.{nat_tests}
 use Rattle.std.specs.List.{flat_map, AllByRecursion}
 use Rattle.cost.specs.Columns.{railed, within}
@@ -112,10 +112,6 @@ module _ (order : Order) (sound : Sound order) (costs₀ : List Plain) (standing
   taken : (next : Record) → record_next stage rest ≡ Some next → Taken order.size sound.some sound.few stage rest split.todo next
   taken next e = left_more order.size sound.some sound.few stage rest split.todo next todo_sound split.left e
 
-  -- the pairs of the next record are sound
-  pub next_sound : (next : Record) → record_next stage rest ≡ Some next → AllByRecursion (SoundPair order.size) (pairs_stated next)
-  next_sound next e = let t = taken next e in all_front (SoundPair order.size) (pairs_stated next) t.0 (subst (λ (ps : List StatedPair). AllByRecursion (SoundPair order.size) ps) t.1 todo_sound)
-
   -- the pairs of the next record are entered
   pub split_more : (next : Record) → record_next stage rest ≡ Some next
       → Split order costs₀ standing₀ (stage_next stage rest) (drop (passed stage rest) rest) (costs_after order.size (pairs_stated next) costs) (standing_after order.size (pairs_stated next) standing)
@@ -129,13 +125,6 @@ module _ (order : Order) (sound : Sound order) (costs₀ : List Plain) (standing
         costs_are = ap (costs_after order.size (pairs_stated next)) split.costs_are ∙ sym (costs_append order.size split.done (pairs_stated next) costs₀);
         standing_are = ap (standing_after order.size (pairs_stated next)) split.standing_are ∙ sym (standing_append order.size split.done (pairs_stated next) standing₀);
       }
-
-  -- where no record is left, all pairs were entered
-  pub split_done : record_next stage rest ≡ None → (costs ≡ costs_after order.size order.pairs costs₀) × (standing ≡ standing_after order.size order.pairs standing₀)
-  split_done e =
-      let none = left_none order.size sound.some sound.few stage rest split.todo split.left e in
-      let same : split.done ≡ order.pairs = sym (append-nil split.done) ∙ ap (λ ps. split.done ++ ps) (sym none) ∙ sym split.all in
-      (split.costs_are ∙ ap (λ ps. costs_after order.size ps costs₀) same, split.standing_are ∙ ap (λ ps. standing_after order.size ps standing₀) same)
 
 -- one turn of the loop: the reader moved on by the next record, and its pairs were entered
 pub entering_more : (file : List ℕ) (n : ℕ) (costs₀ : List Plain) (standing₀ : List ℕ) (stage : Stage) (rest : List ℕ) (costs : List Plain) (standing : List ℕ)

@@ -91,10 +91,6 @@ stage_is Start rest next e = let same : record_in (tag_of rest) (value_of rest) 
 stage_is (Sized n) rest next e = let same : record_in (tag_of rest) (value_of rest) ≡ next = cc in ap (stage_after (Sized n)) same
 stage_is (Ended n) rest next e = let z : ◌≡◌ {A = ℕ} 0 1 = cc in absurd (omega arith)
 
--- the size is known behind a size record, and stays known behind any other
-pub known_size : (stage : Stage) (n : ℕ) → Known (stage_after stage (Size n)) n
-known_size stage n = refl
-
 pub known_still : (stage : Stage) (next : Record) (size : ℕ) → ((n : ℕ) → next ≡ Size n → ⊥) → Known stage size → Known (stage_after stage next) size
 known_still stage (Size n) size other known = absurd (other n refl)
 known_still stage (Pair p) size other known = known

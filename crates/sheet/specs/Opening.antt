@@ -1,5 +1,5 @@
 -- What `open` answers, and what it leaves in the tables, at every input.
-use Rattle.std.specs.Prelude.{◌≡◌, ℕ, not, ◌||◌, List, [], ◌∷◌, length, Ok, Err, Option, Result, ◌==◌, nat_lt}
+use Rattle.std.specs.Prelude.{◌≡◌, ℕ, not, ◌||◌, List, [], ◌∷◌, length, Option, Result, ◌==◌, nat_lt}
 use Rattle.grid.specs.Tables.{fitting, costs_opened, standing_opened}
 use Rattle.sheet.specs.Refusals.{fault, first_of, answer, after}
 use Rattle.sheet.specs.declared.fault.Fault.{Fault}

@@ -1,7 +1,7 @@
 -- Filling rows of right blocks by a test: one row, a right block after the other, and the rows of a table, a row after the other.
 -- Idea: a right block that passes is put in, and one that fails was not in yet, so in both cases the row is right one right block further.
 -- A row is filled from its part of each table, in which right block r stands at place r.
-use Rattle.std.proofs.Common.{◌≡◌, ℕ, ◌+◌, ◌-◌, ◌*◌, ◌<◌, ◌≤◌, Bool, true, false, ◌&&◌, ◌||◌, eqb, ltb, List, [], map, length, get_or, take, drop, set, ℤ, sym, ap, ◌∙◌, inl, inr, add-mul, one-mul, arith}
+use Rattle.std.proofs.Common.{◌≡◌, ℕ, ◌+◌, ◌-◌, ◌*◌, ◌<◌, ◌≤◌, Bool, false, ◌&&◌, ltb, List, [], map, length, get_or, take, drop, set, ℤ, sym, ap, ◌∙◌, inl, inr, add-mul, one-mul, arith}
 use Rattle.std.proofs.lemmas.List.{get_or-set_same, get_or-set_other, get_or-take, get_or-drop, get_or-map, take-map, drop-map, length-map, length-take, length-drop}
 use Rattle.std.proofs.lemmas.Nat.{mul-le}
 use Rattle.std.proofs.lemmas.Bool.Decides.{nat_tests}
@@ -13,15 +13,6 @@ use Rattle.tables.specs.Said.{columns_at}
 use Rattle.tables.specs.Rows.{Passing}
 
 module _ (row : BlockSet) (k : ℕ) (test : ℕ → Bool) (filled : Passing k test row) where
-  pub put_in : (new : BlockSet) → test k ≡ true → ((j : ℕ) → has new j ≡ ((ltb j 64 && eqb j k) || has row j)) → Passing (k + 1) test new
-  put_in new passes is j = is j ∙ ap (λ b. (ltb j 64 && eqb j k) || b) (filled j) ∙ step
-    where
-      step : ((ltb j 64 && eqb j k) || (ltb j 64 && (ltb j k && test j))) ≡ (ltb j 64 && (ltb j (k + 1) && test j))
-      step = elim (cases_eq j k) [
-        | inl e ↦ (let p : test j ≡ true = ap test e ∙ passes in grind (arith, nat_tests))
-        | inr ne ↦ grind (arith, nat_tests)
-      ]
-
   pub left_out : test k ≡ false → Passing (k + 1) test row
   left_out fails j = filled j ∙ step
     where

@@ -2,19 +2,10 @@
 use Rattle.std.proofs.Common.{◌<◌, arith, below_more}
 use Rattle.std.proofs.lemmas.Bool.Decides.{not_from_Decides}
 use Rattle.tables.specs.Said.{columns_at, grid_of}
-use Rattle.tables.proofs.Filling.{value_at, row_end}
+use Rattle.tables.proofs.Filling.{value_at}
 use Rattle.certificate.specs.Together.{RowUnder}
 use Rattle.certificate.proofs.Judging.{denied, row_decides}
 use Rattle.certificate.proofs.grid_holds_prices.Goals as goal
-
-pub offset_bounds-costs-start : goal.offset_bounds-costs-start
-offset_bounds-costs-start g c = omega (arith, row_end c.args.costs.now c.args.n c.loop-l.l (omega arith) c.requires.ordered.costs_fit)
-
-pub slice_bounds-row_holds_prices-end : goal.slice_bounds-row_holds_prices-end
-slice_bounds-row_holds_prices-end g c = omega (arith, row_end c.args.costs.now c.args.n c.loop-l.l (omega arith) c.requires.ordered.costs_fit)
-
-pub slice_bounds-row_holds_prices-end-in-loop-l : goal.slice_bounds-row_holds_prices-end-in-loop-l
-slice_bounds-row_holds_prices-end-in-loop-l g c = omega (arith, row_end c.args.standing.now c.args.n c.loop-l.l (omega arith) c.requires.ordered.standing_fit)
 
 pub returns-then-not-row_holds_prices : goal.returns-then-not-row_holds_prices
 returns-then-not-row_holds_prices g c =

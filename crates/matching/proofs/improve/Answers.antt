@@ -46,15 +46,6 @@ module _ (rows : List BlockSet) (p : List ℕ) (l floor : ℕ) (h : Pairs rows p
 holding : (rows : List BlockSet) (p : List ℕ) (l : ℕ) (out held : ℕ → Bool) (row : List ℕ) → Pairs rows p → Holding l (length p) p out held row → Holding l (length rows) p out held row
 holding rows p l out held row h w = subst (λ n. Holding l n p out held row) h.len w
 
-pub find_holders-holders-requires : goal.find_holders-holders-requires
-find_holders-holders-requires c =
-    let p = c.args.p.now in
-    record {
-      small = omega (arith, c.requires.small, c.requires.pairs.len);
-      start = omega (arith, c.requires.inside, c.requires.pairs.len);
-      below = λ m i f. omega (arith, c.requires.small, c.requires.pairs.len, c.requires.pairs.below m (omega (arith, c.requires.pairs.len)));
-    }
-
 pub loop-r-init : goal.loop-r-init
 loop-r-init c =
     let rows = c.args.rows.now in

@@ -13,9 +13,6 @@ use Rattle.matching.proofs.marks.Goals as goal
 row_end : (l n : ℕ) → l < n → l * n + n ≤ n * n
 row_end l n i = let h : (l + 1) * n ≤ n * n = mul-le (l + 1) n n n (omega arith) (omega arith) in omega (arith, add-mul l 1 n, one-mul n)
 
-pub slice_bounds-mark_row-end : goal.slice_bounds-mark_row-end
-slice_bounds-mark_row-end c = omega (arith, row_end c.loop-l.l (length c.args.rows.now) (omega arith))
-
 pub loop-l-preserved : goal.loop-l-preserved
 loop-l-preserved c m r i j =
     let rows = c.args.rows.now in

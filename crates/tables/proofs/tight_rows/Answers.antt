@@ -4,25 +4,10 @@ use Rattle.grid.specs.Tables.{place_of, byte_of, says_stands}
 use Rattle.grid.proofs.Lengths.{fits_tells}
 use Rattle.tables.specs.Said.{columns_at, grid_of}
 use Rattle.tables.specs.Rows.{Passing, adds_up}
-use Rattle.tables.proofs.Filling.{row_made, row_end, row_at, columns_at_lem, value_at}
+use Rattle.tables.proofs.Filling.{row_made, row_at, columns_at_lem, value_at}
 use Rattle.tables.proofs.Orderly.{columns_sized}
 use Rattle.tables.proofs.Tightness.{tight_told}
 use Rattle.tables.proofs.tight_rows.Goals as goal
-
-pub offset_bounds-costs-l : goal.offset_bounds-costs-l
-offset_bounds-costs-l g c =
-    let fit = fits_tells (length c.args.rows.now) (length c.args.costs.now) (length c.args.standing.now) (sym c.if-not-fits.ensures) in
-    omega (arith, row_end c.args.costs.now (length c.args.rows.now) c.loop-l.l c.loop-l-test.true fit.0)
-
-pub slice_bounds-tight_row-end : goal.slice_bounds-tight_row-end
-slice_bounds-tight_row-end g c =
-    let fit = fits_tells (length c.args.rows.now) (length c.args.costs.now) (length c.args.standing.now) (sym c.if-not-fits.ensures) in
-    omega (arith, row_end c.args.costs.now (length c.args.rows.now) c.loop-l.l c.loop-l-test.true fit.0)
-
-pub slice_bounds-tight_row-end-in-loop-l : goal.slice_bounds-tight_row-end-in-loop-l
-slice_bounds-tight_row-end-in-loop-l g c =
-    let fit = fits_tells (length c.args.rows.now) (length c.args.costs.now) (length c.args.standing.now) (sym c.if-not-fits.ensures) in
-    omega (arith, row_end c.args.standing.now (length c.args.rows.now) c.loop-l.l c.loop-l-test.true fit.1)
 
 pub loop-l-preserved : goal.loop-l-preserved
 loop-l-preserved g c =

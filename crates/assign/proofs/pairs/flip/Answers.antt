@@ -1,17 +1,11 @@
 -- Each step is one of proofs/Flipping.antt, over the tables as they are written.
-use Rattle.std.proofs.Common.{◌<◌, length, set, sym, ◌∙◌, arith, rules}
+use Rattle.std.proofs.Common.{◌<◌, length, set, sym, ◌∙◌, arith}
 use Rattle.std.proofs.lemmas.List.{get_or-set_same, get_or-set_other, length-set}
 use Rattle.blockset.specs.Has.{has}
 use Rattle.pairing.specs.Grid.{at}
 use Rattle.assign.specs.Trees.{stage_in}
-use Rattle.assign.proofs.Flipping.{flip_none, asked, gives, flip_more, flip_all}
+use Rattle.assign.proofs.Flipping.{asked, flip_more, flip_all}
 use Rattle.assign.proofs.pairs.flip.Goals as goal
-
-pub chain-init : goal.chain-init
-chain-init c = (
-  flip_none (length c.args.partners.now) c.args.goal (has c.args.out) (stage_in c.args.tree.now) (at c.args.tree.now.via) (at c.args.partners.now) (at c.args.owner.now) c.requires.way,
-  search rules,
-)
 
 pub returns-then-contains : goal.returns-then-contains
 returns-then-contains c =
@@ -50,10 +44,3 @@ chain-preserved c =
           (get_or-set_same ps l h 0 in-partners) (λ j ne. get_or-set_other ps l j h 0 ne) (get_or-set_same os h l 0 in-owner) (λ j ne. get_or-set_other os h j l 0 ne) (sym c.if-contains.ensures),
       length-set os h l ∙ c.chain.invariant.1,
     )
-
-pub chain-smaller : goal.chain-smaller
-chain-smaller c =
-    let ps = at c.chain.partners in
-    let os = at c.chain.owner in
-    (gives (length c.args.partners.now) c.args.goal (has c.args.out) (stage_in c.args.tree.now) (at c.args.tree.now.via) (at c.args.partners.now) (at c.args.owner.now) c.requires.way
-    c.chain.block ps os ps os c.chain.invariant.0 (sym c.if-contains.ensures)).2

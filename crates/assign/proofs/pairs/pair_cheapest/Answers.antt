@@ -3,7 +3,7 @@ use Rattle.std.proofs.Common.{◌<◌, length, set, sym, refl, ◌∙◌, arith}
 use Rattle.std.proofs.lemmas.List.{get_or-set_same, get_or-set_other, length-set}
 use Rattle.blockset.specs.Has.{has}
 use Rattle.pairing.specs.Grid.{at}
-use Rattle.assign.proofs.Choosing.{choosing_none, choosing_keep, cheapest_inside, choosing_take}
+use Rattle.assign.proofs.Choosing.{choosing_none, cheapest_inside, choosing_take}
 use Rattle.assign.proofs.pairs.pair_cheapest.Goals as goal
 
 pub loop-c-init : goal.loop-c-init
@@ -36,12 +36,3 @@ loop-c-preserved-then-contains c =
           (get_or-set_same partners l r 0 in-partners) (λ j ne. get_or-set_other partners l j r 0 ne) (get_or-set_same owner r l 0 in-owner) (λ j ne. get_or-set_other owner r j l 0 ne) (sym {b = out l} c.if-contains.ensures),
       length-set owner r l ∙ c.loop-c.invariant.3,
     )
-
-pub loop-c-preserved : goal.loop-c-preserved
-loop-c-preserved c = (
-  tt,
-  tt,
-  choosing_keep c.args.n (has c.args.cheapest.now.priced) (at c.args.cheapest.now.row) c.requires.inside (has c.loop-c.c-iterator) (has c.loop-c.out) (at c.loop-c.partners) (at c.loop-c.owner) c.loop-c.invariant.2
-      c.in-Some.c (has c.next.new.self) c.in-Some.ensures.steps.others,
-  c.loop-c.invariant.3,
-)

@@ -7,7 +7,7 @@ use Rattle.cost.proofs.Weights.{weight, weight_zeros}
 use Rattle.blockset.specs.Has.{has}
 use Rattle.pairing.specs.Grid.{at}
 use Rattle.matching.specs.Rows.{holds}
-use Rattle.tables.proofs.Filling.{row_end, row_length, columns_at_lem}
+use Rattle.tables.proofs.Filling.{row_length, columns_at_lem}
 use Rattle.assign.specs.Weighed.{weight_at, cost_weight}
 use Rattle.assign.specs.Search.{Ends, Way, Flipped, Lowered}
 use Rattle.assign.specs.Trees.{stage_in}
@@ -22,12 +22,6 @@ zero_weighs g x e = ap (λ z. weight (g.K.Cost.meaning z)) e ∙ ap weight g.met
 
 zero-within : (g : given.Over) (b : ℕ) (x : g.row.K.Denot) → x ≡ g.K.Cost.nought → Within b (g.K.Cost.meaning x)
 zero-within g b x e = subst (Within b) (sym (ap g.K.Cost.meaning e ∙ g.met.K.Cost.nothing)) (zeros_within b g.K.Cost.columns)
-
-pub offset_bounds-costs-k : goal.offset_bounds-costs-k
-offset_bounds-costs-k g c = omega (arith, row_end c.args.costs.now (length c.args.rows.now) c.args.k c.requires.room c.requires.lent.square)
-
-pub slice_bounds-offer-end : goal.slice_bounds-offer-end
-slice_bounds-offer-end g c = row_end c.args.costs.now (length c.args.rows.now) c.args.k c.requires.room c.requires.lent.square
 
 pub offer-requires : goal.offer-requires
 offer-requires g c =

@@ -11,15 +11,6 @@ use Rattle.assign.proofs.Differences.{difference_weighs, put_weighs, put_within}
 use Rattle.assign.proofs.Lowering.{lowering_none, lowering_take, lowering_done}
 use Rattle.assign.proofs.prices.lower.Goals as goal
 
-pub exact_difference-far-requires : goal.exact_difference-far-requires
-exact_difference-far-requires g c =
-    let meaning = g.K.Cost.meaning in
-    let goal = c.args.goal in
-    record {
-      first = read_within meaning 200000000000 500000000000000 c.args.dist.now goal c.index-dist-goal.result c.requires.inside c.index-dist-goal.is (omega arith) (c.requires.far goal c.requires.inside c.requires.taken);
-      second = read_within meaning 1000000000 500000000000000 c.args.right.now goal c.index-right-goal.result (omega (arith, c.requires.sized, c.requires.inside)) c.index-right-goal.is (omega arith) c.requires.unsold;
-    }
-
 pub loop-c-init : goal.loop-c-init
 loop-c-init g c =
     let meaning = g.K.Cost.meaning in

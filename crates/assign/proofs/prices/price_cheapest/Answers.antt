@@ -6,7 +6,7 @@ use Rattle.cost.proofs.Weights.{weight, weight_zeros}
 use Rattle.blockset.specs.Has.{has}
 use Rattle.pairing.specs.Grid.{at}
 use Rattle.matching.specs.Rows.{holds}
-use Rattle.tables.proofs.Filling.{row_end, row_length, columns_at_lem}
+use Rattle.tables.proofs.Filling.{row_length, columns_at_lem}
 use Rattle.assign.specs.Weighed.{weight_at, cost_weight}
 use Rattle.assign.proofs.Pricing.{cleared_within, cheapest_none, cheapest_more}
 use Rattle.assign.proofs.prices.price_cheapest.Goals as goal
@@ -18,12 +18,6 @@ loop-l-init g c =
       cheapest_none n (holds c.args.rows.now) (cost_weight m n c.args.costs.now) (has c.empty-priced.result) (at (replicate 64 0)) (weight_at m c.clear.new.table) c.empty-priced.ensures,
       λ k h. cleared_within m g.K.Cost.nought g.K.Cost.columns g.met.K.Cost.nothing (length c.args.right.now) c.clear.new.table c.clear.ensures 1000000000 k (omega (arith, c.requires.rights)),
     )
-
-pub offset_bounds-costs-l : goal.offset_bounds-costs-l
-offset_bounds-costs-l g c = omega (arith, row_end c.args.costs.now (length c.args.rows.now) c.loop-l.l c.loop-l-test.true c.requires.lent.square)
-
-pub slice_bounds-offer-end : goal.slice_bounds-offer-end
-slice_bounds-offer-end g c = row_end c.args.costs.now (length c.args.rows.now) c.loop-l.l c.loop-l-test.true c.requires.lent.square
 
 pub offer-requires : goal.offer-requires
 offer-requires g c =

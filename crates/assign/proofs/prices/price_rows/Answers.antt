@@ -7,37 +7,8 @@ use Rattle.tables.proofs.Filling.{value_at}
 use Rattle.assign.specs.Weighed.{weight_at, cost_weight}
 use Rattle.assign.proofs.Entries.{put_other, read_within}
 use Rattle.assign.proofs.Differences.{put_weighs, put_within}
-use Rattle.assign.proofs.RowPrices.{place_inside, priced_none, priced_more}
+use Rattle.assign.proofs.RowPrices.{place_inside, priced_more}
 use Rattle.assign.proofs.prices.price_rows.Goals as goal
-
-pub loop-l-init : goal.loop-l-init
-loop-l-init g c =
-    let meaning = g.K.Cost.meaning in
-    priced_none (cost_weight meaning (length c.args.rows.now) c.args.costs.now) (at c.args.partners.now) (weight_at meaning c.args.right.now) (columns_at meaning c.args.left.now)
-
-pub offset_bounds-costs-l : goal.offset_bounds-costs-l
-offset_bounds-costs-l g c =
-    let l = c.loop-l.l in
-    let lies = c.loop-l-test.true in
-    omega (arith, place_inside g.K.Cost.meaning c.args.rows.now c.args.costs.now c.requires.lent l (at c.args.partners.now l) lies (c.requires.pairs l lies))
-
-pub bounds-costs-l : goal.bounds-costs-l
-bounds-costs-l g c =
-    let l = c.loop-l.l in
-    let lies = c.loop-l-test.true in
-    omega (arith, place_inside g.K.Cost.meaning c.args.rows.now c.args.costs.now c.requires.lent l (at c.args.partners.now l) lies (c.requires.pairs l lies))
-
-pub offset_bounds-right-c : goal.offset_bounds-right-c
-offset_bounds-right-c g c =
-    let l = c.loop-l.l in
-    let lies = c.loop-l-test.true in
-    omega (arith, c.requires.rights, c.requires.lent.inside l (at c.args.partners.now l) lies (c.requires.pairs l lies))
-
-pub bounds-right-c : goal.bounds-right-c
-bounds-right-c g c =
-    let l = c.loop-l.l in
-    let lies = c.loop-l-test.true in
-    omega (arith, c.requires.rights, c.requires.lent.inside l (at c.args.partners.now l) lies (c.requires.pairs l lies))
 
 pub exact_difference-requires : goal.exact_difference-requires
 exact_difference-requires g c =

@@ -11,7 +11,7 @@ use Rattle.blockset.specs.Has.{has}
 use Rattle.pairing.specs.Grid.{at}
 use Rattle.matching.specs.Rows.{holds}
 use Rattle.tables.specs.Said.{columns_at}
-use Rattle.tables.proofs.Filling.{value_at, row_end, row_length, columns_at_lem}
+use Rattle.tables.proofs.Filling.{value_at, row_length, columns_at_lem}
 use Rattle.assign.specs.Weighed.{weight_at, cost_weight}
 use Rattle.assign.specs.Offers.{Nearest}
 use Rattle.assign.specs.Trees.{stage_at_first}
@@ -89,20 +89,6 @@ returns g c =
       );
       bound = λ k h f. within_more (1000000000 + c.loop-t.t * 2000000000) 200000000000 (columns_at m c.loop-t.dist k) (omega (arith, c.requires.lent.few)) (c.loop-t.invariant.1 k (c.loop-t.invariant.0.taken k h f));
     }
-
-pub offset_bounds-costs-l : goal.offset_bounds-costs-l
-offset_bounds-costs-l g c = omega (arith, row_end c.args.costs.now (length c.args.rows.now) (at c.args.owner.now c.in-Some.a) c.if-l-n.false c.requires.lent.square)
-
-pub slice_bounds-row-end : goal.slice_bounds-row-end
-slice_bounds-row-end g c = row_end c.args.costs.now (length c.args.rows.now) (at c.args.owner.now c.in-Some.a) c.if-l-n.false c.requires.lent.square
-
-pub offset_bounds-row-a : goal.offset_bounds-row-a
-offset_bounds-row-a g c =
-    omega (arith, c.in-Some.ensures.0, c.requires.dists, c.loop-t.auto.dist, row_length c.args.costs.now (length c.args.rows.now) (at c.args.owner.now c.in-Some.a) c.if-l-n.false c.requires.lent.square)
-
-pub bounds-row-a : goal.bounds-row-a
-bounds-row-a g c =
-    omega (arith, c.in-Some.ensures.0, c.requires.dists, c.loop-t.auto.dist, row_length c.args.costs.now (length c.args.rows.now) (at c.args.owner.now c.in-Some.a) c.if-l-n.false c.requires.lent.square)
 
 -- what one turn has at hand: the left block of what was taken, its row of the cost table, and how far the way through it goes
 module _ {K : Type 0} (m : K → List ℤ) (costs dist : List K) (n l a t : ℕ) (few : n ≤ 64) (square : length costs ≡ n * n) (sized : length dist ≡ n) (hl : l < n) (ha : a < n) (ht : t < n) (x y z : K)

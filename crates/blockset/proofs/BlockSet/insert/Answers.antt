@@ -1,8 +1,7 @@
 -- The number's bits and the block's own bit; where there is no such bit, no block below 64 is the number.
-use Rattle.std.proofs.Common.{◌≡◌, ℕ, ◌^◌, ◌≤◌, Bool, false, ◌&&◌, ◌||◌, eqb, ltb, ap, ◌∙◌, arith}
+use Rattle.std.proofs.Common.{◌≡◌, ◌^◌, Bool, ◌&&◌, ◌||◌, eqb, ltb, ap, ◌∙◌, arith}
 use lib.Bits.{bit_or}
 use Rattle.std.proofs.lemmas.Nat.{one_shl}
-use Rattle.std.proofs.lemmas.Bool.Decides.{nat_tests}
 use Rattle.blockset.specs.Sets.{bit}
 use Rattle.blockset.specs.Has.{has}
 use Rattle.blockset.proofs.Bits.{bit-or, bit-pow}
@@ -20,9 +19,3 @@ returns-then-block-lt64 c j =
     ap (λ m. ltb j 64 && bit (bit_or a m) j) (one_shl i 64 c.if-block-lt64.true)
     ∙ ap (λ x. ltb j 64 && x) (bit-or a (2 ^ i) j ∙ ap (λ x. bit a j || x) (bit-pow i j) ∙ or_swap (bit a j) (eqb j i))
     ∙ and-or (ltb j 64) (eqb j i) (bit a j)
-
-no_block : (i j : ℕ) (b : Bool) → 64 ≤ i → b ≡ ((ltb j 64 && eqb j i) || b)
-no_block i j b h = let e : (ltb j 64 && eqb j i) ≡ false = grind (arith, nat_tests) in grind arith
-
-pub returns-else-block-lt64 : goal.returns-else-block-lt64
-returns-else-block-lt64 c j = no_block c.args.block j (has c.args.self.now j) c.if-block-lt64.false

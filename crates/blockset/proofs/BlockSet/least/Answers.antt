@@ -7,9 +7,6 @@ use Rattle.blockset.proofs.Bits.{lowest, below_lowest, lowest_lt, bit-zero}
 use Rattle.blockset.proofs.Holding.{has-bit}
 use Rattle.blockset.proofs.BlockSet.least.Goals as goal
 
-pub returns-then-is_empty : goal.returns-then-is_empty
-returns-then-is_empty c = c.is_empty.ensures.0 c.if-is_empty.true
-
 pub returns-else-is_empty : goal.returns-else-is_empty
 returns-else-is_empty c =
     let s = c.args.self in

@@ -1,15 +1,11 @@
 -- The bits that are set are the members.
-use Rattle.std.proofs.Common.{◌^◌, ◌<◌, sym, ◌∙◌, arith}
-use Rattle.std.proofs.lemmas.Nat.{ones-le}
+use Rattle.std.proofs.Common.{sym, ◌∙◌, arith}
 use Rattle.blockset.specs.Sets.{bit}
 use Rattle.blockset.specs.Has.{has}
 use Rattle.blockset.proofs.Bits.{ones_members}
 use Rattle.blockset.proofs.Members.{members_like}
 use Rattle.blockset.proofs.Holding.{has-bit}
 use Rattle.blockset.proofs.BlockSet.len.Goals as goal
-
-pub overflow_cast-result : goal.overflow_cast-result
-overflow_cast-result c = let h : c.args.self.0 < 2 ^ 64 = omega arith in omega (arith, ones-le 64 c.args.self.0 h)
 
 pub returns : goal.returns
 returns c =

@@ -1,7 +1,6 @@
 -- A power of two has one bit; where there is no such block, the empty set has none.
-use Rattle.std.proofs.Common.{◌≡◌, ℕ, ◌≤◌, false, ◌&&◌, eqb, ltb, ap, ◌∙◌, arith}
+use Rattle.std.proofs.Common.{◌&&◌, ltb, ap, ◌∙◌}
 use Rattle.std.proofs.lemmas.Nat.{one_shl}
-use Rattle.std.proofs.lemmas.Bool.Decides.{nat_tests}
 use Rattle.blockset.specs.Sets.{bit}
 use Rattle.blockset.specs.Has.{has}
 use Rattle.blockset.proofs.Bits.{bit-pow}
@@ -10,9 +9,3 @@ use Rattle.blockset.proofs.BlockSet.of.Goals as goal
 pub returns-then-block-lt64 : goal.returns-then-block-lt64
 unfolding has
 returns-then-block-lt64 c j = ap (λ m. ltb j 64 && bit m j) (one_shl c.args.block 64 c.if-block-lt64.true) ∙ ap (λ b. ltb j 64 && b) (bit-pow c.args.block j)
-
-no_block : (i j : ℕ) → 64 ≤ i → false ≡ (ltb j 64 && eqb j i)
-no_block i j h = grind (arith, nat_tests)
-
-pub returns-else-block-lt64 : goal.returns-else-block-lt64
-returns-else-block-lt64 c j = c.empty.ensures j ∙ no_block c.args.block j c.if-block-lt64.false

@@ -30,19 +30,6 @@ returns-then-out-length c =
     not_saved sheet c.size-n.ensures.range.some c.size-n.ensures.range.few c.args.costs.now c.args.standing.now c.args.out.now _ _ _
     (save_short sheet _ _ _ fit (sym c.if-not-in_order.ensures) (omega (arith, c.if-out-length.true, c.standing_pairs.ensures.value))) (ap Err c.at-then-out-length.ensures) refl
 
-pub write_file-requires : goal.write_file-requires
-write_file-requires c =
-    let sheet = c.args.sheet.now in
-    let n = c.size-n.result in
-    let long = fits_tells n (length c.args.costs.now) (length c.args.standing.now) (sym c.if-not-fits.ensures) in
-    record {
-      some = omega (arith, c.size-n.ensures.range.some, c.size-n.ensures.value);
-      few = omega (arith, c.size-n.ensures.range.few, c.size-n.ensures.value);
-      costs_fit = long.0;
-      standing_fits = long.1;
-      room = omega (arith, c.if-out-length.false, c.standing_pairs.ensures.value);
-    }
-
 pub returns : goal.returns
 returns c =
     let sheet = c.args.sheet.now in

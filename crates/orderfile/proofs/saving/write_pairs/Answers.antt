@@ -1,10 +1,7 @@
 -- Each standing pair's field goes behind what was written, and there is room for it since it is a part of the whole.
 use Rattle.std.proofs.Common.{◌≡◌, ◌+◌, ◌*◌, ◌<◌, ◌++◌, length, take, drop, sym, ap, ◌∙◌, arith}
-use Rattle.std.proofs.lemmas.List.{length-append, length-take-le}
-use Rattle.std.specs.List.{flat_map}
 use Rattle.orderfile.specs.Format.{pair_field}
-use Rattle.orderfile.specs.Saving.{listed}
-use Rattle.orderfile.proofs.Buffer.{left_all, writing_start, writing_room, writing_yes, writing_no, writing_done}
+use Rattle.orderfile.proofs.Buffer.{left_all, writing_start, writing_room, writing_yes, writing_no}
 use Rattle.orderfile.proofs.saving.write_pairs.Goals as goal
 use Rattle.orderfile.proofs.saving.write_pairs.Goals.{then-stands, else-stands}
 
@@ -20,14 +17,6 @@ put-requires c =
     let thirteen : length c.pair_field.result ≡ 13 = ap length c.pair_field.ensures in
     omega (arith, room, thirteen, c.loop-k.auto.out)
 
-pub overflow_add-at : goal.overflow_add-at
-overflow_add-at c =
-    let n = c.args.n in
-    let all = ap length (left_all n c.args.costs.now c.args.standing.now) in
-    let room = writing_room n c.args.costs.now c.args.standing.now c.args.out.now c.loop-k.k c.loop-k.at c.loop-k.out c.loop-k.invariant
-    (omega (arith, all, c.requires.room)) (omega arith) (sym c.if-stands.ensures) in
-    omega (arith, room)
-
 pub loop-k-preserved : goal.loop-k-preserved
 loop-k-preserved c =
     let n = c.args.n in
@@ -38,17 +27,3 @@ loop-k-preserved c =
       | then-stands w ↦ simp (w.out-is, w.at-is) (writing_yes n costs standing c.args.out.now c.loop-k.k c.loop-k.at c.loop-k.out c.loop-k.invariant w.put.new.out here (sym w.if-stands.ensures) (w.put.ensures ∙ ap (λ t. take c.loop-k.at c.loop-k.out ++ (t ++ drop (c.loop-k.at + length t) c.loop-k.out)) (w.pair_field.ensures ∙ ap pair_field w.pair_at.ensures)))
       | else-stands w ↦ simp (w.out-is, w.at-is) (writing_no n costs standing c.args.out.now c.loop-k.k c.loop-k.at c.loop-k.out c.loop-k.invariant here (sym w.if-stands.ensures))
     ]
-
-pub returns : goal.returns
-returns c =
-    let n = c.args.n in
-    let costs = c.args.costs.now in
-    let standing = c.args.standing.now in
-    let out = c.args.out.now in
-    let w = c.loop-k.invariant in
-    let done : w.done ≡ take 4 out ++ flat_map pair_field (listed n costs standing 0 (n * n)) =
-    writing_done n costs standing out c.loop-k.k c.loop-k.at c.loop-k.out w (omega arith) ∙ ap (λ t. take 4 out ++ t) (left_all n costs standing) in
-    record {
-      behind = sym w.long ∙ ap length done ∙ length-append (take 4 out) _ ∙ ap (λ j. j + length (flat_map pair_field (listed n costs standing 0 (n * n)))) (length-take-le 4 out (omega (arith, c.requires.room)));
-      writes = w.held ∙ ap (λ t. t ++ drop c.loop-k.at out) done;
-    }
