@@ -4,6 +4,7 @@
 -- not taken is at least as far. Tight steps may be exchanged. If no free right block were reached, the left blocks that were looked at would stand with taken right
 -- blocks only; each of these has one of them, and the root has none: one left block too many.
 use Rattle.std.proofs.Common.{◌≡◌, ℕ, ◌<◌, ◌≤◌, Bool, true, false, not, ◌&&◌, ◌||◌, eqb, leb, List, ℤ, ◌+ℤ◌, ◌≤ℤ◌, sym, refl, ap, ◌∙◌, subst, inl, inr, ⊎_elim, arith}
+use Rattle.std.proofs.Math.Bool.{and-false}
 use Rattle.std.proofs.lemmas.Int.{ints}
 use Rattle.std.proofs.lemmas.Bool.{cases_eq, cases_lt, cases_Bool, leb-true, le-leb, eqb-true, eq-eqb, ne_eqb, or_cases, and_parts, and_from, both_ways, not-true, not_from_false}
 use Rattle.blockset.specs.Sets.{members}
@@ -161,9 +162,5 @@ module _ (n k : ℕ) (stands : ℕ → ℕ → Bool) (cost : ℕ → ℕ → ℤ
     never q h =
         let more = members_with n looked_at (λ l. eqb l k || looked_at l) k room root_apart (λ l. refl) in
         let few = left_out_le n stands (λ l. eqb l k || looked_at l) taken shut q (λ _. false) (perfect_partial n stands q h) in
-        let none = members_like n (λ _. false) (λ l. (eqb l k || looked_at l) && false) (λ l _. and_no (eqb l k || looked_at l)) in
+        let none = members_like n (λ _. false) (λ l. (eqb l k || looked_at l) && false) (λ l _. and-false (eqb l k || looked_at l)) in
         omega (arith, enough, members_no n)
-      where
-        and_no : (b : Bool) → (b && false) ≡ false
-        and_no true = refl
-        and_no false = refl

@@ -1,7 +1,7 @@
 -- The exchange along a chain, pair by pair.
 -- Idea: at each step one right block has no left block yet; the left block that it was reached from takes it, and gives up the one that it had. Stages fall along
 -- the chain, so that each left block is asked only once and still has its old right block then. At the root nothing is given up.
-use Rattle.std.proofs.Common.{◌≡◌, ℕ, ◌<◌, ◌≤◌, Bool, true, false, ◌⊎◌, sym, refl, ap, ◌∙◌, subst, inl, inr, ⊎_elim, arith}
+use Rattle.std.proofs.Common.{◌≡◌, ℕ, ◌<◌, ◌≤◌, Bool, true, false, ◌⊎◌, sym, ap, ◌∙◌, subst, inl, inr, ⊎_elim, arith}
 use Rattle.std.proofs.lemmas.Bool.{cases_eq, both_ways}
 use Rattle.assign.specs.Search.{Way, NowPaired, Flipped}
 

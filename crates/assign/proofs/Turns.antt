@@ -1,7 +1,9 @@
 -- The turns of a search as its sets tell them.
 -- Idea: a right block's stage is read off from two sets and its turn. Taking a block out of the open ones gives it the turn's stage and leaves all others; what is
 -- offered to open blocks makes those reached. One open block fewer a turn, so after n turns none is left.
-use Rattle.std.proofs.Common.{◌≡◌, ℕ, ◌+◌, ◌<◌, ◌≤◌, Bool, true, false, cond, not, ◌&&◌, ◌||◌, eqb, ltb, ◌⊎◌, List, length, set, ℤ, ◌+ℤ◌, sym, refl, ap, ◌∙◌, subst, inl, inr, ⊎_elim, arith}
+use Rattle.std.proofs.Common.{◌≡◌, ℕ, ◌+◌, ◌<◌, ◌≤◌, Bool, true, false, cond, not, ◌&&◌, ◌||◌, eqb, ltb, List, length, set, ℤ, ◌+ℤ◌, sym, refl, ap, ◌∙◌, subst, inl, inr, ⊎_elim, arith}
+use Rattle.std.proofs.Math.Bool.{and-false}
+use Rattle.std.proofs.Math.Logic.{⊎_swap}
 use Rattle.std.proofs.lemmas.List.{get_or-set_same, get_or-set_other}
 use Rattle.std.proofs.lemmas.Int.{ints}
 use Rattle.std.proofs.lemmas.Bool.{cases_eq, cases_Bool, cases_lt, cond-true, cond-false, both_ways, and_from, and_parts, or_left, or_right, or_cases, lt-ltb, le-ltb, not_from_false, ne_eqb}
@@ -41,11 +43,7 @@ module _ (open' reached : ℕ → Bool) (turn : List ℕ) (c : ℕ) where
 pub all_open : (j n : ℕ) → n ≤ 64 → (ltb j 64 && ltb j n) ≡ ltb j n
 all_open j n few = ⊎_elim
     (λ (h : j < n). ap (λ z. z && ltb j n) (lt-ltb j 64 (omega arith)))
-    (λ (h : n ≤ j). ap (λ z. ltb j 64 && z) (le-ltb j n h) ∙ and_no (ltb j 64) ∙ sym (le-ltb j n h)) (cases_lt j n)
-  where
-    and_no : (x : Bool) → (x && false) ≡ false
-    and_no true = refl
-    and_no false = refl
+    (λ (h : n ≤ j). ap (λ z. ltb j 64 && z) (le-ltb j n h) ∙ and-false (ltb j 64) ∙ sym (le-ltb j n h)) (cases_lt j n)
 
 -- Grown is the same for stages that are the same
 pub grown_like : (n : ℕ) (stands : ℕ → ℕ → Bool) (cost : ℕ → ℕ → ℤ) (out : ℕ → Bool) (start : Start) (p o : ℕ → ℕ) (v d : ℕ → ℤ) (s s' via : ℕ → ℕ) (t x : ℕ) → ((c : ℕ) → s' c ≡ s c)
@@ -151,11 +149,7 @@ module _ (n : ℕ) (stands : ℕ → ℕ → Bool) (cost : ℕ → ℕ → ℤ) 
               less = λ m. w.less y (reached_is open'' reached (set turn a t) c (omega arith)).1;
               done = λ _ _. (now, omega (arith, ints, w.most y, row_is c i, Shift-is));
             })
-            (swap (cases_Bool (to c)))
-          where
-            swap : {A B : Type 0} → A ⊎ B → B ⊎ A
-            swap (inl x) = inr x
-            swap (inr x) = inl x
+            (⊎_swap (cases_Bool (to c)))
 
         pub turning_more : Turning open'' reached' (set turn a t) via' d' (t + 1)
         turning_more = record {

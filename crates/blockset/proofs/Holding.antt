@@ -1,6 +1,6 @@
 -- Membership against the bits of the set's number.
 -- Idea: below 64 both say the same, and from 64 on a number of 64 bits has no bit, as a set has no block.
-use Rattle.std.proofs.Common.{◌≡◌, ℕ, ◌-◌, ◌^◌, ◌<◌, Bool, true, false, not, ◌&&◌, ◌||◌, ltb, sym, refl, ap, ◌∙◌, inl, inr}
+use Rattle.std.proofs.Common.{◌≡◌, ℕ, ◌-◌, ◌^◌, ◌<◌, Bool, true, false, not, ◌&&◌, ltb, sym, refl, ap, ◌∙◌, inl, inr}
 use lib.Bits.{bit_and}
 use Rattle.std.proofs.lemmas.Bool.{cases_lt, lt-ltb, le-ltb, ltb-true, and_parts}
 use Rattle.blockset.specs.Sets.{bit}
@@ -28,10 +28,6 @@ bits_without a b j h = elim (cases_lt j 64) [
 ]
 
 -- a test that narrows both sides of an operation narrows its result
-pub and-or : (t a b : Bool) → (t && (a || b)) ≡ ((t && a) || (t && b))
-and-or true a b = refl
-and-or false a b = refl
-
 pub and-and : (t a b : Bool) → (t && (a && b)) ≡ ((t && a) && (t && b))
 and-and true a b = refl
 and-and false a b = refl

@@ -1,10 +1,11 @@
 -- What the answers of a kind do to columns that are made of two parts.
 -- Idea: two lists whose first parts are equally long are gone through side by side, so each part meets its own counterpart;
 -- the proofs are inductions over the first parts.
-use Rattle.std.specs.Prelude.{◌≡◌, ℕ, Bool, true, false, cond, ◌&&◌, List, [], ◌∷◌, ◌++◌, length, ℤ, ◌≢◌, int_lt, nat_le, unsigned_abs, refl}
+use Rattle.std.specs.Prelude.{◌≡◌, ℕ, true, false, cond, ◌&&◌, List, [], ◌∷◌, ◌++◌, length, ℤ, ◌≢◌, int_lt, nat_le, unsigned_abs, refl}
 use Rattle.std.specs.declared.cmp.Ordering.TheVariants.{Less, Equal, Greater}
 use Rattle.std.specs.declared.cmp.Ordering.{Ordering}
 use Rattle.std.proofs.Common.{sym, ap, ◌∙◌, arith}
+use Rattle.std.proofs.Math.Bool.{and_assoc}
 use Rattle.std.specs.Ordering.{ordering_then}
 use Rattle.cost.specs.Columns.{Within, within, columnwise, lex}
 
@@ -38,10 +39,6 @@ pub within-append : (k : ℕ) (a b : List ℤ) → Within k a → Within k b →
 within-append k [] b h i = i
 within-append k (x ∷ a) b h i = (h.0, within-append k a b h.1 i)
 
-and_assoc : (x y z : Bool) → (x && (y && z)) ≡ ((x && y) && z)
-and_assoc true y z = refl
-and_assoc false y z = refl
-
 pub test_append : (k : ℕ) (a b : List ℤ) → within k (a ++ b) ≡ (within k a && within k b)
 test_append k [] b = refl
-test_append k (x ∷ a) b = ap (λ t. nat_le (unsigned_abs x) k && t) (test_append k a b) ∙ and_assoc (nat_le (unsigned_abs x) k) (within k a) (within k b)
+test_append k (x ∷ a) b = ap (λ t. nat_le (unsigned_abs x) k && t) (test_append k a b) ∙ sym (and_assoc (nat_le (unsigned_abs x) k) (within k a) (within k b))

@@ -4,6 +4,7 @@
 -- leaves at least so many of X out, since what it pairs of X takes different blocks of Y. So ours is largest, and a pairing that leaves
 -- no more out than ours leaves only blocks of X out. And each block of X can be left out: free its right block, and fill that.
 use Rattle.std.proofs.Common.{◌≡◌, ℕ, zero, suc, ◌+◌, ◌-◌, ◌<◌, ◌≤◌, Bool, true, false, not, ◌&&◌, ◌||◌, eqb, leb, ◌⊎◌, ◌↔◌, List, replicate, Decides, sym, refl, ap, ◌∙◌, subst, inl, inr, arith}
+use Rattle.std.proofs.Math.Bool.{and_comm}
 use Rattle.std.proofs.lemmas.List.{length-replicate}
 use Rattle.std.proofs.lemmas.Bool.Decides.{Decides-like, same_from_decides}
 use Rattle.std.proofs.lemmas.Bool.{cases_Bool, or_left, or_right, and_parts, and_from, eqb-true, eq-eqb, ne_eqb, both_ways, true≢false, not-true, not_from_false, leb-true, leb-false, le-leb}
@@ -19,12 +20,6 @@ use Rattle.pairing.proofs.Filling.{fill}
 
 -- ---- the bound from a set of left blocks that stand with few right blocks
 
-and_swap : (a b : Bool) → (a && b) ≡ (b && a)
-and_swap true true = refl
-and_swap true false = refl
-and_swap false true = refl
-and_swap false false = refl
-
 module _ (n : ℕ) (stands : ℕ → ℕ → Bool) (X Y : ℕ → Bool) (shut : Shut n stands X Y) (q : List ℕ) (G : ℕ → Bool) (g : Partial n stands q G) where
   kept : (l : ℕ) → (X l && not (G l)) ≡ true → (X l ≡ true) × (G l ≡ false)
   kept l t = let b = and_parts (X l) (not (G l)) t in (b.0, not-true (G l) b.1)
@@ -39,7 +34,7 @@ module _ (n : ℕ) (stands : ℕ → ℕ → Bool) (X Y : ℕ → Bool) (shut : 
   left_out_le = omega (arith, members_split n X G, paired_le)
 
   pub out_of_set : members n (λ l. X l && G l) ≤ members n G
-  out_of_set = omega (arith, members_split n G X, members_like n (λ l. X l && G l) (λ l. G l && X l) (λ l _. and_swap (G l) (X l)))
+  out_of_set = omega (arith, members_split n G X, members_like n (λ l. X l && G l) (λ l. G l && X l) (λ l _. and_comm (G l) (X l)))
 
 pub leaves_out : (many few least : ℕ) → least ≡ many - few → LeavesOut many few least
 leaves_out many few least is = record {
@@ -215,7 +210,7 @@ module _ (n : ℕ) (stands : ℕ → ℕ → Bool) (p : List ℕ) (out : ℕ →
       only_reached : (q : List ℕ) (G : ℕ → Bool) → Partial n stands q G → members n G ≤ members n out → (l : ℕ) → l < n → G l ≡ true → D l ≡ true
       only_reached q G g le l i t =
           let none = members_none n (λ l. G l && not (D l))
-          (omega (arith, short, left_out_le n stands D Y shut q G g, members_split n G D, members_like n (λ l. D l && G l) (λ l. G l && D l) (λ l _. and_swap (G l) (D l)))) l i in
+          (omega (arith, short, left_out_le n stands D Y shut q G g, members_split n G D, members_like n (λ l. D l && G l) (λ l. G l && D l) (λ l _. and_comm (G l) (D l)))) l i in
           grind arith
 
 -- ---- the theorems

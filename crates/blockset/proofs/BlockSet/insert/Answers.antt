@@ -1,15 +1,12 @@
 -- The number's bits and the block's own bit; where there is no such bit, no block below 64 is the number.
-use Rattle.std.proofs.Common.{◌≡◌, ◌^◌, Bool, ◌&&◌, ◌||◌, eqb, ltb, ap, ◌∙◌, arith}
+use Rattle.std.proofs.Common.{◌^◌, ◌&&◌, ◌||◌, eqb, ltb, ap, ◌∙◌}
+use Rattle.std.proofs.Math.Bool.{or_comm, and-or_distrib_left}
 use lib.Bits.{bit_or}
 use Rattle.std.proofs.lemmas.Nat.{one_shl}
 use Rattle.blockset.specs.Sets.{bit}
 use Rattle.blockset.specs.Has.{has}
 use Rattle.blockset.proofs.Bits.{bit-or, bit-pow}
-use Rattle.blockset.proofs.Holding.{and-or}
 use Rattle.blockset.proofs.BlockSet.insert.Goals as goal
-
-or_swap : (a b : Bool) → (a || b) ≡ (b || a)
-or_swap a b = grind arith
 
 pub returns-then-block-lt64 : goal.returns-then-block-lt64
 unfolding has
@@ -17,5 +14,5 @@ returns-then-block-lt64 c j =
     let a = c.args.self.now.0 in
     let i = c.args.block in
     ap (λ m. ltb j 64 && bit (bit_or a m) j) (one_shl i 64 c.if-block-lt64.true)
-    ∙ ap (λ x. ltb j 64 && x) (bit-or a (2 ^ i) j ∙ ap (λ x. bit a j || x) (bit-pow i j) ∙ or_swap (bit a j) (eqb j i))
-    ∙ and-or (ltb j 64) (eqb j i) (bit a j)
+    ∙ ap (λ x. ltb j 64 && x) (bit-or a (2 ^ i) j ∙ ap (λ x. bit a j || x) (bit-pow i j) ∙ or_comm (bit a j) (eqb j i))
+    ∙ and-or_distrib_left (ltb j 64) (eqb j i) (bit a j)

@@ -1,5 +1,6 @@
 -- The number's bits without the block's own; where there is no such bit, the number is not in the set.
-use Rattle.std.proofs.Common.{◌≡◌, ℕ, ◌-◌, ◌^◌, ◌<◌, ◌≤◌, Bool, true, false, not, ◌&&◌, eqb, ltb, refl, ap, ◌∙◌, inl, inr, arith}
+use Rattle.std.proofs.Common.{◌≡◌, ℕ, ◌-◌, ◌^◌, ◌<◌, ◌≤◌, false, not, ◌&&◌, eqb, ltb, sym, ap, ◌∙◌, inl, inr, arith}
+use Rattle.std.proofs.Math.Bool.{and_assoc}
 use lib.Bits.{bit_and}
 use lib.Pow.{pow-lt}
 use Rattle.std.proofs.lemmas.Nat.{one_shl}
@@ -12,10 +13,6 @@ use Rattle.blockset.proofs.Bits.{bit-pow}
 use Rattle.blockset.proofs.Holding.{has_block, bits_without}
 use Rattle.blockset.proofs.BlockSet.remove.Goals as goal
 
-and_assoc : (a b c : Bool) → (a && (b && c)) ≡ ((a && b) && c)
-and_assoc true b c = refl
-and_assoc false b c = refl
-
 pub returns-then-block-lt64 : goal.returns-then-block-lt64
 unfolding has
 returns-then-block-lt64 c j =
@@ -23,7 +20,7 @@ returns-then-block-lt64 c j =
     let i = c.args.block in
     ap (λ m. ltb j 64 && bit (bit_and a (18446744073709551615 - m)) j) (one_shl i 64 c.if-block-lt64.true)
     ∙ bits_without a (2 ^ i) j (pow-lt c.if-block-lt64.true) ∙ ap (λ x. ltb j 64 && (bit a j && not x)) (bit-pow i j)
-    ∙ and_assoc (ltb j 64) (bit a j) (not (eqb j i))
+    ∙ sym (and_assoc (ltb j 64) (bit a j) (not (eqb j i)))
 
 no_block : (s : BlockSet) (i j : ℕ) → 64 ≤ i → has s j ≡ (has s j && not (eqb j i))
 no_block s i j h = elim (cases_Bool (has s j)) [

@@ -1,9 +1,9 @@
 -- The operation on numbers works bit by bit.
 use Rattle.std.proofs.Common.{◌&&◌, ltb, ap, ◌∙◌}
+use Rattle.std.proofs.Math.Bool.{and-or_distrib_left}
 use Rattle.blockset.specs.Sets.{bit}
 use Rattle.blockset.specs.Has.{has}
 use Rattle.blockset.proofs.Bits.{bit-or}
-use Rattle.blockset.proofs.Holding.{and-or}
 use Rattle.blockset.proofs.BlockSet.union.Goals as goal
 
 pub returns : goal.returns
@@ -11,4 +11,4 @@ unfolding has
 returns c j =
     let a = c.args.self.0 in
     let b = c.args.other.0 in
-    ap (λ x. ltb j 64 && x) (bit-or a b j) ∙ and-or (ltb j 64) (bit a j) (bit b j)
+    ap (λ x. ltb j 64 && x) (bit-or a b j) ∙ and-or_distrib_left (ltb j 64) (bit a j) (bit b j)
