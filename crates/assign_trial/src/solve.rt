@@ -6,7 +6,7 @@ use crate::line::Order;
 use assign::{Outcome, optimum};
 use blockset::BlockSet;
 use grid::place;
-use matching::first;
+use settling::settle;
 use std::alloc::{AllocError, Global};
 use tables::tight_rows;
 
@@ -81,12 +81,25 @@ impl<K: Trial> Tables<K> {
         self.tell_tight(text)
     }
 
+    /// Makes the pairing the first optimum one; false where the tables are refused or hold no pairing.
+    fn settle(&mut self) -> bool {
+        let outcome = settle(
+            self.n,
+            &self.costs,
+            &self.standing,
+            &mut self.partners,
+            &mut self.left,
+            &mut self.right,
+        );
+        matches!(outcome, Ok(Outcome::Optimal))
+    }
+
     /// Appends the tight pairs and the first optimum pairing.
     fn tell_tight(&mut self, text: &mut String) -> Result<(), AllocError> {
         let mut sets = [BlockSet::empty(); 64];
         let rows = &mut sets[0..self.n.min(64) as usize];
         let made = tight_rows(&self.costs, &self.standing, &self.left, &self.right, rows);
-        if made.is_err() || first(rows, &mut self.partners).is_err() {
+        if made.is_err() || !self.settle() {
             return text.push_str("\nno pairing of tight pairs\n");
         }
         text.push_str("\ntight")?;

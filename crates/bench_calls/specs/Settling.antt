@@ -3,14 +3,12 @@ use Rattle.std.specs.Prelude.{◌≡◌, ◌⊎◌, List, [], ◌∷◌, ℕ, �
 use Rattle.cost.specs.Columns.{railed}
 use Rattle.cost.specs.declared.plain_kind.Plain.{Plain}
 use Rattle.pairing.specs.Grid.{Grid}
-use Rattle.pairing.specs.Prices.{Greatest}
 use Rattle.pairing.specs.Largest.{Unpaired}
-use Rattle.pairing.specs.Optima.{optima}
-use Rattle.matching.specs.Answers.{Place}
-use Rattle.tables.specs.Said.{columns_at, grid_of, Ordered}
+use Rattle.tables.specs.Said.{grid_of, Ordered}
 use Rattle.tables.specs.Fit.{Fit, Misfit}
 use Rattle.tables.specs.declared.Unfit.{Unfit}
 use Rattle.assign.specs.Answer.{Lengths, Same, Solved}
+use Rattle.settling.specs.Settled.{Settled}
 
 -- what a plain cost means
 abbrev pub column : Plain → List ℤ
@@ -40,6 +38,5 @@ abbrev pub Found : ℕ → List Plain → (standing : List ℕ) → List ℕ →
 Found n costs standing = Solved 1 column (grid n costs standing)
 
 -- the first of all optimum pairings, and the greatest prices
-pub record Settled (n : ℕ) (costs : List Plain) (standing partners : List ℕ) (left right : List Plain) : Type 0 where
-  pub first : Place (optima (grid n costs standing)) 0 partners
-  pub greatest : Greatest (grid n costs standing) (columns_at column left) (columns_at column right) partners
+abbrev pub FoundFirst : ℕ → List Plain → (standing : List ℕ) → List ℕ → (left right : List Plain) → Type 0
+FoundFirst n costs standing = Settled 1 column (grid n costs standing)

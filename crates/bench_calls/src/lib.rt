@@ -11,13 +11,13 @@ ghost use Rattle.matching.specs.Answers.{Place, Steps};
 ghost use Rattle.tables.specs.Said.{Ordered};
 ghost use Rattle.assign.specs.Answer.{Lengths};
 ghost use Rattle.bench_calls.specs.Codes.{code};
-ghost use Rattle.bench_calls.specs.Settling.{column, Answered, Found, Settled};
+ghost use Rattle.bench_calls.specs.Settling.{Answered, Found, FoundFirst};
 
 use assign::{Outcome, optimum};
 use blockset::BlockSet;
 use cost::Plain;
 use matching::{Step, first};
-use tables::tight_rows;
+use settling::settle;
 
 /// 0 where `p` is now the first perfect pairing, and 1 where the tables were refused.
 #[unsafe(no_mangle)]
@@ -70,29 +70,6 @@ pub extern "C" fn bench_optimum(
     }
 }
 
-/// Makes an optimum pairing the first one.
-fn take_first(
-    costs: &[Plain],
-    standing: &[u8],
-    partners: &mut [u16],
-    left: &[Plain],
-    right: &[Plain],
-    rows: &mut [BlockSet],
-)
-    requires few { length rows.old ≤ 64 }
-    requires fits { Lengths (length rows.old) costs.now standing.now partners.old left.now right.now }
-    requires ordered { Ordered column (length rows.old * length rows.old) costs.now standing.now }
-    requires found { Found (length rows.old) costs.now standing.now partners.old left.now right.now }
-    ensures { Settled (length rows.old) costs.now standing.now partners.new left.now right.now }
-{
-    let Ok(()) = tight_rows(costs, standing, left, right, rows) else {
-        unreachable()
-    };
-    let Ok(()) = first(rows, partners) else {
-        unreachable()
-    };
-}
-
 /// 0 where the tables now hold the first optimum pairing and the greatest prices, and 1 where they were refused or no pairing is perfect: then they are as they were.
 #[unsafe(no_mangle)]
 pub extern "C" fn bench_settle(
@@ -102,13 +79,20 @@ pub extern "C" fn bench_settle(
     left: &mut [Plain],
     right: &mut [Plain],
 ) -> u32
-    ensures { Answered (Settled (length partners.old) costs.now standing.now) (length partners.old) costs.now standing.now partners.old left.old right.old partners.new left.new right.new result }
+    ensures { Answered (FoundFirst (length partners.old) costs.now standing.now) (length partners.old) costs.now standing.now partners.old left.old right.old partners.new left.new right.new result }
 {
-    if bench_optimum(costs, standing, partners, left, right) != 0 {
+    if partners.len() > 64 {
         return 1;
     }
-    let n = partners.len();
-    let mut rows = [BlockSet::empty(); 64];
-    take_first(costs, standing, partners, left, right, &mut rows[0..n]);
-    0
+    match settle(
+        partners.len() as u16,
+        costs,
+        standing,
+        partners,
+        left,
+        right,
+    ) {
+        Ok(Outcome::Optimal) => 0,
+        _ => 1,
+    }
 }

@@ -1,22 +1,22 @@
 -- The optimum pairing is one over the tight rows, so that `first` accepts it, and what it makes of it is the first optimum pairing.
 use Rattle.std.proofs.Common.{◌≡◌, length, sym, ◌∙◌, arith, rules}
 use Rattle.matching.specs.Rows.{Pairs}
-use Rattle.bench_calls.proofs.Firsts.{accepted, settled, never_refused}
-use Rattle.bench_calls.proofs.take_first.Goals as goal
+use Rattle.settling.proofs.Firsts.{accepted, settled, never_refused}
+use Rattle.settling.proofs.take_first.Goals as goal
 
 pub unreachable-requires-in_default-first : goal.unreachable-requires-in_default-first
-unreachable-requires-in_default-first c =
+unreachable-requires-in_default-first g c =
     let rows = c.tight_rows.new.rows in
     let sized : length rows ≡ length c.args.rows.now = search rules in
     let fit = c.requires.fits in
     let pairs : Pairs rows c.args.partners.now =
-    accepted (length c.args.rows.now) c.args.costs.now c.args.standing.now c.args.partners.now c.args.left.now c.args.right.now rows c.requires.few
+    accepted g.K.Cost.columns g.K.Cost.meaning g.met.K.Cost.sized (length c.args.rows.now) c.args.costs.now c.args.standing.now c.args.partners.now c.args.left.now c.args.right.now rows c.requires.few
     fit.0.costs_fit c.requires.ordered c.requires.found sized c.in-Ok.ensures.1 in
     never_refused rows c.args.partners.now (omega (arith, sized, c.requires.few)) (fit.1 ∙ sym sized) pairs c.in_default-first.field-0 c.in_default-first.ensures.0
 
 pub returns : goal.returns
-returns c =
+returns g c =
     let rows = c.tight_rows.new.rows in
     let sized : length rows ≡ length c.args.rows.now = search rules in
-    settled (length c.args.rows.now) c.args.costs.now c.args.standing.now c.args.partners.now c.args.left.now c.args.right.now rows c.requires.few
+    settled g.K.Cost.columns g.K.Cost.meaning g.met.K.Cost.sized (length c.args.rows.now) c.args.costs.now c.args.standing.now c.args.partners.now c.args.left.now c.args.right.now rows c.requires.few
     c.requires.fits.0.costs_fit c.requires.ordered c.requires.found sized c.in-Ok.ensures.1 c.first.new.p c.in-Ok-first.ensures.1
