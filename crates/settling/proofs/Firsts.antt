@@ -2,12 +2,13 @@
 -- Idea: under the greatest prices the perfect pairings of tight pairs are the optimum pairings, and there is only one list of these in dictionary order.
 use Rattle.std.proofs.Common.{◌≡◌, ℕ, ◌*◌, ◌≤◌, true, ◌↔◌, List, [], ◌∷◌, length, ℤ, sym, subst, inl, arith}
 use Rattle.blockset.specs.declared.BlockSet.{BlockSet}
-use Rattle.pairing.specs.Grid.{Sane, Optimum}
+use Rattle.pairing.specs.Grid.{Sane, PerfectIn, Optimum}
+use Rattle.pairing.specs.Prices.{Valid}
 use Rattle.pairing.specs.Optima.{In, optima}
-use Rattle.pairing.proofs.Duality.{valid_alike}
+use Rattle.pairing.proofs.Duality.{proves_optimum, valid_alike}
 use Rattle.pairing.proofs.Listing.{in_perfects, perfects_ascend, optima_are}
 use Rattle.matching.specs.Rows.{holds, Pairs, pairings}
-use Rattle.matching.specs.Fit.{Unfits}
+use Rattle.matching.specs.Fit.{Misfit}
 use Rattle.matching.specs.declared.Unfit.{Unfit}
 use Rattle.matching.specs.declared.Unfit.TheVariants.{Size, Length, Pairing}
 use Rattle.matching.specs.Answers.{Place}
@@ -25,24 +26,26 @@ first_in (p ∷ ps) q h = inl (sym h.1)
 
 module _ {K : Type 0} (columns : ℕ) (meaning : K → List ℤ) (wide : (x : K) → length (meaning x) ≡ columns)
     (n : ℕ) (costs : List K) (standing p : List ℕ) (left right : List K) (rows : List BlockSet) (few : n ≤ 64) (whole : length costs ≡ n * n)
-    (ordered : Ordered meaning (n * n) costs standing) (solved : Solved columns meaning (grid_of columns meaning n costs standing) p left right) (sized : length rows ≡ n)
+    (ordered : Ordered meaning (n * n) costs standing) (perfect : PerfectIn (grid_of columns meaning n costs standing) p)
+    (valid : Valid (grid_of columns meaning n costs standing) (columns_at meaning left) (columns_at meaning right) p) (sized : length rows ≡ n)
     (made : TightRows (grid_of columns meaning n costs standing) (columns_at meaning left) (columns_at meaning right) rows) where
-  sane : Sane (grid_of columns meaning n costs standing)
+  pub sane : Sane (grid_of columns meaning n costs standing)
   sane = sane_ordered meaning columns wide n costs standing few whole ordered
 
-  are : (q : List ℕ) → Pairs rows q ↔ Optimum (grid_of columns meaning n costs standing) q
-  are q = pairs_optimum (grid_of columns meaning n costs standing) (columns_at meaning left) (columns_at meaning right) rows sane made sized p q solved.optimum.perfect solved.greatest.valid
+  pub are : (q : List ℕ) → Pairs rows q ↔ Optimum (grid_of columns meaning n costs standing) q
+  are q = pairs_optimum (grid_of columns meaning n costs standing) (columns_at meaning left) (columns_at meaning right) rows sane made sized p q perfect valid
 
+  -- the prices prove the pairing optimum, so it is one over the tight rows
   pub accepted : Pairs rows p
-  accepted = (are p).1 solved.optimum
+  accepted = (are p).1 (proves_optimum (grid_of columns meaning n costs standing) (columns_at meaning left) (columns_at meaning right) p sane perfect valid).0
 
-  listed : pairings rows ≡ optima (grid_of columns meaning n costs standing)
+  pub listed : pairings rows ≡ optima (grid_of columns meaning n costs standing)
   listed =
       (optima_are true (grid_of columns meaning n costs standing)).only (pairings rows) (perfects_ascend (length rows) (holds rows))
       (λ q. (λ i. (are q).0 ((in_perfects (length rows) (holds rows) q).0 i), λ o. (in_perfects (length rows) (holds rows) q).1 ((are q).1 o)))
 
-  pub settled : (q : List ℕ) → Place (pairings rows) 0 q → Settled columns meaning (grid_of columns meaning n costs standing) q left right
-  settled q h =
+  pub settled : Solved columns meaning (grid_of columns meaning n costs standing) p left right → (q : List ℕ) → Place (pairings rows) 0 q → Settled columns meaning (grid_of columns meaning n costs standing) q left right
+  settled solved q h =
       let o : Optimum (grid_of columns meaning n costs standing) q = (are q).0 ((in_perfects (length rows) (holds rows) q).0 (first_in (pairings rows) q h)) in
       let g = solved.greatest in
       record {
@@ -56,8 +59,8 @@ module _ {K : Type 0} (columns : ℕ) (meaning : K → List ℤ) (wide : (x : K)
         right_near = solved.right_near;
       }
 
--- rows that fit a perfect pairing over them are not refused
-pub never_refused : (rows : List BlockSet) (p : List ℕ) → length rows ≤ 64 → length p ≡ length rows → Pairs rows p → (e : Unfit) → Unfits rows p e → ⊥
-never_refused rows p few same pairs Size h = omega (arith, few, h)
-never_refused rows p few same pairs Length h = h.1 same
-never_refused rows p few same pairs Pairing h = h.2 pairs
+-- what fits is not refused
+pub never_refused : (n : ℕ) (Lengths Paired : Type 0) → n ≤ 64 → Lengths → Paired → (e : Unfit) → Misfit n Lengths Paired e → ⊥
+never_refused n Lengths Paired few long pairs Size h = omega (arith, few, h)
+never_refused n Lengths Paired few long pairs Length h = h.1 long
+never_refused n Lengths Paired few long pairs Pairing h = h.2 pairs
