@@ -1,5 +1,5 @@
 -- When the tables that a call is handed fit together, and which cause it names where they do not.
-use Rattle.std.specs.Prelude.{◌≡◌, ℕ, ◌*◌, ◌<◌, ◌≤◌, List, length}
+use Rattle.std.specs.Prelude.{◌≡◌, ℕ, ◌*◌, ◌<◌, ◌≤◌, List, length, codes}
 use Rattle.blockset.specs.declared.BlockSet.{BlockSet}
 use Rattle.matching.specs.declared.Unfit.{Unfit}
 use Rattle.matching.specs.declared.Unfit.TheVariants.{Size, Length, Pairing}
@@ -36,3 +36,9 @@ Sized rows p = Fit (length rows) (length p ≡ length rows) (Unit {0})
 -- why a list is refused whose content is free
 abbrev pub Missized : List BlockSet → List ℕ → Unfit → Type 0
 Missized rows p = Misfit (length rows) (length p ≡ length rows) (Unit {0})
+
+-- what a cause displays itself as
+abbrev pub unfit_text : Unfit → List ℕ
+unfit_text Size = codes "more than 64 rows"
+unfit_text Length = codes "a table of the wrong length"
+unfit_text Pairing = codes "no perfect pairing over the rows"

@@ -9,11 +9,11 @@
 //! each right block at most once, so it takes at most 2n steps of a few set operations each.
 #![tactic(auto)]
 
-ghost use Rattle.std.specs.Prelude.{◌≡◌, ℕ, ◌+◌, ◌*◌, ◌<◌, ◌≤◌, true, false, ◌&&◌, ◌||◌, length, if◌then◌else◌, IsTrue, ◌↔◌, MatchBool, MatchOption, MatchResult, ◌≢◌, nat_lt};
+ghost use Rattle.std.specs.Prelude.{◌≡◌, ℕ, ◌+◌, ◌*◌, ◌<◌, ◌≤◌, true, false, ◌&&◌, ◌||◌, length, Some, if◌then◌else◌, IsTrue, ◌↔◌, MatchBool, MatchOption, MatchResult, ◌≢◌, nat_lt};
 ghost use Rattle.blockset.specs.Has.{has};
 ghost use Rattle.pairing.specs.Grid.{at};
 ghost use Rattle.matching.specs.Rows.{holds, Pairs, pairings};
-ghost use Rattle.matching.specs.Fit.{Fits, Unfits, UnfitsTable, Sized, Missized};
+ghost use Rattle.matching.specs.Fit.{Fits, Unfits, UnfitsTable, Sized, Missized, unfit_text};
 ghost use Rattle.matching.specs.Search.{Apart, Holding, along, ReachedBy, Ended, Ways, Filled, Led};
 ghost use Rattle.matching.specs.Steps.{Improved, Unimproved, Settled};
 ghost use Rattle.matching.specs.Answers.{Place, Steps, Marked, PairsMost};
@@ -34,6 +34,8 @@ pub enum Unfit {
 }
 
 impl fmt::Display for Unfit {
+    ghost output = { λ unfit. Some (unfit_text unfit) };
+
     fn fmt<W: fmt::Write>(&self, f: &mut fmt::Formatter<W>) -> fmt::Result {
         f.write_str(match self {
             Unfit::Size => "more than 64 rows",

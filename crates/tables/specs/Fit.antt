@@ -1,5 +1,5 @@
 -- When lent tables fit together, and which cause a call names where they do not.
-use Rattle.std.specs.Prelude.{◌≡◌, ℕ, ◌*◌, ◌<◌, ◌≤◌}
+use Rattle.std.specs.Prelude.{◌≡◌, ℕ, ◌*◌, ◌<◌, ◌≤◌, List, codes}
 use Rattle.tables.specs.declared.Unfit.{Unfit}
 use Rattle.tables.specs.declared.Unfit.TheVariants.{Size, Length, Order}
 
@@ -21,3 +21,9 @@ pub record Fit (n : ℕ) (Lengths Ordered : Type 0) : Type 0 where
   pub small : n ≤ 64
   pub lengths : Lengths
   pub ordered : Ordered
+
+-- what a cause displays itself as
+abbrev pub unfit_text : Unfit → List ℕ
+unfit_text Size = codes "more than 64 blocks a plane"
+unfit_text Length = codes "a table of the wrong length"
+unfit_text Order = codes "a standing byte above 1, or a standing pair's cost not within 10^9"

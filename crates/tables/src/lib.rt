@@ -1,10 +1,10 @@
 //! What lent tables say of a grid, as rows of block sets: the pairs that stand, and the pairs whose two prices add up to their cost.
 #![tactic(auto)]
 
-ghost use Rattle.std.specs.Prelude.{◌≡◌, ◌*◌, length, MatchResult, slice_index};
+ghost use Rattle.std.specs.Prelude.{◌≡◌, ◌*◌, length, Some, MatchResult, slice_index};
 ghost use Rattle.grid.specs.Tables.{byte_of, says_stands};
 ghost use Rattle.tables.specs.Said.{columns_at, grid_of};
-ghost use Rattle.tables.specs.Fit.{Fit, Misfit, Sized};
+ghost use Rattle.tables.specs.Fit.{Fit, Misfit, Sized, unfit_text};
 ghost use Rattle.tables.specs.Rows.{Passing, StandingRows, adds_up, TightRows};
 
 use blockset::BlockSet;
@@ -25,6 +25,8 @@ pub enum Unfit {
 }
 
 impl fmt::Display for Unfit {
+    ghost output = { λ unfit. Some (unfit_text unfit) };
+
     fn fmt<W: fmt::Write>(&self, f: &mut fmt::Formatter<W>) -> fmt::Result {
         f.write_str(match self {
             Unfit::Size => "more than 64 blocks a plane",

@@ -1,7 +1,7 @@
 //! The walk through all optimum pairings of tables that hold together, and the pairs that occur in any of them, for every cost kind.
 #![tactic(auto)]
 
-ghost use Rattle.std.specs.Prelude.{◌≡◌, ℕ, ◌*◌, List, length, MatchResult};
+ghost use Rattle.std.specs.Prelude.{◌≡◌, ℕ, ◌*◌, List, length, Some, codes, MatchResult};
 ghost use Rattle.pairing.specs.Grid.{Optimum};
 ghost use Rattle.pairing.specs.Optima.{optima};
 ghost use Rattle.matching.specs.Answers.{Place};
@@ -25,6 +25,8 @@ use tables::tight_rows;
 pub struct Apart;
 
 impl fmt::Display for Apart {
+    ghost output = { λ _. Some (codes "the tables do not hold together") };
+
     fn fmt<W: fmt::Write>(&self, f: &mut fmt::Formatter<W>) -> fmt::Result {
         f.write_str("the tables do not hold together")
     }
