@@ -1,5 +1,6 @@
 #!/usr/bin/env python3
-"""Makes the files of crates/orderfile_trial: order files, sound and damaged, and what each one states.
+"""Makes the files of crates/orderfile_trial, order files, sound and damaged, and what each one states, and the input of
+crates/inspect_trial, which is longer than what is read of it.
 
 Run in the repository's root. It is written from docs/order-files.md alone and shares nothing with the crates, so the
 comparison in the gate is one of two independent readers.
@@ -8,6 +9,8 @@ import random
 import struct
 
 LIMIT = 10 ** 9
+# an input is judged by so many bytes of it
+CUT = 65536
 
 
 def field(tag, value):
@@ -125,6 +128,12 @@ def random_files(count):
     yield full[:-1]
 
 
+def long_file():
+    """A sound file of which the cut leaves all but the last byte of a pair field."""
+    pairs = (pair(k // 64 % 64, k % 64, k * 1000 - 5) for k in range(5045))
+    return size(64) + b"".join(pairs) + END
+
+
 def main():
     files = list(damaged()) + list(random_files(500))
     with open("crates/orderfile_trial/stdin", "wb") as out:
@@ -133,7 +142,13 @@ def main():
     with open("crates/orderfile_trial/stdout", "w") as out:
         for data in files:
             out.write(text(data))
-    print(len(files), "files")
+    long = long_file()
+    assert len(long) > CUT and len(first_fault(long)) == 2
+    with open("crates/inspect_trial/stdin", "wb") as out:
+        out.write(long)
+    with open("crates/inspect_trial/stdout", "w") as out:
+        out.write(text(long[:CUT]))
+    print(len(files), "files, and one of", len(long), "bytes")
 
 
 if __name__ == "__main__":

@@ -1,19 +1,29 @@
 -- Pairs that cost least at their right blocks go with the prices that are these least costs.
--- Idea: a left block's own right block is at its price exactly, and every other right block that it stands with is at most at its cost.
-use Rattle.std.proofs.Common.{◌≡◌, ℕ, Bool, true, ℤ, ap, subst, arith}
+-- Idea: a left block's own right block is at its price exactly, and every other right block that it
+-- stands with is at most at its cost. No right block comes twice, since it is cheapest with one
+-- left block only.
+use Rattle.std.proofs.Common.{◌≡◌, ℕ, Bool, true, List, length, ℤ, sym, ap, ◌∙◌, subst, arith}
 use Rattle.std.proofs.lemmas.Int.{ints}
+use Rattle.pairing.specs.Grid.{at}
+use Rattle.matching.specs.declared.chains.Holders.{Holders}
 use Rattle.assign.specs.Search.{Kept}
 use Rattle.assign.specs.Pairs.{CheapestOf, Chosen}
 
-pub cheaply_kept : (n : ℕ) (stands : ℕ → ℕ → Bool) (cost : ℕ → ℕ → ℤ) (priced : ℕ → Bool) (row : ℕ → ℕ) (v : ℕ → ℤ) → CheapestOf n n stands cost priced row v
-    → (out : ℕ → Bool) (p o : ℕ → ℕ) → Chosen n priced row out p o → Kept n stands cost out p o v
-cheaply_kept n stands cost priced row v cheapest out p o chosen = record {
-  below = chosen.below;
-  standing = λ l h u. let w = chosen.cheap l h u in subst (λ (z : ℕ). stands z (p l) ≡ true) w.1 (cheapest.stood (p l) w.0);
-  owned = chosen.owned;
-  owns = chosen.owns;
+pub cheaply_kept : (n : ℕ) (stands : ℕ → ℕ → Bool) (cost : ℕ → ℕ → ℤ) (priced : ℕ → Bool)
+    (row : ℕ → ℕ) (v : ℕ → ℤ) → CheapestOf n n stands cost priced row v
+    → (out : ℕ → Bool) (p : List ℕ) (o : Holders) → length p ≡ n → Chosen n priced row out p o
+    → Kept n stands cost out p o v
+cheaply_kept n stands cost priced row v cheapest out p o sized chosen = record {
+  pairs = record {
+    len = sized;
+    below = λ l h u. cheapest.inside (at p l) (chosen.cheap l h u).0;
+    standing = λ l h u. let w = chosen.cheap l h u in
+        subst (λ (z : ℕ). stands z (at p l) ≡ true) w.1 (cheapest.stood (at p l) w.0);
+    once = λ l m hl hm ul um e. sym (chosen.cheap l hl ul).1 ∙ ap row e ∙ (chosen.cheap m hm um).1;
+  };
+  holding = chosen.holding;
   fair = λ l c h u i s.
       let w = chosen.cheap l h u in
-      let own : cost (row (p l)) (p l) ≡ cost l (p l) = ap (λ z. cost z (p l)) w.1 in
-      omega (arith, ints, cheapest.costs (p l) w.0, (cheapest.least l c h s).1);
+      let own : cost (row (at p l)) (at p l) ≡ cost l (at p l) = ap (λ z. cost z (at p l)) w.1 in
+      omega (arith, ints, cheapest.costs (at p l) w.0, (cheapest.least l c h s).1);
 }

@@ -1,7 +1,6 @@
 pub mod Entries
 pub mod Differences
 pub mod Growing
-pub mod Flipping
 pub mod Adding
 pub mod Ending
 pub mod Offering
@@ -15,3 +14,4 @@ pub mod Cheaply
 pub mod Solving
 pub mod Pricing
 pub mod Sweeping
+pub mod Firsts

@@ -1,6 +1,8 @@
 -- The nearest right block of those that were looked at so far.
--- Idea: none that was looked at is less far beyond its price than the best so far; a new one either is not, or becomes the best.
-use Rattle.std.proofs.Common.{◌≡◌, ℕ, Bool, true, false, not, ◌&&◌, eqb, ℤ, ◌+ℤ◌, ◌-ℤ◌, ◌≤ℤ◌, ◌<ℤ◌, ap, ⊎_elim, arith}
+-- Idea: none that was looked at is less far beyond its price than the best so far; a new one either
+-- is not, or becomes the best.
+use Rattle.std.proofs.Common.{◌≡◌, ℕ, Bool, true, false, not, ◌&&◌, eqb, ℤ, ◌+ℤ◌, ◌-ℤ◌, ◌≤ℤ◌, ◌<ℤ◌}
+use Rattle.std.proofs.Common.{ap, ⊎_elim, arith}
 use Rattle.std.proofs.lemmas.Int.{ints}
 use Rattle.std.proofs.lemmas.Bool.{cases_eq, both_ways}
 use Rattle.assign.specs.Offers.{Nearest}
@@ -14,17 +16,26 @@ module _ (set : ℕ → Bool) (v d : ℕ → ℤ) where
     pub is : key ≡ d best -ℤ v best
     pub least : (c : ℕ) → set c ≡ true → rest c ≡ false → (d best +ℤ v c) ≤ℤ (d c +ℤ v best)
 
-  pub nearing_none : (best : ℕ) (key : ℤ) → set best ≡ true → key ≡ d best -ℤ v best → Nearing set best key
-  nearing_none best key member is = record { part = λ c t. t; member = member; is = is; least = λ c s f. absurd (both_ways (set c) f s) }
+  pub nearing_none : (best : ℕ) (key : ℤ) → set best ≡ true → key ≡ d best -ℤ v best
+      → Nearing set best key
+  nearing_none best key member is = record {
+    part = λ c t. t;
+    member = member;
+    is = is;
+    least =
+        λ c s f. absurd (both_ways (set c) f s);
+  }
 
-  module _ (rest rest' : ℕ → Bool) (c : ℕ) (removed : (j : ℕ) → rest' j ≡ (rest j && not (eqb j c))) (in_rest : rest c ≡ true) (best : ℕ) (key : ℤ) (h : Nearing rest best key) where
+  module _ (rest rest' : ℕ → Bool) (c : ℕ) (removed : (j : ℕ) → rest' j ≡ (rest j && not (eqb j c)))
+      (in_rest : rest c ≡ true) (best : ℕ) (key : ℤ) (h : Nearing rest best key) where
     pub nearing_keep : key ≤ℤ (d c -ℤ v c) → Nearing rest' best key
     nearing_keep le = record {
       part = λ j t. h.part j (still_in rest rest' c removed j t).0;
       member = h.member;
       is = h.is;
       least = λ j s f. ⊎_elim
-          (λ (e : j ≡ c). let x : d j ≡ d c = ap d e in let y : v j ≡ v c = ap v e in omega (arith, ints, h.is))
+          (λ (e : j ≡ c). let x : d j ≡ d c = ap d e in let y : v j ≡ v c = ap v e in
+          omega (arith, ints, h.is))
           (λ (ne : j ≡ c → ⊥). h.least j s (gone rest rest' c removed j f ne))
           (cases_eq j c);
     }
@@ -35,10 +46,14 @@ module _ (set : ℕ → Bool) (v d : ℕ → ℤ) where
       member = h.part c in_rest;
       is = is;
       least = λ j s f. ⊎_elim
-          (λ (e : j ≡ c). let x : d j ≡ d c = ap d e in let y : v j ≡ v c = ap v e in omega (arith, ints))
-          (λ (ne : j ≡ c → ⊥). omega (arith, ints, h.is, h.least j s (gone rest rest' c removed j f ne)))
+          (λ (e : j ≡ c). let x : d j ≡ d c = ap d e in let y : v j ≡ v c = ap v e in
+          omega (arith, ints))
+          (λ (ne : j ≡ c → ⊥). omega
+          (arith, ints, h.is, h.least j s (gone rest rest' c removed j f ne)))
           (cases_eq j c);
     }
 
-  pub nearing_done : (rest : ℕ → Bool) (best : ℕ) (key : ℤ) → Nearing rest best key → ((c : ℕ) → rest c ≡ false) → Nearest set v d best
-  nearing_done rest best key h none = record { member = h.member; least = λ c s. h.least c s (none c) }
+  pub nearing_done : (rest : ℕ → Bool) (best : ℕ) (key : ℤ) → Nearing rest best key
+      → ((c : ℕ) → rest c ≡ false) → Nearest set v d best
+  nearing_done rest best key h none =
+      record { member = h.member; least = λ c s. h.least c s (none c) }

@@ -1,34 +1,44 @@
--- The price of each right block as the least cost that it stands at, made left block by left block from a cleared table.
--- Idea: one left block more offers its cost to each right block that it stands with. A right block without a price takes the offer, and one with a price takes it only if it is less.
--- So the price that it has then is the cost of one of its pairs so far, and no pair so far costs less.
-use Rattle.std.proofs.Common.{◌≡◌, ℕ, ◌+◌, ◌<◌, Bool, true, false, ◌||◌, List, [], replicate, ℤ, pos, ◌≤ℤ◌, sym, ap, ◌∙◌, subst, ⊎_elim, arith}
+-- The price of each right block as the least cost that it stands at, made left block by left block
+-- from a cleared table.
+-- Idea: one left block more offers its cost to each right block that it stands with. A right block
+-- without a price takes the offer, and one with a price takes it only if it is less. So the price
+-- that it has then is the cost of one of its pairs so far, and no pair so far costs less.
+use Rattle.std.proofs.Common.{◌≡◌, ℕ, ◌+◌, ◌<◌, Bool, true, false, ◌||◌, List, [], replicate, ℤ}
+use Rattle.std.proofs.Common.{pos, ◌≤ℤ◌, sym, ap, ◌∙◌, subst, ⊎_elim, arith}
 use Rattle.std.proofs.lemmas.List.{get_or-map, get_or-replicate, length-replicate}
 use Rattle.std.proofs.lemmas.Int.{ints}
 use Rattle.std.proofs.lemmas.Bool.{cases_Bool, cases_eq, both_ways, or_left, or_right, or_cases}
+use Rattle.cost.specs.declared.Cost.{Ghosts}
 use Rattle.cost.specs.Columns.{Within, zeros}
 use Rattle.cost.proofs.Exact.{zeros_within}
-use Rattle.cost.proofs.Weights.{weight, weight_zeros}
+use Rattle.cost.specs.Weights.{weight}
+use Rattle.cost.proofs.Weights.{weight_zeros}
 use Rattle.tables.specs.Said.{columns_at}
 use Rattle.assign.specs.Weighed.{weight_at}
 use Rattle.assign.specs.Offers.{Offered}
 use Rattle.assign.specs.Pairs.{CheapestOf}
 
 -- a table that is cleared: it holds the value of zero everywhere
-module _ {K : Type 0} (meaning : K → List ℤ) (nought : K) (columns : ℕ) (nothing : meaning nought ≡ zeros columns) (k : ℕ) (table : List K) (cleared : table ≡ replicate k nought) where
-  zero-at : (c : ℕ) → c < k → columns_at meaning table c ≡ zeros columns
+module _ {K : Type 0} (kind : Ghosts K) (nought : K) (columns : ℕ)
+    (nothing : kind.meaning nought ≡ zeros columns) (k : ℕ) (table : List K)
+    (cleared : table ≡ replicate k nought) where
+  zero-at : (c : ℕ) → c < k → columns_at kind.meaning table c ≡ zeros columns
   zero-at c h =
-      ap (λ t. columns_at meaning t c) cleared
-      ∙ get_or-map meaning (replicate k nought) c nought [] (subst (λ (z : ℕ). c < z) (sym (length-replicate k nought)) h) ∙ ap meaning (get_or-replicate k c nought nought h) ∙ nothing
+      ap (λ t. columns_at kind.meaning t c) cleared
+      ∙ get_or-map kind.meaning (replicate k nought) c nought []
+      (subst (λ (z : ℕ). c < z) (sym (length-replicate k nought)) h)
+      ∙ ap kind.meaning (get_or-replicate k c nought nought h) ∙ nothing
 
-  pub cleared_within : (b c : ℕ) → c < k → Within b (columns_at meaning table c)
+  pub cleared_within : (b c : ℕ) → c < k → Within b (columns_at kind.meaning table c)
   cleared_within b c h = subst (Within b) (sym (zero-at c h)) (zeros_within b columns)
 
-  pub cleared_weighs : (c : ℕ) → c < k → weight_at meaning table c ≡ pos 0
+  pub cleared_weighs : (c : ℕ) → c < k → weight_at kind table c ≡ pos 0
   cleared_weighs c h = ap weight (zero-at c h) ∙ weight_zeros columns
 
 module _ (n : ℕ) (stands : ℕ → ℕ → Bool) (cost : ℕ → ℕ → ℤ) where
   -- no left block has made an offer, and no right block has a price
-  pub cheapest_none : (priced : ℕ → Bool) (row : ℕ → ℕ) (v : ℕ → ℤ) → ((c : ℕ) → priced c ≡ false) → CheapestOf 0 n stands cost priced row v
+  pub cheapest_none : (priced : ℕ → Bool) (row : ℕ → ℕ) (v : ℕ → ℤ) → ((c : ℕ) → priced c ≡ false)
+      → CheapestOf 0 n stands cost priced row v
   cheapest_none priced row v none = record {
     inside = λ c t. absurd (both_ways (priced c) (none c) t);
     low = λ c t. absurd (both_ways (priced c) (none c) t);
@@ -38,9 +48,14 @@ module _ (n : ℕ) (stands : ℕ → ℕ → Bool) (cost : ℕ → ℕ → ℤ) 
   }
 
   -- left block m offers its costs, `own`, to the right blocks that it stands with
-  module _ (m : ℕ) (priced : ℕ → Bool) (row : ℕ → ℕ) (v : ℕ → ℤ) (so_far : CheapestOf m n stands cost priced row v) (shift : ℤ) (unshifted : shift ≡ pos 0) (own : ℕ → ℤ) (to : ℕ → Bool)
-      (to_is : (c : ℕ) → to c ≡ stands m c) (to_inside : (c : ℕ) → to c ≡ true → c < n) (own_is : (c : ℕ) → c < n → own c ≡ cost m c) (priced' : ℕ → Bool) (joined : (c : ℕ) → priced' c ≡ (priced c || to c))
-      (row' : ℕ → ℕ) (v' : ℕ → ℤ) (offers : (c : ℕ) → Offered shift own m to priced v row v' row' c) where
+  module _ (m : ℕ) (priced : ℕ → Bool) (row : ℕ → ℕ) (v : ℕ → ℤ)
+      (so_far : CheapestOf m n stands cost priced row v) (shift : ℤ) (unshifted : shift ≡ pos 0)
+      (own : ℕ → ℤ) (to : ℕ → Bool)
+      (to_is : (c : ℕ) → to c ≡ stands m c) (to_inside : (c : ℕ) → to c ≡ true → c < n)
+      (own_is : (c : ℕ) → c < n → own c ≡ cost m c) (priced' : ℕ → Bool)
+      (joined : (c : ℕ) → priced' c ≡ (priced c || to c))
+      (row' : ℕ → ℕ) (v' : ℕ → ℤ)
+      (offers : (c : ℕ) → Offered shift own m to priced v row v' row' c) where
     -- the price of c is what it costs with a left block that it stands with
     CostOfOne : ℕ → Type 0
     CostOfOne c = (c < n) × (row' c < m + 1) × (stands (row' c) c ≡ true) × (v' c ≡ cost (row' c) c)
@@ -57,7 +72,13 @@ module _ (n : ℕ) (stands : ℕ → ℕ → Bool) (cost : ℕ → ℕ → ℤ) 
 
     takes : (c : ℕ) → to c ≡ true → v' c ≡ cost m c → row' c ≡ m → CostOfOne c
     unfolding CostOfOne
-    takes c t e r = (to_inside c t, omega arith, ap (λ z. stands z c) r ∙ sym (to_is c) ∙ t, e ∙ ap (λ z. cost z c) (sym r))
+    takes c t e r = (
+      to_inside c t,
+      omega arith,
+      ap (λ z. stands z c) r ∙ sym (to_is c) ∙ t,
+      e
+          ∙ ap (λ z. cost z c) (sym r),
+    )
 
     one : (c : ℕ) → priced' c ≡ true → CostOfOne c
     one c t = ⊎_elim
@@ -67,12 +88,15 @@ module _ (n : ℕ) (stands : ℕ → ℕ → Bool) (cost : ℕ → ℕ → ℤ) 
         ((offers c).change y))
         (λ (f : to c ≡ false).
         let w = (offers c).others f in
-        keeps c (⊎_elim (λ (x : priced c ≡ true). x) (λ (y : to c ≡ true). absurd (both_ways (to c) f y)) (or_cases (priced c) (to c) (sym (joined c) ∙ t))) w.0 w.1)
+        keeps c (⊎_elim (λ (x : priced c ≡ true). x)
+        (λ (y : to c ≡ true). absurd (both_ways (to c) f y))
+        (or_cases (priced c) (to c) (sym (joined c) ∙ t))) w.0 w.1)
         (cases_Bool (to c))
 
     -- no price rises
     falls : (c : ℕ) → priced c ≡ true → v' c ≤ℤ v c
-    falls c t = ⊎_elim (λ (y : to c ≡ true). (offers c).less y t) (λ (f : to c ≡ false). omega (arith, ints, ((offers c).others f).0)) (cases_Bool (to c))
+    falls c t = ⊎_elim (λ (y : to c ≡ true). (offers c).less y t)
+        (λ (f : to c ≡ false). omega (arith, ints, ((offers c).others f).0)) (cases_Bool (to c))
 
     pub cheapest_more : CheapestOf (m + 1) n stands cost priced' row' v'
     unfolding CostOfOne
@@ -84,8 +108,10 @@ module _ (n : ℕ) (stands : ℕ → ℕ → Bool) (cost : ℕ → ℕ → ℤ) 
       least = λ l c h st. ⊎_elim
           (λ (e : l ≡ m).
           let y : to c ≡ true = to_is c ∙ ap (λ z. stands z c) (sym e) ∙ st in
-          let same : cost l c ≡ cost m c = ap (λ z. cost z c) e in
-          (joined c ∙ or_right (priced c) (to c) y, omega (arith, ints, (offers c).most y, own_is c (to_inside c y))))
+          let same : cost l c ≡ cost m c = ap (λ z. cost z c) e in (
+            joined c ∙ or_right (priced c) (to c) y,
+            omega (arith, ints, (offers c).most y, own_is c (to_inside c y)),
+          ))
           (λ (ne : l ≡ m → ⊥).
           let w = so_far.least l c (omega arith) st in
           (joined c ∙ or_left (priced c) (to c) w.0, omega (arith, ints, falls c w.0, w.1)))

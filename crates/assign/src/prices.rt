@@ -1,37 +1,42 @@
-//! Prices of the right blocks: those to begin with, how they fall as left blocks are paired, and the greatest ones at the end.
+//! Prices of the right blocks: those to begin with, how they fall as left blocks are paired, and
+//! the greatest ones at the end.
 
-ghost use Rattle.std.specs.Prelude.{◌≡◌, ℕ, ◌*◌, ◌<◌, ◌≤◌, true, false, length, replicate, ◌+ℤ◌};
+ghost use Rattle.std.specs.Prelude.{◌≡◌, ℕ, ◌<◌, true, false, length, replicate, ◌+ℤ◌};
+ghost use Rattle.cost.specs.declared.TheConstants.{COST_LIMIT, PRICE_LIMIT};
 ghost use Rattle.cost.specs.Columns.{Within};
 ghost use Rattle.blockset.specs.Has.{has};
 ghost use Rattle.pairing.specs.Grid.{at};
-ghost use Rattle.matching.specs.Rows.{holds};
+ghost use Rattle.pairing.specs.Rows.{holds};
 ghost use Rattle.tables.specs.Said.{Bounded, columns_at};
-ghost use Rattle.assign.specs.Weighed.{weight_at, cost_weight, Lent};
-ghost use Rattle.assign.specs.Search.{Lowered};
-ghost use Rattle.assign.specs.Trees.{stage_in};
+ghost use Rattle.assign.specs.declared.limits.TheConstants.{DISTANCE_LIMIT, LEFT_PRICE_LIMIT};
+ghost use Rattle.assign.specs.declared.limits.TheConstants.{INNER_PRICE_LIMIT};
+ghost use Rattle.assign.specs.Weighed.{weight_at, cost_weight, BoundedOn, Lent};
 ghost use Rattle.assign.specs.Pairs.{CheapestOf, Paired};
 ghost use Rattle.assign.specs.Prices.{Topmost};
 
 use crate::search::{grow, offer};
 use crate::sums::exact_difference;
-use crate::tree::{Cheapest, Tree};
+use crate::tree::Cheapest;
 use blockset::BlockSet;
 use cost::Cost;
-use grid::fill;
+use matching::Holders;
+use tables::fill;
 
 /// Writes zero everywhere.
 fn clear<K: Cost>(table: &mut [K])
-    ensures { table.new ≡ replicate (length table.old) K.nought }
+    ensures { table.new ≡ replicate (length table.old) K.zero }
 {
     fill(table, K::zero());
 }
 
 /// Makes the price of each right block the least cost that it stands at.
 pub fn price_cheapest<K: Cost>(costs: &[K], rows: &[BlockSet], right: &mut [K]) -> Cheapest
-    requires lent { Lent K.meaning rows.now costs.now }
+    requires lent { Lent K.Cost rows.now costs.now }
     requires rights { length right.old ≡ length rows.now }
-    ensures cheapest { CheapestOf (length rows.now) (length rows.now) (holds rows.now) (cost_weight K.meaning (length rows.now) costs.now) (has result.priced) (at result.row) (weight_at K.meaning right.new) }
-    ensures bound { Bounded K.meaning 1000000000 (length rows.now) right.new }
+    ensures cheapest { CheapestOf (length rows.now) (length rows.now) (holds rows.now)
+        (cost_weight K.Cost (length rows.now) costs.now) (has result.priced) (at result.row)
+        (weight_at K.Cost right.new) }
+    ensures bound { Bounded K.meaning COST_LIMIT (length rows.now) right.new }
 {
     clear(right);
     let n = rows.len();
@@ -53,21 +58,24 @@ pub fn price_cheapest<K: Cost>(costs: &[K], rows: &[BlockSet], right: &mut [K]) 
     Cheapest { priced, row }
 }
 
-/// Lowers the price of each taken right block to its distance short of that of the goal, so that every step of the search becomes tight.
-pub fn lower<K: Cost>(goal: usize, tree: &Tree, dist: &[K], right: &mut [K])
-    requires few { length dist.now ≤ 64 }
+/// Lowers the price of each taken right block to its distance short of that of the goal, so that
+/// every step of the search becomes tight.
+pub fn lower<K: Cost>(goal: usize, taken: BlockSet, dist: &[K], right: &mut [K])
     requires sized { length right.old ≡ length dist.now }
-    requires inside { goal < length dist.now }
-    requires far { (c : ℕ) → c < length dist.now → has tree.now.open c ≡ false → Within 200000000000 (columns_at K.meaning dist.now c) }
-    requires taken { has tree.now.open goal ≡ false }
-    requires unsold { Within 1000000000 (columns_at K.meaning right.old goal) }
-    requires priced { Bounded K.meaning 500000000000 (length dist.now) right.old }
-    ensures lowered { Lowered (length dist.now) goal (weight_at K.meaning dist.now) (stage_in tree.now) (weight_at K.meaning right.old) (weight_at K.meaning right.new) }
-    ensures same { (c : ℕ) → c < length dist.now → has tree.now.open c ≡ true → columns_at K.meaning right.new c ≡ columns_at K.meaning right.old c }
-    ensures bound { Bounded K.meaning 500000000000 (length dist.now) right.new }
+    requires inside { (c : ℕ) → has taken c ≡ true → c < length dist.now }
+    requires goal { has taken goal ≡ true }
+    requires far { BoundedOn K.Cost DISTANCE_LIMIT (has taken) dist.now }
+    requires unsold { Within COST_LIMIT (columns_at K.meaning right.old goal) }
+    requires priced { Bounded K.meaning INNER_PRICE_LIMIT (length dist.now) right.old }
+    ensures fallen { (c : ℕ) → has taken c ≡ true
+        → weight_at K.Cost right.new c +ℤ weight_at K.Cost dist.now goal
+        ≡ weight_at K.Cost dist.now c +ℤ weight_at K.Cost right.old goal }
+    ensures same { (c : ℕ) → has taken c ≡ false
+        → columns_at K.meaning right.new c ≡ columns_at K.meaning right.old c }
+    ensures bound { Bounded K.meaning INNER_PRICE_LIMIT (length dist.now) right.new }
 {
     let far = exact_difference(dist[goal], right[goal]);
-    for c in BlockSet::all(dist.len()).difference(tree.open) {
+    for c in taken {
         right[c] = exact_difference(dist[c], far);
     }
 }
@@ -80,14 +88,16 @@ fn price_rows<K: Cost>(
     left: &mut [K],
     right: &[K],
 )
-    requires lent { Lent K.meaning rows.now costs.now }
+    requires lent { Lent K.Cost rows.now costs.now }
     requires partnered { length partners.now ≡ length rows.now }
     requires lefts { length left.old ≡ length rows.now }
     requires rights { length right.now ≡ length rows.now }
     requires pairs { (l : ℕ) → l < length rows.now → holds rows.now l (at partners.now l) ≡ true }
-    requires far { Bounded K.meaning 200000000000 (length rows.now) right.now }
-    ensures tight { (l : ℕ) → l < length rows.now → weight_at K.meaning left.new l +ℤ weight_at K.meaning right.now (at partners.now l) ≡ cost_weight K.meaning (length rows.now) costs.now l (at partners.now l) }
-    ensures bound { Bounded K.meaning 201000000000 (length rows.now) left.new }
+    requires far { Bounded K.meaning DISTANCE_LIMIT (length rows.now) right.now }
+    ensures tight { (l : ℕ) → l < length rows.now → weight_at K.Cost left.new l
+        +ℤ weight_at K.Cost right.now (at partners.now l) ≡ cost_weight K.Cost
+        (length rows.now) costs.now l (at partners.now l) }
+    ensures bound { Bounded K.meaning LEFT_PRICE_LIMIT (length rows.now) left.new }
 {
     let n = rows.len();
     for l in 0..n {
@@ -96,34 +106,36 @@ fn price_rows<K: Cost>(
     }
 }
 
-/// Makes the prices the greatest that go with a perfect pairing and have no right price above zero: the distances of a search from an imagined left block that every right
-/// block costs nothing with.
+/// Makes the prices the greatest that go with a perfect pairing and have no right price above zero:
+/// the distances of a search from an imagined left block that every right block costs nothing with.
 pub fn price_greatest<K: Cost>(
     costs: &[K],
     rows: &[BlockSet],
     partners: &[u16],
-    owner: &[u8; 64],
+    holders: &Holders,
     left: &mut [K],
     right: &mut [K],
 )
-    requires lent { Lent K.meaning rows.now costs.now }
+    requires lent { Lent K.Cost rows.now costs.now }
     requires partnered { length partners.now ≡ length rows.now }
     requires lefts { length left.old ≡ length rows.now }
     requires rights { length right.old ≡ length rows.now }
-    requires paired { Paired K.meaning rows.now costs.now (λ _. false) partners.now owner.now right.old }
-    ensures topmost { Topmost K.meaning rows.now costs.now partners.now owner.now (weight_at K.meaning right.old) left.new right.new }
-    ensures lefts { Bounded K.meaning 1000000000000 (length rows.now) left.new }
-    ensures rights { Bounded K.meaning 1000000000000 (length rows.now) right.new }
+    requires paired { Paired K.Cost rows.now costs.now (λ _. false) partners.now
+        holders.now right.old }
+    ensures topmost { Topmost K.Cost rows.now costs.now partners.now holders.now
+        (weight_at K.Cost right.old) left.new right.new }
+    ensures lefts { Bounded K.meaning PRICE_LIMIT (length rows.now) left.new }
+    ensures rights { Bounded K.meaning PRICE_LIMIT (length rows.now) right.new }
 {
     let n = rows.len();
     clear(left);
     grow(
         costs,
         rows,
-        owner,
+        holders,
         right,
         BlockSet::all(n),
-        [n as u8; 64],
+        [0u8; 64],
         left,
     );
     right.copy_from_slice(left);

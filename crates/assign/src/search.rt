@@ -1,25 +1,33 @@
-//! The search for the cheapest way from a left block to a free right block, along alternating chains.
+//! The search for the cheapest way from a left block to a free right block, along alternating
+//! chains.
 //!
-//! Distances are sums and differences of the costs themselves, at most two for each step. So they stay small however often prices change.
+//! Distances are sums and differences of the costs themselves, at most two for each step. So they
+//! stay small however often prices change.
 
 ghost use Rattle.std.specs.Prelude.{◌≡◌, ℕ, ◌+◌, ◌<◌, ◌≤◌, true, false, length, MatchOption};
+ghost use Rattle.cost.specs.declared.TheConstants.{COST_LIMIT};
+ghost use Rattle.blockset.specs.declared.TheConstants.{MOST_BLOCKS};
 ghost use Rattle.cost.specs.Columns.{Within};
-ghost use Rattle.cost.proofs.Weights.{weight};
+ghost use Rattle.cost.specs.Weights.{weight};
 ghost use Rattle.blockset.specs.Has.{has};
 ghost use Rattle.pairing.specs.Grid.{at};
-ghost use Rattle.matching.specs.Rows.{holds};
+ghost use Rattle.pairing.specs.Rows.{holds};
 ghost use Rattle.tables.specs.Said.{columns_at, Bounded};
+ghost use Rattle.assign.specs.declared.limits.TheConstants.{DISTANCE_LIMIT, SHIFT_LIMIT};
+ghost use Rattle.assign.specs.declared.limits.TheConstants.{INNER_PRICE_LIMIT};
 ghost use Rattle.assign.specs.Weighed.{weight_at, BoundedOn, Lent};
 ghost use Rattle.assign.specs.Offers.{Offered, Nearest};
-ghost use Rattle.assign.specs.Trees.{Grows};
+ghost use Rattle.assign.specs.Trees.{Grows, GrowsFrom};
 
 use crate::sums::{exact_difference, exact_sum, is_less};
 use crate::tree::Tree;
 use blockset::BlockSet;
 use cost::Cost;
+use matching::{Holders, Reach};
 
-/// Offers each right block of `to` the distance `shift` plus its cost in `costs`, the row of the left block `from`. One that is reached takes it if it is less than
-/// the distance it has, and any other takes it whatever it is.
+/// Offers each right block of `to` the distance `shift` plus its cost in `costs`, the row of the
+/// left block `from`. One that is reached takes it if it is less than the distance it has, and any
+/// other takes it whatever it is.
 pub fn offer<K: Cost>(
     costs: &[K],
     shift: K,
@@ -29,14 +37,19 @@ pub fn offer<K: Cost>(
     via: &mut [u8; 64],
     dist: &mut [K],
 )
-    requires few { length costs.now ≤ 64 }
+    requires few { length costs.now ≤ MOST_BLOCKS }
     requires sized { length dist.old ≡ length costs.now }
-    requires block { from < 64 }
+    requires block { from < MOST_BLOCKS }
     requires inside { (c : ℕ) → has to c ≡ true → c < length costs.now }
-    requires modest { BoundedOn K.meaning 1000000000 (has to) costs.now }
-    requires near { Within 400000000000 (K.meaning shift) }
-    ensures offered { (c : ℕ) → Offered (weight (K.meaning shift)) (weight_at K.meaning costs.now) from (has to) (has reached) (weight_at K.meaning dist.old) (at via.old) (weight_at K.meaning dist.new) (at via.new) c }
-    ensures bound { (b c : ℕ) → Within b (K.meaning shift) → b ≤ 400000000000 → (has to c ≡ false → Within (b + 1000000000) (columns_at K.meaning dist.old c)) → (has reached c ≡ true → Within (b + 1000000000) (columns_at K.meaning dist.old c)) → Within (b + 1000000000) (columns_at K.meaning dist.new c) }
+    requires modest { BoundedOn K.Cost COST_LIMIT (has to) costs.now }
+    requires near { Within SHIFT_LIMIT (K.meaning shift) }
+    ensures offered { (c : ℕ) → Offered (weight (K.meaning shift)) (weight_at K.Cost costs.now)
+        from (has to) (has reached) (weight_at K.Cost dist.old) (at via.old)
+        (weight_at K.Cost dist.new) (at via.new) c }
+    ensures bound { (b c : ℕ) → Within b (K.meaning shift) → b ≤ SHIFT_LIMIT
+        → (has to c ≡ false → Within (b + COST_LIMIT) (columns_at K.meaning dist.old c))
+        → (has reached c ≡ true → Within (b + COST_LIMIT) (columns_at K.meaning dist.old c))
+        → Within (b + COST_LIMIT) (columns_at K.meaning dist.new c) }
 {
     for c in to {
         let way = exact_sum(shift, costs[c]);
@@ -51,9 +64,11 @@ pub fn offer<K: Cost>(
 pub fn nearest<K: Cost>(set: BlockSet, dist: &[K], right: &[K]) -> Option<usize>
     requires sized { length right.now ≡ length dist.now }
     requires inside { (c : ℕ) → has set c ≡ true → c < length dist.now }
-    requires far { BoundedOn K.meaning 200000000000 (has set) dist.now }
-    requires priced { Bounded K.meaning 500000000000 (length dist.now) right.now }
-    ensures { MatchOption result ((c : ℕ) → has set c ≡ false) (λ a. (a < length dist.now) × Nearest (has set) (weight_at K.meaning right.now) (weight_at K.meaning dist.now) a) }
+    requires far { BoundedOn K.Cost DISTANCE_LIMIT (has set) dist.now }
+    requires priced { Bounded K.meaning INNER_PRICE_LIMIT (length dist.now) right.now }
+    ensures { MatchOption result ((c : ℕ) → has set c ≡ false)
+        (λ a. (a < length dist.now) × Nearest (has set) (weight_at K.Cost right.now)
+        (weight_at K.Cost dist.now) a) }
 {
     let mut best = set.least()?;
     let mut least = exact_difference(dist[best], right[best]);
@@ -67,64 +82,87 @@ pub fn nearest<K: Cost>(set: BlockSet, dist: &[K], right: &[K]) -> Option<usize>
     Some(best)
 }
 
-/// Takes right blocks by their distance beyond their price, up to the first that is free. It starts from the right blocks of `start`, which have been reached by `via` at the
-/// distances in `dist`.
+/// Takes right blocks by their distance beyond their price, up to the first that is free. It starts
+/// from the right blocks of `start`, which have been reached by `via` at the distances in `dist`.
 pub fn grow<K: Cost>(
     costs: &[K],
     rows: &[BlockSet],
-    owner: &[u8; 64],
+    holders: &Holders,
     right: &[K],
     start: BlockSet,
-    mut via: [u8; 64],
+    via: [u8; 64],
     dist: &mut [K],
 ) -> Tree
-    requires lent { Lent K.meaning rows.now costs.now }
+    requires lent { Lent K.Cost rows.now costs.now }
     requires rights { length right.now ≡ length rows.now }
     requires dists { length dist.old ≡ length rows.now }
     requires begins { (c : ℕ) → has start c ≡ true → c < length rows.now }
-    requires own { (c : ℕ) → c < length rows.now → at owner.now c < length rows.now → holds rows.now (at owner.now c) c ≡ true }
-    requires near { BoundedOn K.meaning 1000000000 (has start) dist.old }
-    requires priced { Bounded K.meaning 500000000000 (length rows.now) right.now }
-    ensures grown { Grows K.meaning rows.now costs.now owner.now right.now (has start) via dist.old dist.new result }
-    ensures bound { (c : ℕ) → c < length rows.now → has result.open c ≡ false → Within 200000000000 (columns_at K.meaning dist.new c) }
+    requires holders { (c : ℕ) → has holders.now.held c ≡ true
+        → at holders.now.row c < length rows.now }
+    requires own { (c : ℕ) → has holders.now.held c ≡ true
+        → holds rows.now (at holders.now.row c) c ≡ true }
+    requires near { BoundedOn K.Cost COST_LIMIT (has start) dist.old }
+    requires priced { Bounded K.meaning INNER_PRICE_LIMIT (length rows.now) right.now }
+    ensures grown { Grows K.Cost rows.now costs.now holders.now right.now (has start) via dist.old
+        dist.new result }
+    ensures inside { (c : ℕ) → has result.taken.reached c ≡ true → c < length rows.now }
+    ensures bound { BoundedOn K.Cost DISTANCE_LIMIT (has result.taken.reached) dist.new }
 {
     let n = rows.len();
-    let mut open = BlockSet::all(n);
-    let mut reached = start;
-    let mut turn = [0u8; 64];
+    let mut seen = start;
+    let mut taken = Reach {
+        reached: BlockSet::empty(),
+        from: via,
+        rank: [0u8; 64],
+        goal: None,
+    };
     for t in 0..n {
-        let Some(a) = nearest(open.intersection(reached), dist, right) else {
-            return Tree {
-                open,
-                reached,
-                turn,
-                via,
-                goal: None,
-            };
+        let Some(a) = nearest(seen.difference(taken.reached), dist, right) else {
+            return Tree { seen, taken };
         };
-        open.remove(a);
-        turn[a] = t as u8;
-        let l = owner[a] as usize;
-        if l >= n {
-            return Tree {
-                open,
-                reached,
-                turn,
-                via,
-                goal: Some(a),
-            };
+        taken.reached.insert(a);
+        taken.rank[a] = t as u8;
+        if !holders.held.contains(a) {
+            taken.goal = Some(a);
+            return Tree { seen, taken };
         }
-        let to = rows[l].intersection(open);
+        let l = holders.row[a] as usize;
+        let to = rows[l].difference(taken.reached);
         let row = &costs[l * n..l * n + n];
         let shift = exact_difference(dist[a], row[a]);
-        offer(row, shift, l, to, reached, &mut via, dist);
-        reached = reached.union(to);
+        offer(row, shift, l, to, seen, &mut taken.from, dist);
+        seen = seen.union(to);
     }
-    Tree {
-        open,
-        reached,
-        turn,
-        via,
-        goal: None,
-    }
+    Tree { seen, taken }
+}
+
+/// Searches from left block `k` for the cheapest way to a free right block, whatever the distances
+/// were before.
+pub fn grow_from<K: Cost>(
+    k: usize,
+    costs: &[K],
+    rows: &[BlockSet],
+    holders: &Holders,
+    right: &[K],
+    dist: &mut [K],
+) -> Tree
+    requires lent { Lent K.Cost rows.now costs.now }
+    requires rights { length right.now ≡ length rows.now }
+    requires dists { length dist.old ≡ length rows.now }
+    requires room { k < length rows.now }
+    requires holders { (c : ℕ) → has holders.now.held c ≡ true
+        → at holders.now.row c < length rows.now }
+    requires own { (c : ℕ) → has holders.now.held c ≡ true
+        → holds rows.now (at holders.now.row c) c ≡ true }
+    requires priced { Bounded K.meaning INNER_PRICE_LIMIT (length rows.now) right.now }
+    ensures grown { GrowsFrom K.Cost rows.now costs.now holders.now right.now k dist.new result }
+    ensures inside { (c : ℕ) → has result.taken.reached c ≡ true → c < length rows.now }
+    ensures bound { BoundedOn K.Cost DISTANCE_LIMIT (has result.taken.reached) dist.new }
+{
+    let n = rows.len();
+    let to = rows[k];
+    let row = &costs[k * n..k * n + n];
+    let mut via = [0u8; 64];
+    offer(row, K::zero(), k, to, BlockSet::empty(), &mut via, dist);
+    grow(costs, rows, holders, right, to, via, dist)
 }

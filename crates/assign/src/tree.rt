@@ -1,28 +1,30 @@
 //! What the steps of the assignment hand to one another.
 
 use blockset::BlockSet;
+use matching::{Holders, Reach};
 
-/// The right blocks that a search has come to: those that are no longer `open` are taken, in the order of their `turn`, and `via` has the left block that each one of
-/// `reached` was reached from. `goal` is a free right block, the last one that was taken.
+/// How far a search has come.
 #[derive(Drop)]
 pub struct Tree {
-    pub open: BlockSet,
-    pub reached: BlockSet,
-    pub turn: [u8; 64],
-    pub via: [u8; 64],
-    pub goal: Option<usize>,
+    /// The right blocks that it has come to, taken or not.
+    pub seen: BlockSet,
+    /// Those that it has taken, whose distances are for good: their ranks are the turns, and the
+    /// goal, if there is one, is the only one of them that is free. `from` is also known of what is
+    /// seen and not yet taken.
+    pub taken: Reach,
 }
 
-/// The left block `row` that each right block of `priced` is cheapest with.
+/// The right blocks that have a price, and the left block `row` that each of them is cheapest with.
 #[derive(Drop)]
 pub struct Cheapest {
     pub priced: BlockSet,
     pub row: [u8; 64],
 }
 
-/// Which left blocks are not paired yet, and the left block that each right block has; 64 where it is free.
+/// What the pairs that cost least leave to do: the left blocks that are still `out`, and the
+/// holders of the right blocks so far.
 #[derive(Drop)]
-pub struct Owners {
+pub struct FirstPairs {
     pub out: BlockSet,
-    pub owner: [u8; 64],
+    pub holders: Holders,
 }

@@ -1,4 +1,5 @@
-//! What the tables of a sheet hold: random numbers, and the rules that make costs and standing pairs of them.
+//! What the tables of a sheet hold: random numbers, and the rules that make costs and standing
+//! pairs of them.
 
 use crate::line::{Costs, Order, Pairs};
 

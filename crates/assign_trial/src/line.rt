@@ -1,4 +1,5 @@
-//! A line of the input: `KIND N SEED COSTS PAIRS`, the cost kind, the number of blocks a plane, where the random numbers start, how the costs are made, and which pairs stand.
+//! A line of the input: `KIND N SEED COSTS PAIRS`, the cost kind, the number of blocks a plane,
+//! where the random numbers start, how the costs are made, and which pairs stand.
 
 use std::num::ParseIntError;
 use std::str::{FromStr, Split};
@@ -60,11 +61,13 @@ pub enum Pairs {
     Full,
     /// So many in a hundred, at random.
     Percent(u64),
-    /// Each left block with the right block of its own number and the next one, but the last left block with the first right block alone.
+    /// Each left block with the right block of its own number and the next one, but the last left
+    /// block with the first right block alone.
     Chain,
     /// Block numbers that are at most 2 apart.
     Band,
-    /// All but those of the first half of the left blocks, and one more, with the second half of the right blocks: so no pairing is perfect.
+    /// All but those of the first half of the left blocks, and one more, with the second half of
+    /// the right blocks: so no pairing is perfect.
     Crowded,
 }
 

@@ -1,5 +1,7 @@
-//! Solves the sheets that standard input names, one to a line, and prints of each what is determined: the total, the prices, the tight pairs and the first optimum pairing; or why no
-//! pairing is perfect. The lines and what has to be printed are made by tools/assignments.py, which solves the sheets on its own by another method.
+//! Solves the sheets that standard input names, one to a line, and prints of each what is
+//! determined: the total, the prices, the tight pairs and the first optimum pairing; or why no
+//! pairing is perfect. The lines and what has to be printed are made by tools/assignments.py, which
+//! solves the sheets on its own by another method.
 #![tactic(auto)]
 
 mod draw;

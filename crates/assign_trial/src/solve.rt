@@ -3,12 +3,10 @@
 use crate::draw::Pair;
 use crate::kinds::Trial;
 use crate::line::Order;
-use assign::{Outcome, optimum};
+use assign::{Outcome, optimum, settle};
 use blockset::BlockSet;
-use grid::place;
-use settling::settle;
 use std::alloc::{AllocError, Global};
-use tables::tight_rows;
+use tables::{place, tight_rows};
 
 /// The tables of a sheet: costs and standing pairs, then what is found.
 #[derive(Drop)]
@@ -81,7 +79,8 @@ impl<K: Trial> Tables<K> {
         self.tell_tight(text)
     }
 
-    /// Makes the pairing the first optimum one; false where the tables are refused or hold no pairing.
+    /// Makes the pairing the first optimum one; false where the tables are refused or hold no
+    /// pairing.
     fn settle(&mut self) -> bool {
         let outcome = settle(
             self.n,

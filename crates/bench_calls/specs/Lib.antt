@@ -1,2 +1,1 @@
 pub mod Codes
-pub mod Settling

@@ -1,28 +1,31 @@
-//! Calls for C, for the benchmarks in bench/: the walk through the perfect pairings, where a row is a 64-bit number, bit r for right block r, and what settling a sheet of
-//! plain costs does, with as many blocks a plane as there are places for partners.
+//! Calls for C, for the benchmarks in bench/: the walk through the perfect pairings, where a row is
+//! a 64-bit number, bit r for right block r, and what settling a sheet of plain costs does, with as
+//! many blocks a plane as there are places for partners.
 #![tactic(auto)]
 
-ghost use Rattle.std.specs.Prelude.{◌≡◌, ◌⊎◌, ◌*◌, ◌≤◌, length};
-ghost use Rattle.matching.specs.declared.Step.{Step};
-ghost use Rattle.matching.specs.declared.Unfit.{Unfit};
-ghost use Rattle.matching.specs.Rows.{pairings};
+ghost use Rattle.std.specs.Prelude.{◌≡◌, ◌⊎◌, length, Result};
+ghost use Rattle.pairing.specs.Rows.{pairings};
+ghost use Rattle.matching.specs.declared.stepping.Step.{Step};
+ghost use Rattle.matching.specs.declared.fitting.Unfit.{Unfit};
 ghost use Rattle.matching.specs.Fit.{Fits, Unfits};
-ghost use Rattle.matching.specs.Answers.{Place, Steps};
-ghost use Rattle.tables.specs.Said.{Ordered};
-ghost use Rattle.assign.specs.Answer.{Lengths};
-ghost use Rattle.bench_calls.specs.Codes.{code};
-ghost use Rattle.bench_calls.specs.Settling.{Answered, Found, FoundFirst};
+ghost use Rattle.matching.specs.Answers.{IsNth, Follows};
+ghost use Rattle.tables.specs.declared.flaw.Flaw.{Flaw};
+ghost use Rattle.tables.specs.Lent.{lent};
+ghost use Rattle.assign.specs.declared.Outcome.{Outcome};
+ghost use Rattle.assign.specs.Answer.{Answers, Settled, Solved};
+ghost use Rattle.bench_calls.specs.Codes.{step_code, outcome_code};
 
-use assign::{Outcome, optimum};
+use assign::{Outcome, optimum, settle};
 use blockset::BlockSet;
-use cost::Plain;
+use cost::{Cost, Plain};
 use matching::{Step, first};
-use settling::settle;
+use tables::Flaw;
 
 /// 0 where `p` is now the first perfect pairing, and 1 where the tables were refused.
 #[unsafe(no_mangle)]
 pub extern "C" fn bench_first(rows: &[BlockSet], p: &mut [u16]) -> u32
-    ensures { ((result ≡ 0) × Fits rows.now p.old × Place (pairings rows.now) 0 p.new) ⊎ ((result ≡ 1) × ((e : Unfit) × Unfits rows.now p.old e) × (p.new ≡ p.old)) }
+    ensures { ((result ≡ 0) × Fits rows.now p.old × IsNth (pairings rows.now) 0 p.new)
+        ⊎ ((result ≡ 1) × ((e : Unfit) × Unfits rows.now p.old e) × (p.new ≡ p.old)) }
 {
     match first(rows, p) {
         Ok(()) => 0,
@@ -30,10 +33,13 @@ pub extern "C" fn bench_first(rows: &[BlockSet], p: &mut [u16]) -> u32
     }
 }
 
-/// 0 where `p` is now the next perfect pairing, 100 at the last one, and 1 where the tables were refused.
+/// 0 where `p` is now the next perfect pairing, 100 at the last one, and 1 where the tables were
+/// refused.
 #[unsafe(no_mangle)]
 pub extern "C" fn bench_next(rows: &[BlockSet], p: &mut [u16]) -> u32
-    ensures { ((s : Step) × (result ≡ code s) × Fits rows.now p.old × Steps rows.now p.old p.new s) ⊎ ((result ≡ 1) × ((e : Unfit) × Unfits rows.now p.old e) × (p.new ≡ p.old)) }
+    ensures { ((s : Step) × (result ≡ step_code s) × Fits rows.now p.old
+        × Follows (pairings rows.now) p.old p.new s)
+        ⊎ ((result ≡ 1) × ((e : Unfit) × Unfits rows.now p.old e) × (p.new ≡ p.old)) }
 {
     match matching::next(rows, p) {
         Ok(Step::Next) => 0,
@@ -42,7 +48,19 @@ pub extern "C" fn bench_next(rows: &[BlockSet], p: &mut [u16]) -> u32
     }
 }
 
-/// 0 where the tables now hold an optimum pairing and the greatest prices, and 1 where they were refused or no pairing is perfect: then they are as they were.
+/// The number for an answer of `optimum` or `settle`.
+fn code(outcome: Result<Outcome, Flaw>) -> u32
+    ensures { result ≡ outcome_code outcome }
+{
+    match outcome {
+        Ok(Outcome::Optimal) => 0,
+        Ok(Outcome::Unmatched(_)) => 1,
+        Err(_) => 1,
+    }
+}
+
+/// 0 where the tables now hold an optimum pairing and the greatest prices, and 1 where they were
+/// refused or no pairing is perfect: then they are as they were.
 #[unsafe(no_mangle)]
 pub extern "C" fn bench_optimum(
     costs: &[Plain],
@@ -51,26 +69,22 @@ pub extern "C" fn bench_optimum(
     left: &mut [Plain],
     right: &mut [Plain],
 ) -> u32
-    ensures { Answered (Found (length partners.old) costs.now standing.now) (length partners.old) costs.now standing.now partners.old left.old right.old partners.new left.new right.new result }
+    // The number stands for what `optimum` answers.
+    ensures { let kind = ⟦<Plain as Cost>⟧ in let n = length partners.old in
+        let old = lent n costs.now standing.now partners.old left.old right.old in
+        let new = lent n costs.now standing.now partners.new left.new right.new in
+        (r : Result Outcome Flaw) × (result ≡ outcome_code r)
+        × Answers kind old new (Solved kind new) r }
 {
     if partners.len() > 64 {
         return 1;
     }
-    match optimum(
-        partners.len() as u16,
-        costs,
-        standing,
-        partners,
-        left,
-        right,
-    ) {
-        Ok(Outcome::Optimal) => 0,
-        Ok(Outcome::Unmatched(_)) => 1,
-        Err(_) => 1,
-    }
+    let n = partners.len() as u16;
+    code(optimum(n, costs, standing, partners, left, right))
 }
 
-/// 0 where the tables now hold the first optimum pairing and the greatest prices, and 1 where they were refused or no pairing is perfect: then they are as they were.
+/// 0 where the tables now hold the first optimum pairing and the greatest prices, and 1 where they
+/// were refused or no pairing is perfect: then they are as they were.
 #[unsafe(no_mangle)]
 pub extern "C" fn bench_settle(
     costs: &[Plain],
@@ -79,20 +93,16 @@ pub extern "C" fn bench_settle(
     left: &mut [Plain],
     right: &mut [Plain],
 ) -> u32
-    ensures { Answered (FoundFirst (length partners.old) costs.now standing.now) (length partners.old) costs.now standing.now partners.old left.old right.old partners.new left.new right.new result }
+    // The number stands for what `settle` answers.
+    ensures { let kind = ⟦<Plain as Cost>⟧ in let n = length partners.old in
+        let old = lent n costs.now standing.now partners.old left.old right.old in
+        let new = lent n costs.now standing.now partners.new left.new right.new in
+        (r : Result Outcome Flaw) × (result ≡ outcome_code r)
+        × Answers kind old new (Settled kind new) r }
 {
     if partners.len() > 64 {
         return 1;
     }
-    match settle(
-        partners.len() as u16,
-        costs,
-        standing,
-        partners,
-        left,
-        right,
-    ) {
-        Ok(Outcome::Optimal) => 0,
-        _ => 1,
-    }
+    let n = partners.len() as u16;
+    code(settle(n, costs, standing, partners, left, right))
 }

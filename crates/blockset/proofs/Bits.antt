@@ -1,6 +1,9 @@
 -- The bits of a number: of masks and shifts, the lowest one, and how many there are.
--- Idea: a number is its last bit and half of it, so an induction over the place of the bit, or over the width, halves once.
-use Rattle.std.proofs.Common.{◌≡◌, ℕ, zero, suc, ◌-◌, ◌/◌, ◌%◌, ◌^◌, ◌<◌, ◌≤◌, min, max, true, false, cond, not, ◌&&◌, ◌||◌, eqb, ltb, sym, refl, ap, ◌∙◌, pow-suc, arith}
+-- Idea: a number is its last bit and half of it, so an induction over the place of the bit, or over
+-- the width, halves once.
+use Rattle.std.proofs.Common.{◌≡◌, ℕ, zero, suc, ◌-◌, ◌/◌, ◌%◌, ◌^◌, ◌<◌, ◌≤◌, min, max, true}
+use Rattle.std.proofs.Common.{false, cond, not, ◌&&◌, ◌||◌, eqb, ltb, sym, refl, ap, ◌∙◌, pow-suc}
+use Rattle.std.proofs.Common.{arith}
 use lib.Bits.{bit_and, bit_or, and_step, or_step}
 use lib.Count.{ones, ones_step, count_trailing_zeros, under}
 use Rattle.std.proofs.lemmas.Nat.{pow_pos, shr-shr}
@@ -41,14 +44,19 @@ pub bit-pow : (i j : ℕ) → bit (2 ^ i) j ≡ eqb j i
 unfolding bit
 bit-pow zero zero = refl
 bit-pow zero (suc j) = bit-zero j ∙ sym (ne_eqb (suc j) 0 (λ e. omega arith))
-bit-pow (suc i) zero = let e : 2 ^ suc i % 2 ≡ 0 = omega (arith, pow-suc 2 i) in ap (λ x. eqb x 1) e ∙ sym (ne_eqb 0 (suc i) (λ e. omega arith))
-bit-pow (suc i) (suc j) = let e : 2 ^ suc i / 2 ≡ 2 ^ i = omega (arith, pow-suc 2 i) in ap (λ x. bit x j) e ∙ bit-pow i j ∙ grind (arith, nat_tests)
+bit-pow (suc i) zero = let e : 2 ^ suc i % 2 ≡ 0 = omega (arith, pow-suc 2 i) in ap (λ x. eqb x 1) e
+    ∙ sym (ne_eqb 0 (suc i) (λ e. omega arith))
+bit-pow (suc i) (suc j) = let e : 2 ^ suc i / 2 ≡ 2 ^ i = omega (arith, pow-suc 2 i) in
+    ap (λ x. bit x j) e ∙ bit-pow i j ∙ grind (arith, nat_tests)
 
 pub bit_ones : (n j : ℕ) → bit (2 ^ n - 1) j ≡ ltb j n
 unfolding bit
 bit_ones zero j = bit-zero j ∙ sym (le-ltb j 0 (omega arith))
-bit_ones (suc n) zero = let e : (2 ^ suc n - 1) % 2 ≡ 1 = omega (arith, pow-suc 2 n, pow_pos n) in ap (λ x. eqb x 1) e ∙ sym (lt-ltb 0 (suc n) (omega arith))
-bit_ones (suc n) (suc j) = let e : (2 ^ suc n - 1) / 2 ≡ 2 ^ n - 1 = omega (arith, pow-suc 2 n, pow_pos n) in ap (λ x. bit x j) e ∙ bit_ones n j ∙ grind (arith, nat_tests)
+bit_ones (suc n) zero = let e : (2 ^ suc n - 1) % 2 ≡ 1 = omega (arith, pow-suc 2 n, pow_pos n) in
+    ap (λ x. eqb x 1) e ∙ sym (lt-ltb 0 (suc n) (omega arith))
+bit_ones (suc n) (suc j) = let e : (2 ^ suc n - 1) / 2 ≡ 2 ^ n - 1 =
+    omega (arith, pow-suc 2 n, pow_pos n) in ap (λ x. bit x j) e ∙ bit_ones n j
+    ∙ grind (arith, nat_tests)
 
 -- above the bits of m
 pub bit_past : (w m i : ℕ) → m < 2 ^ w → w ≤ i → bit m i ≡ false
@@ -71,13 +79,15 @@ bit_not (suc w) m (suc i) h l =
     ap (λ x. bit x i) e ∙ bit_not w (m / 2) i (omega (arith, pow-suc 2 w)) (omega arith)
 
 -- a & !b
-pub bit-minus : (w a b i : ℕ) → b < 2 ^ w → i < w → bit (bit_and a (2 ^ w - 1 - b)) i ≡ (bit a i && not (bit b i))
+pub bit-minus : (w a b i : ℕ) → b < 2 ^ w → i < w
+    → bit (bit_and a (2 ^ w - 1 - b)) i ≡ (bit a i && not (bit b i))
 bit-minus w a b i h l = bit-and a (2 ^ w - 1 - b) i ∙ ap (λ x. bit a i && x) (bit_not w b i h l)
 
 pub bit_is : (m i : ℕ) → bit m i ≡ eqb (m / 2 ^ i % 2) 1
 unfolding bit
 bit_is m zero = let e : m % 2 ≡ m / 1 % 2 = omega arith in ap (λ x. eqb x 1) e
-bit_is m (suc i) = bit_is (m / 2) i ∙ ap (λ x. eqb (x % 2) 1) (shr-shr m 1 i ∙ ap (λ x. m / 2 ^ x) (omega arith))
+bit_is m (suc i) = bit_is (m / 2) i ∙ ap (λ x. eqb (x % 2) 1)
+    (shr-shr m 1 i ∙ ap (λ x. m / 2 ^ x) (omega arith))
 
 pub none_set : (w m : ℕ) → m < 2 ^ w → ((i : ℕ) → bit m i ≡ false) → m ≡ 0
 unfolding bit
@@ -88,7 +98,8 @@ none_set (suc w) m h f =
     omega arith
 
 -- the lowest bit that is set
-lowest_at : (m d t k : ℕ) → m % 2 ≡ d → (t < k → bit (m / 2) t ≡ true) → under d t < suc k → bit m (under d t) ≡ true
+lowest_at : (m d t k : ℕ) → m % 2 ≡ d → (t < k → bit (m / 2) t ≡ true) → under d t < suc k
+    → bit m (under d t) ≡ true
 unfolding bit
 lowest_at m zero t k e ih h = ih (omega arith)
 lowest_at m (suc d) t k e ih h = let e : m % 2 ≡ 1 = omega arith in ap (λ x. eqb x 1) e
@@ -96,9 +107,11 @@ lowest_at m (suc d) t k e ih h = let e : m % 2 ≡ 1 = omega arith in ap (λ x. 
 pub lowest : (k m : ℕ) → count_trailing_zeros k m < k → bit m (count_trailing_zeros k m) ≡ true
 unfolding count_trailing_zeros
 lowest zero m h = absurd (omega arith)
-lowest (suc k) m h = lowest_at m (m % 2) (count_trailing_zeros k (m / 2)) k refl (lowest k (m / 2)) h
+lowest (suc k) m h = lowest_at m (m % 2) (count_trailing_zeros k (m / 2)) k refl (lowest k (m / 2))
+    h
 
-below_at : (m d t j : ℕ) → m % 2 ≡ d → ((i : ℕ) → i < t → bit (m / 2) i ≡ false) → j < under d t → bit m j ≡ false
+below_at : (m d t j : ℕ) → m % 2 ≡ d → ((i : ℕ) → i < t → bit (m / 2) i ≡ false) → j < under d t
+    → bit m j ≡ false
 unfolding bit
 below_at m zero t zero e ih h = ap (λ x. eqb x 1) e
 below_at m zero t (suc j) e ih h = ih j (omega arith)
@@ -107,15 +120,18 @@ below_at m (suc d) t j e ih h = absurd (omega arith)
 pub below_lowest : (k m j : ℕ) → j < count_trailing_zeros k m → bit m j ≡ false
 unfolding count_trailing_zeros
 below_lowest zero m j h = absurd (omega arith)
-below_lowest (suc k) m j h = below_at m (m % 2) (count_trailing_zeros k (m / 2)) j refl (below_lowest k (m / 2)) h
+below_lowest (suc k) m j h = below_at m (m % 2) (count_trailing_zeros k (m / 2)) j refl
+    (below_lowest k (m / 2)) h
 
 -- a number with a bit below 2 ^ w
 pub lowest_lt : (w m : ℕ) → m < 2 ^ w → (m ≡ 0 → ⊥) → count_trailing_zeros w m < w
 unfolding count_trailing_zeros
 lowest_lt zero m h ne = absurd (ne (omega arith))
-lowest_lt (suc w) m h ne = under_lt (m % 2) (λ e. lowest_lt w (m / 2) (omega (arith, pow-suc 2 w)) (λ z. ne (omega arith)))
+lowest_lt (suc w) m h ne =
+    under_lt (m % 2) (λ e. lowest_lt w (m / 2) (omega (arith, pow-suc 2 w)) (λ z. ne (omega arith)))
   where
-    under_lt : (d : ℕ) → (d ≡ 0 → count_trailing_zeros w (m / 2) < w) → under d (count_trailing_zeros w (m / 2)) < suc w
+    under_lt : (d : ℕ) → (d ≡ 0 → count_trailing_zeros w (m / 2) < w)
+        → under d (count_trailing_zeros w (m / 2)) < suc w
     under_lt zero ih = omega (arith, ih refl)
     under_lt (suc d) ih = omega arith
 

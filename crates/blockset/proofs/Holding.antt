@@ -1,6 +1,8 @@
 -- Membership against the bits of the set's number.
--- Idea: below 64 both say the same, and from 64 on a number of 64 bits has no bit, as a set has no block.
-use Rattle.std.proofs.Common.{◌≡◌, ℕ, ◌-◌, ◌^◌, ◌<◌, Bool, true, false, not, ◌&&◌, ltb, sym, refl, ap, ◌∙◌, inl, inr}
+-- Idea: below 64 both say the same, and from 64 on a number of 64 bits has no bit, as a set has no
+-- block.
+use Rattle.std.proofs.Common.{◌≡◌, ℕ, ◌-◌, ◌^◌, ◌<◌, Bool, true, false, not, ◌&&◌, ltb, sym, refl}
+use Rattle.std.proofs.Common.{ap, ◌∙◌, inl, inr}
 use lib.Bits.{bit_and}
 use Rattle.std.proofs.lemmas.Bool.{cases_lt, lt-ltb, le-ltb, ltb-true, and_parts}
 use Rattle.blockset.specs.Sets.{bit}
@@ -21,10 +23,13 @@ unfolding has
 has_block s j t = ltb-true j 64 (and_parts (ltb j 64) (bit s.0 j) t).0
 
 -- the bits of a & !b, as far as there are blocks
-pub bits_without : (a b j : ℕ) → b < 2 ^ 64 → (ltb j 64 && bit (bit_and a (18446744073709551615 - b)) j) ≡ (ltb j 64 && (bit a j && not (bit b j)))
+pub bits_without : (a b j : ℕ) → b < 2 ^ 64
+    → (ltb j 64 && bit (bit_and a (18446744073709551615 - b)) j) ≡
+    (ltb j 64 && (bit a j && not (bit b j)))
 bits_without a b j h = elim (cases_lt j 64) [
   | inl l ↦ ap (λ x. ltb j 64 && x) (bit-minus 64 a b j h l)
-  | inr l ↦ let e = le-ltb j 64 l in ap (λ x. x && bit (bit_and a (18446744073709551615 - b)) j) e ∙ sym (ap (λ x. x && (bit a j && not (bit b j))) e)
+  | inr l ↦ let e = le-ltb j 64 l in ap (λ x. x && bit (bit_and a (18446744073709551615 - b)) j) e
+      ∙ sym (ap (λ x. x && (bit a j && not (bit b j))) e)
 ]
 
 -- a test that narrows both sides of an operation narrows its result

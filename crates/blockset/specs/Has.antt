@@ -1,12 +1,22 @@
 -- What a set of blocks holds.
-use Rattle.std.specs.Prelude.{ℕ, Bool, ◌&&◌, nat_lt}
+use Rattle.std.specs.Prelude.{◌≡◌, ℕ, ◌<◌, Bool, true, false, ◌&&◌, nat_lt}
 use Rattle.blockset.specs.Sets.{bit}
 use Rattle.blockset.specs.declared.BlockSet.{BlockSet}
+use Rattle.blockset.specs.declared.TheConstants.{MOST_BLOCKS}
 
 -- the set without blocks
 abbrev pub no_blocks : BlockSet
 no_blocks = record { 0 = 0 }
 
--- block j is in the set: it is one of the 64 blocks, and its bit is set
+-- block j is in the set: it is one of the blocks there are, and its bit is set
 unfoldable pub has : BlockSet → ℕ → Bool
-has s j = nat_lt j 64 && bit s.0 j
+has s j = nat_lt j MOST_BLOCKS && bit s.0 j
+
+-- no block is in the set
+abbrev pub IsEmpty : BlockSet → Type 0
+IsEmpty s = (j : ℕ) → has s j ≡ false
+
+-- the block is the least one in the set
+abbrev pub IsLeast : BlockSet → ℕ → Type 0
+IsLeast s block = (block < MOST_BLOCKS) × (has s block ≡ true)
+    × ((j : ℕ) → j < block → has s j ≡ false)

@@ -1,15 +1,21 @@
 //! Sets of blocks. A block is a number below 64, so that a set of them is one 64-bit number.
 #![tactic(auto)]
 
-ghost use Rattle.std.specs.Prelude.{◌≡◌, ℕ, ◌<◌, true, false, not, ◌&&◌, ◌||◌, IsTrue, ◌↔◌, MatchOption, ◌==◌, nat_lt};
+ghost use Rattle.std.specs.Prelude.{◌≡◌, ℕ, ◌<◌, true, false, not, ◌&&◌, ◌||◌, IsTrue, ◌↔◌};
+ghost use Rattle.std.specs.Prelude.{MatchOption, ◌==◌, nat_lt};
 ghost use Rattle.blockset.specs.Sets.{members, bit};
 ghost use Rattle.std.specs.Iterator.{at_most};
-ghost use Rattle.blockset.specs.Has.{has};
+ghost use Rattle.blockset.specs.declared.TheConstants.{MOST_BLOCKS};
+ghost use Rattle.blockset.specs.Has.{has, IsEmpty, IsLeast};
 ghost use Rattle.blockset.specs.Taking.{TakesLeast};
 
 use std::marker::Model;
 
-/// A set of the block numbers 0 to 63. A number of 64 or more is no block: it is in no set, and inserting it changes nothing.
+/// The largest number of blocks of a plane, and how many a set can hold.
+pub const MOST_BLOCKS: u16 = 64;
+
+/// A set of the block numbers 0 to 63. A number of 64 or more is no block: it is in no set, and
+/// inserting it changes nothing.
 #[derive(Clone, Copy, Debug, Default, PartialEq, Eq, Hash)]
 #[repr(C)]
 pub struct BlockSet(u64);
@@ -17,14 +23,14 @@ pub struct BlockSet(u64);
 impl BlockSet {
     /// The set without blocks.
     pub const fn empty() -> Self
-        ensures { (j : ℕ) → has result j ≡ false }
+        ensures { IsEmpty result }
     {
         BlockSet(0)
     }
 
     /// The set of one block, or of none where the number is 64 or more.
     pub fn of(block: usize) -> Self
-        ensures { (j : ℕ) → has result j ≡ (nat_lt j 64 && j == block) }
+        ensures { (j : ℕ) → has result j ≡ (nat_lt j MOST_BLOCKS && j == block) }
     {
         if block < 64 {
             BlockSet(1 << block)
@@ -35,7 +41,7 @@ impl BlockSet {
 
     /// The blocks below `n`: all 64 where `n` is more.
     pub fn all(n: usize) -> Self
-        ensures { (j : ℕ) → has result j ≡ (nat_lt j 64 && nat_lt j n) }
+        ensures { (j : ℕ) → has result j ≡ (nat_lt j MOST_BLOCKS && nat_lt j n) }
     {
         if n < 64 {
             BlockSet((1 << n) - 1)
@@ -66,21 +72,21 @@ impl BlockSet {
     }
 
     pub fn is_empty(self) -> bool
-        ensures { IsTrue result ↔ ((j : ℕ) → has self j ≡ false) }
+        ensures { IsTrue result ↔ IsEmpty self }
     {
         self.0 == 0
     }
 
     /// How many blocks the set has.
     pub fn len(self) -> usize
-        ensures { result ≡ members 64 (has self) }
+        ensures { result ≡ members MOST_BLOCKS (has self) }
     {
         self.0.count_ones() as usize
     }
 
     /// The least block of the set.
     pub fn least(self) -> Option<usize>
-        ensures { MatchOption result ((j : ℕ) → has self j ≡ false) (λ i. (i < 64) × (has self i ≡ true) × ((j : ℕ) → j < i → has self j ≡ false)) }
+        ensures { MatchOption result (IsEmpty self) (IsLeast self) }
     {
         if self.is_empty() {
             None
@@ -110,7 +116,8 @@ impl BlockSet {
 
     /// Puts a block into the set; a number of 64 or more leaves the set as it is.
     pub fn insert(&mut self, block: usize)
-        ensures { (j : ℕ) → has self.new j ≡ ((nat_lt j 64 && j == block) || has self.old j) }
+        ensures { (j : ℕ)
+            → has self.new j ≡ ((nat_lt j MOST_BLOCKS && j == block) || has self.old j) }
     {
         if block < 64 {
             self.0 |= 1 << block;
@@ -158,7 +165,7 @@ impl Iterator for Blocks {
 
     ghost next_gives = { TakesLeast };
 
-    ghost remaining = { λ blocks. at_most (members 64 (has blocks)) };
+    ghost remaining = { λ blocks. at_most (members MOST_BLOCKS (has blocks)) };
 
     fn next(&mut self) -> Option<usize> {
         let least = self.rest.least()?;

@@ -1,24 +1,28 @@
 -- Where the rail is not reached, sums and differences are exact.
--- Idea: column by column, the size of a sum or difference is at most the sizes together, and a number on the rail is its own nearest one.
-use Rattle.std.proofs.Common.{◌≡◌, ℕ, zero, suc, ◌+◌, ◌≤◌, leb, List, [], ◌∷◌, length, ℤ, pos, negsuc, ◌+ℤ◌, ◌-ℤ◌, nat_abs, Decides, refl, ap, ◌∙◌, arith}
+-- Idea: column by column, the size of a sum or difference is at most the sizes together, and a
+-- number on the rail is its own nearest one.
+use Rattle.std.proofs.Common.{◌≡◌, ℕ, zero, suc, ◌+◌, ◌≤◌, leb, List, [], ◌∷◌, length, ℤ, pos}
+use Rattle.std.proofs.Common.{negsuc, ◌+ℤ◌, ◌-ℤ◌, nat_abs, sum_by, All, Decides, inl, inr, refl, ap}
+use Rattle.std.proofs.Common.{◌∙◌, arith}
 use Rattle.std.proofs.lemmas.Int.{ints}
-use Rattle.std.proofs.lemmas.Bool.{leb-true, le-leb}
-use Rattle.std.proofs.ByRecursion.{Decides-by_and}
-use Rattle.cost.specs.Columns.{railed, Within, within, columnwise, zeros, plus, minus}
+use Rattle.std.proofs.lemmas.Bool.{leb-true, le-leb, cases_lt}
+use Rattle.std.proofs.lemmas.Bool.Decides.{Decides-by_and}
+use Rattle.std.proofs.lemmas.List.Elements.{All-from_recursion, recursion_from_All}
+use Rattle.cost.specs.Columns.{rail_of, Within, within, columnwise, zeros, plus, minus}
 use Rattle.cost.specs.Laws.{Exact}
 
-pub railed_same : (z : ℤ) → nat_abs z ≤ 1000000000000000 → railed z ≡ z
-railed_same (pos n) h = ap pos (omega arith)
-railed_same (negsuc n) h = ap negsuc (omega arith)
+pub rail_of_same : (z : ℤ) → nat_abs z ≤ 1000000000000000 → rail_of z ≡ z
+rail_of_same (pos n) h = ap pos (omega arith)
+rail_of_same (negsuc n) h = ap negsuc (omega arith)
 
 -- what lies on the rail is not moved again
-railed_twice : (z : ℤ) → railed (railed z) ≡ railed z
-railed_twice (pos n) = ap pos (omega arith)
-railed_twice (negsuc n) = ap negsuc (omega arith)
+rail_of_twice : (z : ℤ) → rail_of (rail_of z) ≡ rail_of z
+rail_of_twice (pos n) = ap pos (omega arith)
+rail_of_twice (negsuc n) = ap negsuc (omega arith)
 
 -- so a number that was bounded means itself
-pub bounded_means : (x z : ℤ) → x ≡ railed z → ◌≡◌ {A = List ℤ} (railed x ∷ []) (railed z ∷ [])
-bounded_means x z e = ap (λ t. railed t ∷ []) e ∙ ap (λ t. t ∷ []) (railed_twice z)
+pub bounded_means : (x z : ℤ) → x ≡ rail_of z → ◌≡◌ {A = List ℤ} (rail_of x ∷ []) (rail_of z ∷ [])
+bounded_means x z e = ap (λ t. rail_of t ∷ []) e ∙ ap (λ t. t ∷ []) (rail_of_twice z)
 
 abs_plus : (x y : ℤ) → nat_abs (x +ℤ y) ≤ nat_abs x + nat_abs y
 abs_plus x y = omega (arith, ints)
@@ -28,29 +32,57 @@ abs_minus x y = omega (arith, ints)
 
 -- one column operation whose result is at most as large as both numbers together
 module _ (f : ℤ → ℤ → ℤ) (small : (x y : ℤ) → nat_abs (f x y) ≤ nat_abs x + nat_abs y) where
-  pub columnwise-within : (a b : ℕ) (xs ys : List ℤ) → Within a xs → Within b ys → Within (a + b) (columnwise f xs ys)
+  pub columnwise-within : (a b : ℕ) (xs ys : List ℤ) → Within a xs → Within b ys
+      → Within (a + b) (columnwise f xs ys)
   columnwise-within a b [] ys h k = tt
   columnwise-within a b (x ∷ xs) [] h k = tt
-  columnwise-within a b (x ∷ xs) (y ∷ ys) h k = (omega (arith, small x y, h.0, k.0), columnwise-within a b xs ys h.1 k.1)
+  columnwise-within a b (x ∷ xs) (y ∷ ys) h k =
+      (omega (arith, small x y, h.0, k.0), columnwise-within a b xs ys h.1 k.1)
 
-  pub columnwise_exact : (a b : ℕ) (xs ys : List ℤ) → a + b ≤ 1000000000000000 → Within a xs → Within b ys → columnwise (λ x y. railed (f x y)) xs ys ≡ columnwise f xs ys
+  pub columnwise_exact : (a b : ℕ) (xs ys : List ℤ) → a + b ≤ 1000000000000000 → Within a xs
+      → Within b ys → columnwise (λ x y. rail_of (f x y)) xs ys ≡ columnwise f xs ys
   columnwise_exact a b [] ys l h k = refl
   columnwise_exact a b (x ∷ xs) [] l h k = refl
   columnwise_exact a b (x ∷ xs) (y ∷ ys) l h k =
-      let e : railed (f x y) ≡ f x y = railed_same (f x y) (omega (arith, small x y, h.0, k.0)) in
-      let t : columnwise (λ u v. railed (f u v)) xs ys ≡ columnwise f xs ys = columnwise_exact a b xs ys l h.1 k.1 in
+      let e : rail_of (f x y) ≡ f x y = rail_of_same (f x y) (omega (arith, small x y, h.0, k.0)) in
+      let t : columnwise (λ u v. rail_of (f u v)) xs ys ≡ columnwise f xs ys =
+      columnwise_exact a b xs ys l h.1 k.1 in
       cc
 
-pub plus-within : (a b : ℕ) (xs ys : List ℤ) → Within a xs → Within b ys → Within (a + b) (plus xs ys)
+pub plus-within : (a b : ℕ) (xs ys : List ℤ) → Within a xs → Within b ys
+    → Within (a + b) (plus xs ys)
 plus-within = columnwise-within ◌+ℤ◌ abs_plus
 
-pub minus-within : (a b : ℕ) (xs ys : List ℤ) → Within a xs → Within b ys → Within (a + b) (minus xs ys)
+pub minus-within : (a b : ℕ) (xs ys : List ℤ) → Within a xs → Within b ys
+    → Within (a + b) (minus xs ys)
 minus-within = columnwise-within ◌-ℤ◌ abs_minus
 
 pub exact : Exact 1000000000000000
-exact a b xs ys l h k = (columnwise_exact ◌+ℤ◌ abs_plus a b xs ys l h k, columnwise_exact ◌-ℤ◌ abs_minus a b xs ys l h k)
+exact a b xs ys l h k = (
+  columnwise_exact ◌+ℤ◌ abs_plus a b xs ys l h k,
+  columnwise_exact ◌-ℤ◌ abs_minus a b xs ys l h
+      k,
+)
 
-pub length-columnwise : (f : ℤ → ℤ → ℤ) (xs ys : List ℤ) → length xs ≡ length ys → length (columnwise f xs ys) ≡ length xs
+-- beyond that the rail stops a sum: one column at its end, and 1 more
+too_far : Exact 1000000000000001 → ⊥
+too_far h =
+    let stopped : ◌≡◌ {A = List ℤ} (pos 1000000000000000 ∷ []) (pos 1000000000000001 ∷ []) =
+    (h 1000000000000000 1 (pos 1000000000000000 ∷ []) (pos 1 ∷ []) (omega arith)
+    (omega arith, tt) (omega arith, tt)).0 in
+    let same_size : sum_by nat_abs (pos 1000000000000000 ∷ []) ≡
+    sum_by nat_abs (pos 1000000000000001 ∷ []) = ap (sum_by nat_abs) stopped in
+    omega arith
+
+pub most : (reach : ℕ) → Exact reach → reach ≤ 1000000000000000
+most reach h =
+    elim (cases_lt 1000000000000000 reach) [
+      | inl l ↦ absurd (too_far (λ a b xs ys fits. h a b xs ys (omega arith)))
+      | inr l ↦ l
+    ]
+
+pub length-columnwise : (f : ℤ → ℤ → ℤ) (xs ys : List ℤ) → length xs ≡ length ys
+    → length (columnwise f xs ys) ≡ length xs
 length-columnwise f [] ys e = refl
 length-columnwise f (x ∷ xs) [] e = absurd (omega arith)
 length-columnwise f (x ∷ xs) (y ∷ ys) e = ap suc (length-columnwise f xs ys (omega arith))
@@ -65,4 +97,9 @@ zeros_within a (suc n) = (omega arith, zeros_within a n)
 
 -- the test tells the fact
 pub within_tells : (k : ℕ) (xs : List ℤ) → Decides (within k xs) (Within k xs)
-within_tells k xs = Decides-by_and (λ x. leb (nat_abs x) k) (λ x. nat_abs x ≤ k) (within k) (λ x. (leb-true (nat_abs x) k, le-leb (nat_abs x) k)) refl (λ _ _. refl) xs
+within_tells k xs =
+    let P : ℤ → Type 0 = λ x. nat_abs x ≤ k in
+    let all : Decides (within k xs) (All P xs) = Decides-by_and (λ x. leb (nat_abs x) k) P
+    (within k)
+    (λ x. (leb-true (nat_abs x) k, le-leb (nat_abs x) k)) refl (λ _ _. refl) xs in
+    (λ t. recursion_from_All P xs (all.0 t), λ h. all.1 (All-from_recursion P xs h))

@@ -1,3 +1,4 @@
+pub mod Append
 pub mod Exact
 pub mod Order
 pub mod Weights

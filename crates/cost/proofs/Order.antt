@@ -1,13 +1,16 @@
--- The order of columns is total, passes along chains, and is kept when the same is added on both sides.
--- Idea: at the first column there are three cases, less, the same and greater. The first and the last decide at once, in every
--- comparison that is asked about; in the middle case the columns are the same and the rest of the lists decides.
-use Rattle.std.proofs.Common.{◌≡◌, ℕ, true, false, cond, List, [], ◌∷◌, length, ℤ, ◌+ℤ◌, ◌<ℤ◌, Ordering, Less, Equal, Greater, sym, refl, ap, ◌∙◌, arith}
+-- The order of columns is total, passes along chains, and is kept when the same is added on both
+-- sides.
+-- Idea: at the first column there are three cases, less, the same and greater. The first and the
+-- last decide at once, in every comparison that is asked about; in the middle case the columns are
+-- the same and the rest of the lists decides.
+use Rattle.std.proofs.Common.{◌≡◌, ℕ, true, false, cond, List, [], ◌∷◌, length, ℤ, ◌+ℤ◌, ◌<ℤ◌}
+use Rattle.std.proofs.Common.{Ordering, Less, Equal, Greater, sym, refl, ap, ◌∙◌, arith}
 use lib.Signed.{lt_z}
 use Rattle.std.proofs.lemmas.Int.{ints}
 use Rattle.std.proofs.lemmas.Bool.{cond_both, cond-true, cond-false}
 use Rattle.std.specs.Ordering.{ordering_reverse}
 use Rattle.cost.specs.Columns.{plus, lex}
-use Rattle.cost.specs.Laws.{Mirrored, Chained, Shifted}
+use Rattle.cost.specs.Laws.{Mirrored, EqualIsSame, Chained, Shifted}
 
 -- what first columns x and y make of the order of the rest
 abbrev pub headed : ℤ → ℤ → Ordering → Ordering
@@ -20,8 +23,10 @@ pub data Head (x y : ℤ) (rest : Ordering) (o : Ordering) : Type 0 where
 
 pub head : (x y : ℤ) (rest : Ordering) → Head x y rest (headed x y rest)
 head x y rest =
-    cond_both (lt_z x y) Less (cond (lt_z y x) Greater rest) (Head x y rest) (λ t. below (omega (arith, ints)) refl)
-    (λ f. cond_both (lt_z y x) Greater rest (Head x y rest) (λ t. above (omega (arith, ints)) refl) (λ g. same (omega (arith, ints)) refl))
+    cond_both (lt_z x y) Less (cond (lt_z y x) Greater rest) (Head x y rest)
+    (λ t. below (omega (arith, ints)) refl)
+    (λ f. cond_both (lt_z y x) Greater rest (Head x y rest) (λ t. above (omega (arith, ints)) refl)
+    (λ g. same (omega (arith, ints)) refl))
 
 head_below : (x y : ℤ) (rest : Ordering) → x <ℤ y → headed x y rest ≡ Less
 head_below x y rest l = let t : lt_z x y ≡ true = grind (arith, ints) in cond-true (lt_z x y) _ _ t
@@ -45,7 +50,8 @@ lex_mirror (x ∷ xs) [] e = absurd (omega arith)
 lex_mirror (x ∷ xs) (y ∷ ys) e =
     elim (head x y (lex xs ys)) [
       | below l o ↦ head_above y x _ l ∙ sym (ap ordering_reverse o)
-      | same i o ↦ head_same y x _ (sym i) ∙ lex_mirror xs ys (omega arith) ∙ sym (ap ordering_reverse o)
+      | same i o ↦ head_same y x _ (sym i) ∙ lex_mirror xs ys (omega arith)
+          ∙ sym (ap ordering_reverse o)
       | above l o ↦ head_below y x _ l ∙ sym (ap ordering_reverse o)
     ]
 
@@ -58,7 +64,7 @@ never_equal o p q = let z : ◌≡◌ {A = ℕ} 0 1 = cc in omega arith
 never_greater : (o : Ordering) → o ≡ Greater → o ≡ Equal → ⊥
 never_greater o p q = let z : ◌≡◌ {A = ℕ} 0 1 = cc in omega arith
 
-pub lex_same : (xs ys : List ℤ) → length xs ≡ length ys → lex xs ys ≡ Equal → xs ≡ ys
+pub lex_same : EqualIsSame
 lex_same [] [] e h = refl
 lex_same [] (y ∷ ys) e h = absurd (omega arith)
 lex_same (x ∷ xs) [] e h = absurd (omega arith)
@@ -73,7 +79,8 @@ pub lex_refl : (xs : List ℤ) → lex xs xs ≡ Equal
 lex_refl [] = refl
 lex_refl (x ∷ xs) = head_same x x _ refl ∙ lex_refl xs
 
-less_chain : (xs ys zs : List ℤ) → length xs ≡ length ys → length ys ≡ length zs → lex xs ys ≡ Less → lex ys zs ≡ Less → lex xs zs ≡ Less
+less_chain : (xs ys zs : List ℤ) → length xs ≡ length ys → length ys ≡ length zs → lex xs ys ≡ Less
+    → lex ys zs ≡ Less → lex xs zs ≡ Less
 less_chain [] ys zs e f h k = absurd (never_equal _ h refl)
 less_chain (x ∷ xs) [] zs e f h k = absurd (omega arith)
 less_chain (x ∷ xs) (y ∷ ys) [] e f h k = absurd (omega arith)
@@ -86,30 +93,36 @@ less_chain (x ∷ xs) (y ∷ ys) (z ∷ zs) e f h k =
       ]
       | same i o ↦ elim (head y z (lex ys zs)) [
         | below m _ ↦ head_below x z _ (omega (arith, ints))
-        | same j p ↦ head_same x z _ (i ∙ j) ∙ less_chain xs ys zs (omega arith) (omega arith) (sym o ∙ h) (sym p ∙ k)
+        | same j p ↦ head_same x z _ (i ∙ j) ∙ less_chain xs ys zs (omega arith) (omega arith)
+            (sym o ∙ h) (sym p ∙ k)
         | above _ p ↦ absurd (never _ k p)
       ]
       | above _ o ↦ absurd (never _ h o)
     ]
 
 pub mirrored : (order : Ordering) → Mirrored order (ordering_reverse order)
-mirrored order xs ys e h = (lex_mirror xs ys e ∙ ap ordering_reverse h, λ q. lex_same xs ys e (h ∙ q))
+mirrored order xs ys e h = lex_mirror xs ys e ∙ ap ordering_reverse h
 
 pub chained : (order : Ordering) → Chained order order
 chained Less xs ys zs e f h k = less_chain xs ys zs e f h k
 chained Equal xs ys zs e f h k = ap (λ t. lex t zs) (lex_same xs ys e h) ∙ k
 chained Greater xs ys zs e f h k =
-    lex_mirror zs xs (sym (e ∙ f)) ∙ ap ordering_reverse (less_chain zs ys xs (sym f) (sym e) (lex_mirror ys zs f ∙ ap ordering_reverse k) (lex_mirror xs ys e ∙ ap ordering_reverse h))
+    lex_mirror zs xs (sym (e ∙ f))
+    ∙ ap ordering_reverse
+    (less_chain zs ys xs (sym f) (sym e) (lex_mirror ys zs f ∙ ap ordering_reverse k)
+    (lex_mirror xs ys e ∙ ap ordering_reverse h))
 
 -- the same added to both sides changes no comparison of first columns
-lex_shift : (xs ys zs : List ℤ) → length xs ≡ length ys → length ys ≡ length zs → lex (plus xs zs) (plus ys zs) ≡ lex xs ys
+lex_shift : (xs ys zs : List ℤ) → length xs ≡ length ys → length ys ≡ length zs
+    → lex (plus xs zs) (plus ys zs) ≡ lex xs ys
 lex_shift [] ys zs e f = refl
 lex_shift (x ∷ xs) [] zs e f = absurd (omega arith)
 lex_shift (x ∷ xs) (y ∷ ys) [] e f = absurd (omega arith)
 lex_shift (x ∷ xs) (y ∷ ys) (z ∷ zs) e f =
     elim (head x y (lex xs ys)) [
       | below l o ↦ head_below (x +ℤ z) (y +ℤ z) _ (omega (arith, ints)) ∙ sym o
-      | same i o ↦ head_same (x +ℤ z) (y +ℤ z) _ (ap (λ t. t +ℤ z) i) ∙ lex_shift xs ys zs (omega arith) (omega arith) ∙ sym o
+      | same i o ↦ head_same (x +ℤ z) (y +ℤ z) _ (ap (λ t. t +ℤ z) i)
+          ∙ lex_shift xs ys zs (omega arith) (omega arith) ∙ sym o
       | above l o ↦ head_above (x +ℤ z) (y +ℤ z) _ (omega (arith, ints)) ∙ sym o
     ]
 

@@ -1,13 +1,15 @@
 -- Columns: what a cost means, and what the five answers of a kind do to it.
-use Rattle.std.specs.Prelude.{ℕ, ◌≤◌, min, Bool, true, cond, ◌&&◌, List, [], ◌∷◌, replicate, ℤ, pos, negsuc, ◌+ℤ◌, ◌-ℤ◌, int_lt, nat_le, unsigned_abs}
+use Rattle.std.specs.Prelude.{ℕ, ◌-◌, ◌≤◌, min, Bool, if◌then◌else◌, List, [], ◌∷◌, replicate}
+use Rattle.std.specs.Prelude.{ℤ, pos, negsuc, ◌+ℤ◌, ◌-ℤ◌, int_lt, nat_le, unsigned_abs}
 use Rattle.std.specs.declared.cmp.Ordering.TheVariants.{Less, Equal, Greater}
 use Rattle.std.specs.declared.cmp.Ordering.{Ordering}
-use Rattle.std.specs.List.{AllByRecursion}
+use Rattle.std.specs.List.{AllByRecursion, list_all}
+use Rattle.cost.specs.declared.TheConstants.{RAIL}
 
 -- the number on the rail, from -10^15 to 10^15, that is nearest to z (negsuc k is -(k + 1))
-abbrev pub railed : ℤ → ℤ
-railed (pos k) = pos (min k 1000000000000000)
-railed (negsuc k) = negsuc (min k 999999999999999)
+abbrev pub rail_of : ℤ → ℤ
+rail_of (pos k) = pos (min k RAIL)
+rail_of (negsuc k) = negsuc (min k (RAIL - 1))
 
 -- each column is from -limit to limit
 abbrev pub Within : ℕ → List ℤ → Type 0
@@ -15,8 +17,7 @@ Within limit xs = AllByRecursion (λ x. unsigned_abs x ≤ limit) xs
 
 -- the same as a test
 abbrev pub within : ℕ → List ℤ → Bool
-within limit [] = true
-within limit (x ∷ xs) = nat_le (unsigned_abs x) limit && within limit xs
+within limit xs = list_all (λ x. nat_le (unsigned_abs x) limit) xs
 
 -- n columns of 0
 abbrev pub zeros : ℕ → List ℤ
@@ -30,10 +31,10 @@ columnwise f (x ∷ xs) (y ∷ ys) = f x y ∷ columnwise f xs ys
 
 -- what add and take away give
 abbrev pub sums : List ℤ → List ℤ → List ℤ
-sums = columnwise (λ x y. railed (x +ℤ y))
+sums = columnwise (λ x y. rail_of (x +ℤ y))
 
 abbrev pub differences : List ℤ → List ℤ → List ℤ
-differences = columnwise (λ x y. railed (x -ℤ y))
+differences = columnwise (λ x y. rail_of (x -ℤ y))
 
 -- sum and difference without the rail
 abbrev pub plus : List ℤ → List ℤ → List ℤ
@@ -46,4 +47,5 @@ minus = columnwise ◌-ℤ◌
 abbrev pub lex : List ℤ → List ℤ → Ordering
 lex [] ys = Equal
 lex (x ∷ xs) [] = Equal
-lex (x ∷ xs) (y ∷ ys) = cond (int_lt x y) Less (cond (int_lt y x) Greater (lex xs ys))
+lex (x ∷ xs) (y ∷ ys) =
+    (if int_lt x y then Less else (if int_lt y x then Greater else lex xs ys))

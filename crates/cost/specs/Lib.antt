@@ -1,3 +1,4 @@
 pub mod Columns
 pub mod Laws
-pub mod Append
+pub mod Kind
+pub mod Weights

@@ -15,13 +15,9 @@ impl Cost for Free {
 
     ghost meaning = { λ _. [] };
 
-    ghost nought = { record {} };
+    ghost zero = { record {} };
 
-    ghost sized = { Prim.search rules };
-
-    ghost bounded = { Prim.search rules };
-
-    ghost nothing = { Prim.search rules };
+    ghost laws = { Prim.search rules };
 
     fn zero() -> Free {
         Free

@@ -1,8 +1,9 @@
 //! Cost kinds: what a pair of blocks can cost, and the arithmetic every kind has to offer.
 #![tactic(auto)]
 
-ghost use Rattle.std.specs.Prelude.{◌≡◌, ℕ, List, length, ℤ};
-ghost use Rattle.cost.specs.Columns.{Within, within, zeros, sums, differences, lex};
+ghost use Rattle.std.specs.Prelude.{◌≡◌, ℕ, List, ℤ};
+ghost use Rattle.cost.specs.Columns.{within, sums, differences, lex};
+ghost use Rattle.cost.specs.Kind.{KindLaws};
 
 mod free_kind;
 mod laws;
@@ -12,10 +13,19 @@ mod tests;
 mod two_step_kind;
 
 pub use free_kind::Free;
-pub use laws::{chain, exact_reach, mirror, shift};
+pub use laws::{chain, exact_reach, mirror, shift, weigh};
 pub use plain_kind::Plain;
 use std::cmp::Ordering;
 pub use two_step_kind::TwoStep;
+
+/// The rail: each column of a value is from -RAIL to RAIL.
+pub const RAIL: u64 = 1_000_000_000_000_000;
+
+/// The cost of a pair is within this in each column.
+pub const COST_LIMIT: u64 = 1_000_000_000;
+
+/// A price is within this in each column.
+pub const PRICE_LIMIT: u64 = 1_000_000_000_000;
 
 /// A cost kind. A value means a list of whole numbers, its columns: all values of a kind have the
 /// same number of columns, and each column lies on the rail, from -10^15 to 10^15.
@@ -30,11 +40,11 @@ pub trait Cost: Copy {
     ghost meaning: { Self → List ℤ };
 
     // The value that `zero` answers.
-    ghost nought: { Self };
+    ghost zero: { Self };
 
     /// The value with 0 in every column.
     fn zero() -> Self
-        ensures { result ≡ nought };
+        ensures { result ≡ zero };
 
     /// The sum, column by column; a column that would leave the rail stops at its end.
     fn add(self, other: Self) -> Self
@@ -52,9 +62,7 @@ pub trait Cost: Copy {
     fn within(self, limit: u64) -> bool
         ensures { result ≡ within limit (meaning self) };
 
-    ghost sized: { (x : Self) → length (meaning x) ≡ columns };
-
-    ghost bounded: { (x : Self) → Within 1000000000000000 (meaning x) };
-
-    ghost nothing: { meaning nought ≡ zeros columns };
+    // What each `impl` must prove: each value has `columns` columns, all on the rail, and `zero`
+    // has 0 in each of them.
+    ghost laws: { KindLaws columns meaning zero };
 }

@@ -1,16 +1,16 @@
 //! The plain kind: one column, a signed 64-bit number.
 
-ghost use Rattle.std.specs.Prelude.{◌≡◌, [], ◌∷◌, pos, ◌+ℤ◌, ◌-ℤ◌, nat_le, unsigned_abs};
-ghost use Rattle.cost.specs.Columns.{railed, sums, differences};
+ghost use Rattle.std.specs.Prelude.{◌≡◌, ◌≤◌, ◌↔◌, [], ◌∷◌, pos, ◌+ℤ◌, ◌-ℤ◌, unsigned_abs, IsTrue};
+ghost use Rattle.cost.specs.Columns.{rail_of, sums, differences};
 ghost use Rattle.std.proofs.Common.{rules};
 
 use crate::Cost;
 use std::cmp::Ordering;
 
-const RAIL: i64 = 1_000_000_000_000_000;
+const RAIL: i64 = crate::RAIL as i64;
 
 /// Half of the rail: sums and differences of numbers within it lie on the rail.
-const HALF: i64 = 500_000_000_000_000;
+const HALF: i64 = RAIL / 2;
 
 /// A plain cost. The type has no invariant, since plain costs lie in tables that anybody may have
 /// written: a number beyond the rail means the nearer end of the rail.
@@ -20,14 +20,15 @@ pub struct Plain(pub i64);
 
 // `x`, or the end of the rail that it lies beyond.
 fn on_rail(x: i64) -> i64
-    ensures { result ≡ railed x }
+    ensures { result ≡ rail_of x }
 {
     x.clamp(-RAIL, RAIL)
 }
 
-// Whether `x` is within half of the rail, as nearly all numbers are: then nothing has to be stopped, which saves a good part of the time of a sum.
+// Whether `x` is within half of the rail, as nearly all numbers are: then nothing has to be
+// stopped, which saves a good part of the time of a sum.
 fn is_near(x: i64) -> bool
-    ensures { result ≡ nat_le (unsigned_abs x) 500000000000000 }
+    ensures { IsTrue result ↔ (unsigned_abs x ≤ unsigned_abs HALF) }
 {
     -HALF <= x && x <= HALF
 }
@@ -35,15 +36,11 @@ fn is_near(x: i64) -> bool
 impl Cost for Plain {
     ghost columns = { 1 };
 
-    ghost meaning = { λ p. railed p.0 ∷ [] };
+    ghost meaning = { λ p. rail_of p.0 ∷ [] };
 
-    ghost nought = { record { 0 = pos 0 } };
+    ghost zero = { record { 0 = pos 0 } };
 
-    ghost sized = { Prim.search rules };
-
-    ghost bounded = { Prim.search rules };
-
-    ghost nothing = { Prim.search rules };
+    ghost laws = { Prim.search rules };
 
     fn zero() -> Plain {
         Plain(0)
@@ -51,8 +48,8 @@ impl Cost for Plain {
 
     // The number that is returned lies on the rail itself.
     fn add(self, other: Plain) -> Plain
-        ensures means { railed result.0 ∷ [] ≡ sums (railed self.0 ∷ []) (railed other.0 ∷ []) }
-        ensures bounded { result.0 ≡ railed (railed self.0 +ℤ railed other.0) }
+        ensures means { rail_of result.0 ∷ [] ≡ sums (rail_of self.0 ∷ []) (rail_of other.0 ∷ []) }
+        ensures bounded { result.0 ≡ rail_of (rail_of self.0 +ℤ rail_of other.0) }
     {
         if is_near(self.0) && is_near(other.0) {
             Plain(self.0 + other.0)
@@ -63,8 +60,9 @@ impl Cost for Plain {
 
     // The number that is returned lies on the rail itself.
     fn take_away(self, other: Plain) -> Plain
-        ensures means { railed result.0 ∷ [] ≡ differences (railed self.0 ∷ []) (railed other.0 ∷ []) }
-        ensures bounded { result.0 ≡ railed (railed self.0 -ℤ railed other.0) }
+        ensures means { rail_of result.0 ∷ [] ≡ differences (rail_of self.0 ∷ [])
+            (rail_of other.0 ∷ []) }
+        ensures bounded { result.0 ≡ rail_of (rail_of self.0 -ℤ rail_of other.0) }
     {
         if is_near(self.0) && is_near(other.0) {
             Plain(self.0 - other.0)

@@ -1,8 +1,10 @@
 //! The two-step kind: two kinds in one, the first one's columns before the second one's.
 
-ghost use Rattle.std.specs.Prelude.{◌+◌, ◌++◌};
+ghost use Rattle.std.specs.Prelude.{◌+◌, ◌≤◌, ◌++◌, ℤ, unsigned_abs};
 ghost use Rattle.std.proofs.lemmas.List.{length-append, replicate-append-replicate};
-ghost use Rattle.cost.specs.Append.{within-append};
+ghost use Rattle.std.proofs.lemmas.List.Elements.{All-append};
+ghost use Rattle.std.proofs.lemmas.List.Elements.{All-from_recursion, recursion_from_All};
+ghost use Rattle.cost.specs.declared.TheConstants.{RAIL};
 
 use crate::Cost;
 use std::cmp::Ordering;
@@ -16,13 +18,20 @@ impl<A: Cost, B: Cost> Cost for TwoStep<A, B> {
 
     ghost meaning = { λ s. A.Cost.meaning s.0 ++ B.Cost.meaning s.1 };
 
-    ghost nought = { record { 0 = A.Cost.nought; 1 = B.Cost.nought } };
+    ghost zero = { record { 0 = A.Cost.zero; 1 = B.Cost.zero } };
 
-    ghost sized = { λ x. rw (length-append, A.Cost.sized x.0, B.Cost.sized x.1) };
-
-    ghost bounded = { λ x. within-append _ _ _ (A.Cost.bounded x.0) (B.Cost.bounded x.1) };
-
-    ghost nothing = { rw (A.Cost.nothing, B.Cost.nothing) (replicate-append-replicate _ _ _) };
+    ghost laws = { record {
+      column_count = λ x.
+          rw (length-append, A.Cost.laws.column_count x.0, B.Cost.laws.column_count x.1);
+      on_rail = λ x.
+          let P : ℤ → Type 0 = λ z. unsigned_abs z ≤ RAIL in
+          recursion_from_All P _ (All-append P _ _
+          (All-from_recursion P _ (A.Cost.laws.on_rail x.0))
+          (All-from_recursion P _ (B.Cost.laws.on_rail x.1)));
+      zero_columns =
+          rw (A.Cost.laws.zero_columns, B.Cost.laws.zero_columns)
+          (replicate-append-replicate _ _ _);
+    } };
 
     fn zero() -> TwoStep<A, B> {
         TwoStep(A::zero(), B::zero())

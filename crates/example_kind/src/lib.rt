@@ -2,7 +2,7 @@
 #![tactic(auto)]
 
 ghost use Rattle.std.specs.Prelude.{[], ◌∷◌, pos};
-ghost use Rattle.cost.specs.Columns.{railed};
+ghost use Rattle.cost.specs.Columns.{rail_of};
 ghost use Rattle.std.proofs.Common.{rules};
 
 use cost::{Cost, Plain};
@@ -18,15 +18,11 @@ pub struct Programming {
 impl Cost for Programming {
     ghost columns = { 2 };
 
-    ghost meaning = { λ p. railed p.time ∷ railed p.wear ∷ [] };
+    ghost meaning = { λ p. rail_of p.time ∷ rail_of p.wear ∷ [] };
 
-    ghost nought = { record { time = pos 0; wear = pos 0 } };
+    ghost zero = { record { time = pos 0; wear = pos 0 } };
 
-    ghost sized = { Prim.search rules };
-
-    ghost bounded = { Prim.search rules };
-
-    ghost nothing = { Prim.search rules };
+    ghost laws = { Prim.search rules };
 
     fn zero() -> Programming {
         Programming { time: 0, wear: 0 }

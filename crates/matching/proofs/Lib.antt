@@ -6,3 +6,4 @@ pub mod Order
 pub mod Places
 pub mod Leading
 pub mod Most
+pub mod Nth

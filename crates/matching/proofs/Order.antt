@@ -1,16 +1,19 @@
 -- The first pairing, and the one that comes next, made left block by left block.
--- Idea: of two pairings that differ, the one comes before that is less at the first left block where they differ. So the first pairing has the least possible right
--- block at left block 0, of those that have it the least at left block 1, and so on. After p comes a pairing that agrees with p up to some left block and is greater
--- there; of these the first one differs from p as late as possible, is as little greater there as possible, and is the first of those that begin so.
-use Rattle.std.proofs.Common.{◌≡◌, ℕ, zero, suc, ◌+◌, ◌<◌, ◌≤◌, ◌⊎◌, List, [], ◌∷◌, length, sym, refl, ap, ◌∙◌, inl, inr, arith}
+-- Idea: of two pairings that differ, the one comes before that is less at the first left block
+-- where they differ. So the first pairing has the least possible right block at left block 0, of
+-- those that have it the least at left block 1, and so on. After p comes a pairing that agrees with
+-- p up to some left block and is greater there; of these the first one differs from p as late as
+-- possible, is as little greater there as possible, and is the first of those that begin so.
+use Rattle.std.proofs.Common.{◌≡◌, ℕ, zero, suc, ◌+◌, ◌<◌, ◌≤◌, ◌⊎◌, List, [], ◌∷◌, length, sym}
+use Rattle.std.proofs.Common.{refl, ap, ◌∙◌, inl, inr, arith}
 use Rattle.std.proofs.lemmas.List.{ext_get_or}
 use Rattle.std.proofs.lemmas.Bool.{cases_eq, cases_order}
 use Rattle.blockset.specs.declared.BlockSet.{BlockSet}
 use Rattle.pairing.specs.Grid.{at}
 use Rattle.pairing.specs.Optima.{Before}
 use Rattle.pairing.specs.Chains.{Agree}
-use Rattle.matching.specs.Rows.{Pairs}
-use Rattle.matching.specs.Steps.{Improved, Unimproved, Settled}
+use Rattle.pairing.specs.Rows.{Pairs}
+use Rattle.matching.specs.Improving.{Improved, Unimproved, IsFirstFrom}
 
 -- `after` is the pairing that comes next after `before`
 pub record Next (rows : List BlockSet) (before after : List ℕ) : Type 0 where
@@ -27,7 +30,12 @@ less_before zero p q e f w = absurd (omega (arith, w.1))
 less_before (suc n) [] q e f w = absurd (omega arith)
 less_before (suc n) (x ∷ p) [] e f w = absurd (omega arith)
 less_before (suc n) (x ∷ p) (y ∷ q) e f (zero, b, a, h) = inl h
-less_before (suc n) (x ∷ p) (y ∷ q) e f (suc k, b, a, h) = inr (sym (a 0 (omega arith)), less_before n p q (omega arith) (omega arith) (k, omega arith, λ i j. a (suc i) (omega arith), h))
+less_before (suc n) (x ∷ p) (y ∷ q) e f (suc k, b, a, h) =
+    inr (
+      sym (a 0 (omega arith)),
+      less_before n p q (omega arith) (omega arith)
+          (k, omega arith, λ i j. a (suc i) (omega arith), h),
+    )
 
 pub before_less : (n : ℕ) (p q : List ℕ) → length p ≡ n → length q ≡ n → Before p q → Less n p q
 before_less n [] [] e f w = absurd w
@@ -56,27 +64,40 @@ Exhausted rows l p = (q : List ℕ) → Pairs rows q → Agree l p q → Before 
 module _ (rows : List BlockSet) where
   -- of the pairings that agree with start below low, each agrees with p below l or comes later
   abbrev pub Settling : (low l : ℕ) (start p : List ℕ) → Type 0
-  Settling low l start p = Pairs rows p × Agree low start p × ((q : List ℕ) → Pairs rows q → Agree low start q → Agree l p q ⊎ Less l p q)
+  Settling low l start p = Pairs rows p × Agree low start p
+      × ((q : List ℕ) → Pairs rows q → Agree low start q → Agree l p q ⊎ Less l p q)
 
-  module _ (low l : ℕ) (start p p' : List ℕ) (s : Settling low l start p) (le : low ≤ l) (inside : l < length rows) where
+  module _ (low l : ℕ) (start p p' : List ℕ) (s : Settling low l start p) (le : low ≤ l)
+      (inside : l < length rows) where
     pub settle_more : Improved rows l 0 p p' → Settling low (l + 1) start p'
     settle_more w = (
       w.pairs,
       λ i h. w.kept i (omega arith) ∙ s.1 i h,
       λ q g a.
           elim (s.2 q g a) [
-            | inr v ↦ inr (v.0, omega (arith, v.1), λ i h. v.2 i h ∙ sym (w.kept i (omega (arith, v.1))), omega (arith, v.3, w.kept v.0 v.1))
+            | inr v ↦
+                inr (
+                  v.0,
+                  omega (arith, v.1),
+                  λ i h. v.2 i h ∙ sym (w.kept i (omega (arith, v.1))),
+                  omega (arith, v.3, w.kept v.0 v.1),
+                )
             | inl b ↦
                 let c : Agree l p' q = λ i h. b i h ∙ sym (w.kept i h) in
                 let no_more = w.least q g b (omega arith) in
-                elim (cases_eq (at q l) (at p' l)) [ inl e ↦ inl (agree_more l p' q c e) | inr ne ↦ inr (l, omega arith, c, omega arith) ]
+                elim (cases_eq (at q l) (at p' l)) [
+                  | inl e ↦ inl (agree_more l p' q c e)
+                  | inr ne ↦
+                      inr (l, omega arith, c, omega arith)
+                ]
           ],
     )
 
     pub settle_never : Unimproved rows l 0 p p' → ⊥
     settle_never w = omega (arith, w.none p s.0 (λ i h. refl))
 
-  pub settled : (low : ℕ) (start p : List ℕ) → Settling low (length rows) start p → Settled rows low start p
+  pub settled : (low : ℕ) (start p : List ℕ) → Settling low (length rows) start p
+      → IsFirstFrom rows low start p
   settled low start p s = record {
     pairs = s.0;
     kept = s.1;
@@ -87,9 +108,11 @@ module _ (rows : List BlockSet) where
   }
 
   pub exhausted_start : (p : List ℕ) → Pairs rows p → Exhausted rows (length rows) p
-  exhausted_start p h q g a b = let w = before_less (length rows) p q h.len g.len b in omega (arith, w.3, a w.0 w.1)
+  exhausted_start p h q g a b = let w = before_less (length rows) p q h.len g.len b in
+      omega (arith, w.3, a w.0 w.1)
 
-  module _ (l : ℕ) (p : List ℕ) (h : Pairs rows p) (inside : l < length rows) (e : Exhausted rows (l + 1) p) where
+  module _ (l : ℕ) (p : List ℕ) (h : Pairs rows p) (inside : l < length rows)
+      (e : Exhausted rows (l + 1) p) where
     pub exhausted_more : (p' : List ℕ) → Unimproved rows l (at p l + 1) p p' → Exhausted rows l p
     exhausted_more p' w q g a b =
         let top = w.none q g a in
@@ -102,7 +125,9 @@ module _ (rows : List BlockSet) where
           ]
         ]
 
-    pub next_is : (p₁ p₂ : List ℕ) → Improved rows l (at p l + 1) p p₁ → Settled rows (l + 1) p₁ p₂ → Next rows p p₂
+    pub next_is : (p₁ p₂ : List ℕ) → Improved rows l (at p l + 1) p p₁
+        → IsFirstFrom rows (l + 1) p₁ p₂
+        → Next rows p p₂
     next_is p₁ p₂ w s =
         let same : Agree l p p₂ = λ i j. s.kept i (omega arith) ∙ w.kept i j in
         let top : at p₂ l ≡ at p₁ l = s.kept l (omega arith) in
@@ -118,11 +143,20 @@ module _ (rows : List BlockSet) where
                     let up : at p l < at q l = omega (arith, v.3, ap (at p) z, ap (at q) z) in
                     let most = w.least q g a (omega arith) in
                     elim (cases_eq (at q l) (at p₁ l)) [
-                      | inl s₁ ↦ s.first q g (agree_more l p₁ q (λ i j. a i j ∙ sym (w.kept i j)) s₁)
-                      | inr ne ↦ inr (less_before n p₂ q s.pairs.len g.len (l, inside, λ i j. a i j ∙ sym (same i j), omega arith))
+                      | inl s₁ ↦
+                          s.first q g (agree_more l p₁ q (λ i j. a i j ∙ sym (w.kept i j)) s₁)
+                      | inr ne ↦
+                          inr (less_before n p₂ q s.pairs.len g.len
+                          (l, inside, λ i j. a i j ∙ sym (same i j), omega arith))
                     ]
                 | inr o ↦ elim o [
-                  | inl lt ↦ inr (less_before n p₂ q s.pairs.len g.len (v.0, v.1, λ i j. v.2 i j ∙ sym (same i (omega arith)), omega (arith, v.3, same v.0 lt)))
+                  | inl lt ↦
+                      inr (less_before n p₂ q s.pairs.len g.len (
+                        v.0,
+                        v.1,
+                        λ i j. v.2 i j ∙ sym (same i (omega arith)),
+                        omega (arith, v.3, same v.0 lt),
+                      ))
                   | inr gt ↦ absurd (e q g (λ i j. v.2 i (omega arith)) b)
                 ]
               ];

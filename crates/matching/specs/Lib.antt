@@ -1,5 +1,5 @@
-pub mod Rows
 pub mod Fit
+pub mod Exchange
 pub mod Search
-pub mod Steps
+pub mod Improving
 pub mod Answers

@@ -1,5 +1,6 @@
-//! Compares the calls of `matching` with plain enumeration, on every sheet of up to 3 blocks a side and on random ones of 4 to 6, and
-//! prints how many sheets and pairings there were and how many answers were wrong.
+//! Compares the calls of `matching` with plain enumeration, on every sheet of up to 3 blocks a side
+//! and on random ones of 4 to 6, and prints how many sheets and pairings there were and how many
+//! answers were wrong.
 #![tactic(auto)]
 
 ghost use Rattle.std.specs.Prelude.{◌≡◌, ◌<◌, ◌≤◌};
@@ -24,7 +25,8 @@ struct Tally {
     wrong: u32,
 }
 
-/// The most pairs that a pairing of a sheet has, and the left blocks that some pairing with so many leaves out.
+/// The most pairs that a pairing of a sheet has, and the left blocks that some pairing with so many
+/// leaves out.
 #[derive(Clone, Copy)]
 struct Most {
     pairs: usize,
@@ -38,7 +40,8 @@ fn lists(base: u32, n: u32) -> u32 {
     base.saturating_pow(n)
 }
 
-/// The list of `n` digits of a number: counting the number up goes through the lists in dictionary order.
+/// The list of `n` digits of a number: counting the number up goes through the lists in dictionary
+/// order.
 fn digits(number: u32, base: u32, n: usize) -> [u16; 6]
     requires base { (0 < base) × (base ≤ 7) }
     requires size { n ≤ 6 }
@@ -52,7 +55,8 @@ fn digits(number: u32, base: u32, n: usize) -> [u16; 6]
     list
 }
 
-/// The left blocks that a list leaves out, where the number `n` stands for nothing, or `None` if it is no pairing of the sheet.
+/// The left blocks that a list leaves out, where the number `n` stands for nothing, or `None` if it
+/// is no pairing of the sheet.
 fn left_out(sheet: Sheet, list: &[u16; 6]) -> Option<BlockSet>
     requires { sheet.n ≤ 6 }
 {
@@ -134,36 +138,44 @@ fn join(pairs: &mut [BlockSet; 6], list: &[u16; 6]) {
 
 // ---- Comparing
 
-/// Whether an answer that the sheet has no perfect pairing is right, and the list in it is a pairing that leaves out what it says.
-fn short_is_right(sheet: Sheet, found: Most, s: Shortfall, list: &[u16; 6]) -> bool
+/// Whether an answer that the sheet has no perfect pairing is right, and the list in it is a
+/// pairing that leaves out what it says.
+fn short_is_right(
+    sheet: Sheet,
+    found: Most,
+    out: BlockSet,
+    shortfall: Shortfall,
+    list: &[u16; 6],
+) -> bool
     requires { sheet.n ≤ 6 }
 {
     let mut kept = *list;
     for l in 0..sheet.n {
-        if s.out.contains(l) {
+        if out.contains(l) {
             kept[l] = sheet.n as u16;
         }
     }
-    let out = left_out(sheet, &kept).unwrap_or(BlockSet::empty());
     found.pairs < sheet.n
-        && out == s.out
-        && s.crowd == found.crowd.bits()
-        && s.short == sheet.n - found.pairs
-        && around(sheet, found.crowd).saturating_add(s.short) == found.crowd.len()
+        && left_out(sheet, &kept) == Some(out)
+        && shortfall.crowd == found.crowd.bits()
+        && shortfall.short == sheet.n - found.pairs
+        && around(sheet, found.crowd).saturating_add(shortfall.short) == found.crowd.len()
 }
 
-/// Whether `largest` answers what enumeration finds; it leaves a perfect pairing in `p` if there is one.
+/// Whether `largest` answers what enumeration finds; it leaves a perfect pairing in `p` if there is
+/// one.
 fn largest_is_right(sheet: Sheet, p: &mut [u16; 6], found: Most) -> bool
     requires { sheet.n ≤ 6 }
 {
     match matching::largest(&sheet.rows[0..sheet.n], &mut p[0..sheet.n]) {
         Ok(Found::Perfect) => found.pairs == sheet.n && is_perfect(sheet, p),
-        Ok(Found::Short(s)) => short_is_right(sheet, found, s, p),
+        Ok(Found::Short { out, shortfall }) => short_is_right(sheet, found, out, shortfall, p),
         Err(_) => false,
     }
 }
 
-/// How many answers of a walk through all perfect pairings are wrong, from the perfect pairing in `p` on.
+/// How many answers of a walk through all perfect pairings are wrong, from the perfect pairing in
+/// `p` on.
 fn walk(sheet: Sheet, p: &mut [u16; 6], tally: &mut Tally)
     requires { (0 < sheet.n) × (sheet.n ≤ 6) }
 {
@@ -273,7 +285,8 @@ fn random(seed: u64) -> u64 {
         .wrapping_add(1442695040888963407)
 }
 
-/// Random sheets of `n` blocks a side, with about half, a quarter and three quarters of all pairs in turn.
+/// Random sheets of `n` blocks a side, with about half, a quarter and three quarters of all pairs
+/// in turn.
 fn try_random(n: usize, sheets: u32, tally: &mut Tally)
     requires { (0 < n) × (n ≤ 6) }
 {

@@ -1,14 +1,21 @@
--- Fields and their bytes: the bytes of a sound field have no fault and state what was written, and a field without a fault is the bytes of what it states.
--- Idea: one way the bytes are written out, so that the checks compute. The other way the checks fix the tag and the length,
--- so that the first bytes can be peeled off one by one and compared with the bytes that the format would write.
-use Rattle.std.proofs.Common.{◌≡◌, ℕ, zero, suc, ◌+◌, ◌/◌, ◌%◌, ◌<◌, ◌≤◌, false, ◌||◌, ltb, leb, List, [], ◌∷◌, ◌++◌, length, get_or, drop, ℤ, pos, negsuc, nat_abs, None, sym, ap, ◌∙◌, add-zero, arith, length-drop, length-take, w64, SFits, to_z, of_z}
+-- Fields and their bytes: the bytes of a sound field have no fault and state what was written, and
+-- a field without a fault is the bytes of what it states.
+-- Idea: one way the bytes are written out, so that the checks compute. The other way the checks fix
+-- the tag and the length, so that the first bytes can be peeled off one by one and compared with
+-- the bytes that the format would write.
+use Rattle.std.proofs.Common.{◌≡◌, ℕ, zero, suc, ◌+◌, ◌/◌, ◌%◌, ◌<◌, ◌≤◌, false, not, ltb}
+use Rattle.std.proofs.Common.{List, [], ◌∷◌, ◌++◌, length, get_or, drop, ℤ, pos, negsuc, nat_abs}
+use Rattle.std.proofs.Common.{None, sym, ap, ◌∙◌, add-zero, arith, length-drop, length-take, w64}
+use Rattle.std.proofs.Common.{SFits, to_z, of_z}
 use Rattle.std.proofs.lemmas.List.{drop_more, get_or-take, get_or-drop}
 use Rattle.std.proofs.lemmas.Int.{to_z-of_z, of_z-to_z}
 use Rattle.std.proofs.lemmas.Bool.{cond-false}
 use Rattle.std.proofs.lemmas.Bool.Decides.{nat_tests}
+use Rattle.sheet.proofs.Pairs.{blocks_from}
 use Rattle.orderfile.specs.declared.record.StatedPair.{StatedPair}
 use Rattle.orderfile.specs.declared.record.Stage.TheVariants.{Start, Sized}
-use Rattle.orderfile.specs.Format.{SoundPair, size_field, pair_field, end_field, eight_bytes, tag_of, length_of, extent, value_of, overruns, pair_in}
+use Rattle.orderfile.specs.Format.{SoundPair, size_field, pair_field, end_field, eight_bytes}
+use Rattle.orderfile.specs.Format.{tag_of, length_of, extent, value_of, overruns, pair_in}
 use Rattle.orderfile.specs.Faults.{field_fault}
 use Rattle.orderfile.specs.Records.{size_in}
 use Rattle.orderfile.proofs.Bytes.{spelled, bytes_spell, spelled_bytes}
@@ -19,10 +26,12 @@ Bytes xs = (i : ℕ) → get_or xs i 0 < 256
 
 -- sound fields have no fault
 
-pub size_sound : (n : ℕ) (more : List ℕ) (at : ℕ) → 1 ≤ n → n ≤ 64 → field_fault Start (size_field n ++ more) at ≡ None
+pub size_sound : (n : ℕ) (more : List ℕ) (at : ℕ) → 1 ≤ n → n ≤ 64
+    → field_fault Start (size_field n ++ more) at ≡ None
 size_sound n more at some few = grind (arith, nat_tests)
 
-pub end_sound : (n : ℕ) (more : List ℕ) (at : ℕ) → field_fault (Sized n) (end_field ++ more) at ≡ None
+pub end_sound : (n : ℕ) (more : List ℕ) (at : ℕ) → field_fault (Sized n) (end_field ++ more)
+    at ≡ None
 end_sound n more at = grind (arith, nat_tests)
 
 -- a number within 10^9 fits 64 bits
@@ -34,19 +43,29 @@ bits_fit : (z : ℤ) → nat_abs z ≤ 1000000000 → of_z w64 z < 1844674407370
 bits_fit (pos k) small = omega arith
 bits_fit (negsuc k) small = omega arith
 
-pub pair_stated : (p : StatedPair) (more : List ℕ) → nat_abs p.cost ≤ 1000000000 → pair_in (value_of (pair_field p ++ more)) ≡ p
+pub pair_stated : (p : StatedPair) (more : List ℕ) → nat_abs p.cost ≤ 1000000000
+    → pair_in (value_of (pair_field p ++ more)) ≡ p
 pair_stated p more small =
-    let e : to_z w64 (spelled (of_z w64 p.cost / 72057594037927936 % 256) (of_z w64 p.cost / 281474976710656 % 256) (of_z w64 p.cost / 1099511627776 % 256) (of_z w64 p.cost / 4294967296 % 256)
-    (of_z w64 p.cost / 16777216 % 256) (of_z w64 p.cost / 65536 % 256) (of_z w64 p.cost / 256 % 256) (of_z w64 p.cost % 256)) ≡ p.cost = ap (to_z w64) (bytes_spell (of_z w64 p.cost) (bits_fit p.cost small)) ∙ to_z-of_z w64 p.cost (fits p.cost small) in
+    let e : to_z w64
+    (spelled (of_z w64 p.cost / 72057594037927936 % 256)
+    (of_z w64 p.cost / 281474976710656 % 256) (of_z w64 p.cost / 1099511627776 % 256)
+    (of_z w64 p.cost / 4294967296 % 256)
+    (of_z w64 p.cost / 16777216 % 256) (of_z w64 p.cost / 65536 % 256) (of_z w64 p.cost / 256 % 256)
+    (of_z w64 p.cost % 256)) ≡ p.cost =
+    ap (to_z w64) (bytes_spell (of_z w64 p.cost) (bits_fit p.cost small)) ∙ to_z-of_z w64 p.cost
+    (fits p.cost small) in
     ap (λ z. record { left = p.left; right = p.right; cost = z }) e
 
-pub pair_sound : (n : ℕ) (p : StatedPair) (more : List ℕ) (at : ℕ) → SoundPair n p → field_fault (Sized n) (pair_field p ++ more) at ≡ None
+pub pair_sound : (n : ℕ) (p : StatedPair) (more : List ℕ) (at : ℕ) → SoundPair n p
+    → field_fault (Sized n) (pair_field p ++ more) at ≡ None
 pair_sound n p more at s =
     let e = pair_stated p more s.cost_within in
-    let blocks : (leb n (pair_in (value_of (pair_field p ++ more))).left || leb n (pair_in (value_of (pair_field p ++ more))).right) ≡ false = grind (arith, nat_tests, s.left_below, s.right_below) in
-    let cost : ltb 1000000000 (nat_abs (pair_in (value_of (pair_field p ++ more))).cost) ≡ false = ap (λ q. ltb 1000000000 (nat_abs q.cost)) e ∙ grind (arith, nat_tests, s.cost_within) in
+    let cost : ltb 1000000000 (nat_abs (pair_in (value_of (pair_field p ++ more))).cost) ≡ false =
+    ap (λ q. ltb 1000000000 (nat_abs q.cost)) e ∙ grind (arith, nat_tests, s.cost_within) in
     let whole : overruns (pair_field p ++ more) ≡ false = grind (arith, nat_tests) in
-    cond-false _ _ _ whole ∙ cond-false _ _ _ blocks ∙ cond-false _ _ _ cost
+    cond-false _ _ _ whole
+    ∙ cond-false _ _ _ (ap not (blocks_from n p.left p.right s.left_below s.right_below))
+    ∙ cond-false _ _ _ cost
 
 -- fields without a fault are the bytes of what they state
 
@@ -60,7 +79,8 @@ unfolding firsts
 peel zero i xs h = ap (λ j. drop j xs) (sym (add-zero i))
 peel (suc k) i xs h =
     let e : (i + 1) + k ≡ i + suc k = omega arith in
-    drop_more xs i 0 (omega arith) ∙ ap (λ t. get_or xs i 0 ∷ t) (peel k (i + 1) xs (omega arith)) ∙ ap (λ j. get_or xs i 0 ∷ (firsts k (i + 1) xs ++ drop j xs)) e
+    drop_more xs i 0 (omega arith) ∙ ap (λ t. get_or xs i 0 ∷ t) (peel k (i + 1) xs (omega arith))
+    ∙ ap (λ j. get_or xs i 0 ∷ (firsts k (i + 1) xs ++ drop j xs)) e
 
 -- a whole field
 module _ (rest : List ℕ) (whole : overruns rest ≡ false) where
@@ -77,15 +97,19 @@ module _ (rest : List ℕ) (whole : overruns rest ≡ false) where
   value_at i h = get_or-take (length_of rest) (drop 3 rest) i 0 h ∙ get_or-drop 3 rest i 0
 
   -- the two bytes of a length below 256
-  length_bytes : (k : ℕ) → k < 256 → length (value_of rest) ≡ k → (get_or rest 1 0 ≡ 0) × (get_or rest 2 0 ≡ k)
+  length_bytes : (k : ℕ) → k < 256 → length (value_of rest) ≡ k → (get_or rest 1 0 ≡ 0)
+      × (get_or rest 2 0 ≡ k)
   length_bytes k h e = (omega (arith, value_length), omega (arith, value_length))
 
-  pub size_bytes : tag_of rest ≡ 1 → length (value_of rest) ≡ 1 → rest ≡ size_field (size_in (value_of rest)) ++ drop 4 rest
+  pub size_bytes : tag_of rest ≡ 1 → length (value_of rest) ≡ 1
+      → rest ≡ size_field (size_in (value_of rest)) ++ drop 4 rest
   unfolding firsts
   size_bytes tag long =
       let two = length_bytes 1 (omega arith) long in
-      let v0 : get_or (value_of rest) 0 0 ≡ get_or rest 3 0 = value_at 0 (omega (arith, value_length)) in
-      let front : firsts 4 0 rest ≡ size_field (size_in (value_of rest)) = cc (tag, two.0, two.1, v0) in
+      let v0 : get_or (value_of rest) 0 0 ≡ get_or rest 3 0 =
+      value_at 0 (omega (arith, value_length)) in
+      let front : firsts 4 0 rest ≡ size_field (size_in (value_of rest)) =
+      cc (tag, two.0, two.1, v0) in
       peel 4 0 rest (omega (arith, value_length, extent-fits)) ∙ ap (λ t. t ++ drop 4 rest) front
 
   pub end_bytes : tag_of rest ≡ 3 → length (value_of rest) ≡ 0 → rest ≡ end_field ++ drop 3 rest
@@ -95,18 +119,54 @@ module _ (rest : List ℕ) (whole : overruns rest ≡ false) where
       let front : firsts 3 0 rest ≡ end_field = cc (tag, two.0, two.1) in
       peel 3 0 rest header_fits ∙ ap (λ t. t ++ drop 3 rest) front
 
-  pub pair_bytes : Bytes rest → tag_of rest ≡ 2 → length (value_of rest) ≡ 10 → rest ≡ pair_field (pair_in (value_of rest)) ++ drop 13 rest
+  pub pair_bytes : Bytes rest → tag_of rest ≡ 2 → length (value_of rest) ≡ 10
+      → rest ≡ pair_field (pair_in (value_of rest)) ++ drop 13 rest
   unfolding firsts
   pair_bytes bytes tag long =
       let v = value_of rest in
       let ten : length_of rest ≡ 10 = sym value_length ∙ long in
-      let at : (i : ℕ) → i < 10 → get_or v i 0 ≡ get_or rest (3 + i) 0 = λ i h. value_at i (omega (arith, ten)) in
-      let low : (i : ℕ) → i < 10 → get_or v i 0 < 256 = λ i h. omega (arith, at i h, bytes (3 + i)) in
-      let number : ℕ = spelled (get_or v 2 0) (get_or v 3 0) (get_or v 4 0) (get_or v 5 0) (get_or v 6 0) (get_or v 7 0) (get_or v 8 0) (get_or v 9 0) in
-      let small : number < 18446744073709551616 = omega (arith, low 2 (omega arith), low 3 (omega arith), low 4 (omega arith), low 5 (omega arith), low 6 (omega arith), low 7 (omega arith), low 8 (omega arith), low 9 (omega arith)) in
-      let spells : eight_bytes (of_z w64 (to_z w64 number)) ≡ get_or v 2 0 ∷ get_or v 3 0 ∷ get_or v 4 0 ∷ get_or v 5 0 ∷ get_or v 6 0 ∷ get_or v 7 0 ∷ get_or v 8 0 ∷ get_or v 9 0 ∷ [] =
-      ap eight_bytes (of_z-to_z w64 number small) ∙ spelled_bytes _ _ _ _ _ _ _ _ (low 2 (omega arith)) (low 3 (omega arith)) (low 4 (omega arith)) (low 5 (omega arith)) (low 6 (omega arith)) (low 7 (omega arith)) (low 8 (omega arith)) (low 9 (omega arith)) in
+      let at : (i : ℕ) → i < 10 → get_or v i 0 ≡ get_or rest (3 + i) 0 =
+      λ i h. value_at i (omega (arith, ten)) in
+      let low : (i : ℕ) → i < 10 → get_or v i 0 < 256 = λ i h. omega (arith, at i h, bytes (3 + i))
+      in
+      let number : ℕ = spelled (get_or v 2 0) (get_or v 3 0) (get_or v 4 0) (get_or v 5 0)
+      (get_or v 6 0) (get_or v 7 0) (get_or v 8 0) (get_or v 9 0) in
+      let small : number < 18446744073709551616 =
+      omega (
+        arith,
+        low 2 (omega arith),
+        low 3 (omega arith),
+        low 4 (omega arith),
+        low 5 (omega arith),
+        low 6 (omega arith),
+        low 7 (omega arith),
+        low 8 (omega arith),
+        low 9 (omega arith),
+      ) in
+      let spells : eight_bytes (of_z w64 (to_z w64 number)) ≡ get_or v 2 0 ∷ get_or v 3 0
+      ∷ get_or v 4 0 ∷ get_or v 5 0 ∷ get_or v 6 0 ∷ get_or v 7 0 ∷ get_or v 8 0 ∷ get_or v 9 0
+      ∷ [] =
+      ap eight_bytes (of_z-to_z w64 number small) ∙ spelled_bytes _ _ _ _ _ _ _ _
+      (low 2 (omega arith)) (low 3 (omega arith)) (low 4 (omega arith)) (low 5 (omega arith))
+      (low 6 (omega arith)) (low 7 (omega arith)) (low 8 (omega arith)) (low 9 (omega arith)) in
       let two = length_bytes 10 (omega arith) long in
-      let front : firsts 13 0 rest ≡ 2 ∷ 0 ∷ 10 ∷ get_or v 0 0 ∷ get_or v 1 0 ∷ get_or v 2 0 ∷ get_or v 3 0 ∷ get_or v 4 0 ∷ get_or v 5 0 ∷ get_or v 6 0 ∷ get_or v 7 0 ∷ get_or v 8 0 ∷ get_or v 9 0 ∷ [] =
-      cc (tag, two.0, two.1, at 0 (omega arith), at 1 (omega arith), at 2 (omega arith), at 3 (omega arith), at 4 (omega arith), at 5 (omega arith), at 6 (omega arith), at 7 (omega arith), at 8 (omega arith), at 9 (omega arith)) in
-      peel 13 0 rest (omega (arith, ten, extent-fits)) ∙ ap (λ t. t ++ drop 13 rest) (front ∙ ap (λ t. 2 ∷ 0 ∷ 10 ∷ get_or v 0 0 ∷ get_or v 1 0 ∷ t) (sym spells))
+      let front : firsts 13 0 rest ≡ 2 ∷ 0 ∷ 10 ∷ get_or v 0 0 ∷ get_or v 1 0 ∷ get_or v 2 0
+      ∷ get_or v 3 0 ∷ get_or v 4 0 ∷ get_or v 5 0 ∷ get_or v 6 0 ∷ get_or v 7 0 ∷ get_or v 8 0
+      ∷ get_or v 9 0 ∷ [] =
+      cc (
+        tag,
+        two.0,
+        two.1,
+        at 0 (omega arith),
+        at 1 (omega arith),
+        at 2 (omega arith),
+        at 3 (omega arith),
+        at 4 (omega arith),
+        at 5 (omega arith),
+        at 6 (omega arith),
+        at 7 (omega arith),
+        at 8 (omega arith),
+        at 9 (omega arith),
+      ) in
+      peel 13 0 rest (omega (arith, ten, extent-fits)) ∙ ap (λ t. t ++ drop 13 rest)
+      (front ∙ ap (λ t. 2 ∷ 0 ∷ 10 ∷ get_or v 0 0 ∷ get_or v 1 0 ∷ t) (sym spells))

@@ -1,7 +1,10 @@
 -- The invariant of a loop over a file's records, with its start, its step and its two ends.
--- Idea: what was read is a sound front, what is left follows it, and the place is the front's length. A record without a fault makes the front grow;
--- a fault is then the file's first one; and where no record is left, the front is the whole file.
-use Rattle.std.proofs.Common.{◌≡◌, ℕ, ◌+◌, ◌<◌, ◌≤◌, eqb, List, [], ◌++◌, length, get_or, drop, Some, None, Ok, Option, sym, refl, ap, ◌∙◌, subst, ⊎_elim, append-nil, arith}
+-- Idea: what was read is a sound front, what is left follows it, and the place is the front's
+-- length. A record without a fault makes the front grow; a fault is then the file's first one; and
+-- where no record is left, the front is the whole file.
+use Rattle.std.proofs.Common.{◌≡◌, ℕ, ◌+◌, ◌<◌, ◌≤◌, eqb, List, [], ◌++◌, length, get_or, drop}
+use Rattle.std.proofs.Common.{Some, None, Ok, Option, sym, refl, ap, ◌∙◌, subst, ⊎_elim, append-nil}
+use Rattle.std.proofs.Common.{arith}
 use Rattle.std.proofs.lemmas.List.{get_or-append-add, length-append, length-drop, nil_from_length}
 use Rattle.std.proofs.lemmas.Bool.{eqb-true}
 use Rattle.sheet.specs.declared.fault.Fault.{Fault}
@@ -14,7 +17,7 @@ use Rattle.orderfile.specs.declared.record.Stage.{Stage}
 use Rattle.orderfile.specs.declared.record.Stage.TheVariants.{Start, Sized, Ended}
 use Rattle.orderfile.specs.Format.{Order, States, tag_of, value_of}
 use Rattle.orderfile.specs.Faults.{field_fault, front, SoundFront, FirstFault}
-use Rattle.orderfile.specs.Records.{record_in, record_next, stage_after, stage_next, passed}
+use Rattle.orderfile.specs.Records.{record_in, record_next, stage_after, stage_next, record_length}
 use Rattle.orderfile.proofs.Fields.{Bytes, extent-fits}
 use Rattle.orderfile.proofs.Fronts.{grow, size_next, pair_or_end}
 
@@ -34,27 +37,46 @@ pub reading_start : (file : List ℕ) → Reading file Start file 0
 reading_start file = record { pairs = []; splits = refl; sound = refl; placed = refl }
 
 -- a record that has no fault lies within what is left
-pub passed-fits : (stage : Stage) (rest : List ℕ) (at : ℕ) → field_fault stage rest at ≡ None → passed stage rest ≤ length rest
+pub passed-fits : (stage : Stage) (rest : List ℕ) (at : ℕ) → field_fault stage rest at ≡ None
+    → record_length stage rest ≤ length rest
 passed-fits Start rest at e = extent-fits rest (size_next rest at e).whole
-passed-fits (Sized n) rest at e = ⊎_elim (λ h. extent-fits rest h.whole) (λ h. extent-fits rest h.whole) (pair_or_end n rest at e)
+passed-fits (Sized n) rest at e = ⊎_elim (λ h. extent-fits rest h.whole)
+    (λ h. extent-fits rest h.whole) (pair_or_end n rest at e)
 passed-fits (Ended n) rest at e = omega arith
 
 bytes_left : (file front' rest : List ℕ) → file ≡ front' ++ rest → Bytes file → Bytes rest
 bytes_left file front' rest e bytes i =
-    let same : get_or file (length front' + i) 0 ≡ get_or rest i 0 = ap (λ t. get_or t (length front' + i) 0) e ∙ get_or-append-add front' rest i 0 in
+    let same : get_or file (length front' + i) 0 ≡ get_or rest i 0 =
+    ap (λ t. get_or t (length front' + i) 0) e ∙ get_or-append-add front' rest i 0 in
     omega (arith, same, bytes (length front' + i))
 
-module _ (file : List ℕ) (stage : Stage) (rest : List ℕ) (at : ℕ) (reading : Reading file stage rest at) where
-  pub reading_more : Bytes file → field_fault stage rest at ≡ None → Reading file (stage_next stage rest) (drop (passed stage rest) rest) (at + passed stage rest)
+module _ (file : List ℕ) (stage : Stage) (rest : List ℕ) (at : ℕ)
+    (reading : Reading file stage rest at) where
+  pub reading_more : Bytes file → field_fault stage rest at ≡ None
+      → Reading file (stage_next stage rest) (drop (record_length stage rest) rest)
+      (at + record_length stage rest)
   reading_more bytes e =
-      let grown = grow stage reading.pairs rest at (bytes_left file (front stage reading.pairs) rest reading.splits bytes) reading.sound e in
-      let whole : length (front stage reading.pairs) + length rest ≡ length (front (stage_next stage rest) grown.0) + length (drop (passed stage rest) rest) =
-      sym (length-append (front stage reading.pairs) rest) ∙ ap length grown.1 ∙ length-append (front (stage_next stage rest) grown.0) (drop (passed stage rest) rest) in
+      let grown =
+      grow stage reading.pairs rest
+      at (bytes_left file (front stage reading.pairs) rest reading.splits bytes) reading.sound e
+      in
+      let whole : length (front stage reading.pairs) + length rest ≡ length
+      (front (stage_next stage rest) grown.0) + length (drop (record_length stage rest) rest) =
+      sym (length-append (front stage reading.pairs) rest) ∙ ap length grown.1
+      ∙ length-append (front (stage_next stage rest) grown.0) (drop (record_length stage rest) rest)
+      in
       record {
         pairs = grown.0;
         splits = reading.splits ∙ grown.1;
         sound = grown.2;
-        placed = omega (arith, whole, length-drop (passed stage rest) rest, passed-fits stage rest at e, reading.placed);
+        placed =
+            omega (
+              arith,
+              whole,
+              length-drop (record_length stage rest) rest,
+              passed-fits stage rest at e,
+              reading.placed,
+            );
       }
 
   pub reading_fault : (f : Fault) → field_fault stage rest at ≡ Some f → FirstFault file f
@@ -68,30 +90,46 @@ module _ (file : List ℕ) (stage : Stage) (rest : List ℕ) (at : ℕ) (reading
   }
 
 -- where no record is left, the whole file was read
-pub reading_done : (file : List ℕ) (stage : Stage) (rest : List ℕ) (at size : ℕ) → Reading file stage rest at → Known stage size → field_fault stage rest at ≡ None → record_next stage rest ≡ None
+pub reading_done : (file : List ℕ) (stage : Stage) (rest : List ℕ) (at size : ℕ)
+    → Reading file stage rest at → Known stage size → field_fault stage rest at ≡ None
+    → record_next stage rest ≡ None
     → (order : Order) × States file order × (size ≡ order.size)
-reading_done file Start rest at size h known e none = let z : ◌≡◌ {A = ℕ} 0 1 = cc in absurd (omega arith)
-reading_done file (Sized n) rest at size h known e none = let z : ◌≡◌ {A = ℕ} 0 1 = cc in absurd (omega arith)
+reading_done file Start rest at size h known e none = let z : ◌≡◌ {A = ℕ} 0 1 = cc in
+    absurd (omega arith)
+reading_done file (Sized n) rest at size h known e none = let z : ◌≡◌ {A = ℕ} 0 1 = cc in
+    absurd (omega arith)
 reading_done file (Ended n) rest at size h known e none =
-    let empty : rest ≡ [] = nil_from_length rest (eqb-true _ _ (required (eqb (length rest) 0) _ None e).0) in (
+    let empty : rest ≡ [] =
+    nil_from_length rest (eqb-true _ _ (required (eqb (length rest) 0) _ None e).0) in (
       record { size = n; pairs = h.pairs },
-      record { is_file = h.splits ∙ ap (λ t. front (Ended n) h.pairs ++ t) empty ∙ append-nil _; sound = h.sound },
+      record {
+        is_file = h.splits ∙ ap (λ t. front (Ended n) h.pairs ++ t) empty ∙ append-nil _;
+        sound = h.sound;
+      },
       known,
     )
 
 -- a record leaves less behind it
-pub reading_falls : (stage : Stage) (rest : List ℕ) (at : ℕ) (next : Record) → field_fault stage rest at ≡ None → record_next stage rest ≡ Some next → length (drop (passed stage rest) rest) < length rest
-reading_falls Start rest at next e some = omega (arith, length-drop (passed Start rest) rest, passed-fits Start rest at e)
-reading_falls (Sized n) rest at next e some = omega (arith, length-drop (passed (Sized n) rest) rest, passed-fits (Sized n) rest at e)
+pub reading_falls : (stage : Stage) (rest : List ℕ) (at : ℕ) (next : Record)
+    → field_fault stage rest at ≡ None → record_next stage rest ≡ Some next
+    → length (drop (record_length stage rest) rest) < length rest
+reading_falls Start rest at next e some =
+    omega (arith, length-drop (record_length Start rest) rest, passed-fits Start rest at e)
+reading_falls (Sized n) rest at next e some =
+    omega (arith, length-drop (record_length (Sized n) rest) rest, passed-fits (Sized n) rest at e)
 reading_falls (Ended n) rest at next e some = let z : ◌≡◌ {A = ℕ} 0 1 = cc in absurd (omega arith)
 
 -- the stage behind a record
-pub stage_is : (stage : Stage) (rest : List ℕ) (next : Record) → record_next stage rest ≡ Some next → stage_next stage rest ≡ stage_after stage next
-stage_is Start rest next e = let same : record_in (tag_of rest) (value_of rest) ≡ next = cc in ap (stage_after Start) same
-stage_is (Sized n) rest next e = let same : record_in (tag_of rest) (value_of rest) ≡ next = cc in ap (stage_after (Sized n)) same
+pub stage_is : (stage : Stage) (rest : List ℕ) (next : Record) → record_next stage rest ≡ Some next
+    → stage_next stage rest ≡ stage_after stage next
+stage_is Start rest next e = let same : record_in (tag_of rest) (value_of rest) ≡ next = cc in
+    ap (stage_after Start) same
+stage_is (Sized n) rest next e = let same : record_in (tag_of rest) (value_of rest) ≡ next = cc in
+    ap (stage_after (Sized n)) same
 stage_is (Ended n) rest next e = let z : ◌≡◌ {A = ℕ} 0 1 = cc in absurd (omega arith)
 
-pub known_still : (stage : Stage) (next : Record) (size : ℕ) → ((n : ℕ) → next ≡ Size n → ⊥) → Known stage size → Known (stage_after stage next) size
+pub known_still : (stage : Stage) (next : Record) (size : ℕ) → ((n : ℕ) → next ≡ Size n → ⊥)
+    → Known stage size → Known (stage_after stage next) size
 known_still stage (Size n) size other known = absurd (other n refl)
 known_still stage (Pair p) size other known = known
 known_still Start End size other known = known
@@ -101,22 +139,35 @@ known_still (Ended n) End size other known = known
 -- what a call of `next` on a record reader tells
 module _ (stage : Stage) (rest : List ℕ) (at : ℕ) (stage' : Stage) (rest' : List ℕ) (at' : ℕ)
     (stages : stage' ≡ after (field_fault stage rest at) stage (stage_next stage rest))
-    (passes : rest' ≡ after (field_fault stage rest at) rest (drop (passed stage rest) rest))
-    (moves : at' ≡ after (field_fault stage rest at) at (at + passed stage rest)) where
-  pub next_reads : (file : List ℕ) (o : Option Record) → Reading file stage rest at → Bytes file → Ok o ≡ answer (field_fault stage rest at) (record_next stage rest) → Reading file stage' rest' at'
+    (passes : rest' ≡ after (field_fault stage rest at) rest (drop (record_length stage rest) rest))
+    (moves : at' ≡ after (field_fault stage rest at) at (at + record_length stage rest)) where
+  pub next_reads : (file : List ℕ) (o : Option Record) → Reading file stage rest at → Bytes file
+      → Ok o ≡ answer (field_fault stage rest at) (record_next stage rest)
+      → Reading file stage' rest' at'
   next_reads file o reading bytes answers =
       let e = (from_ok (field_fault stage rest at) (record_next stage rest) o answers).0 in
-      let a : Reading file (stage_next stage rest) (drop (passed stage rest) rest) (at + passed stage rest) = reading_more file stage rest at reading bytes e in
-      let b : Reading file stage' (drop (passed stage rest) rest) (at + passed stage rest) = subst (λ (s : Stage). Reading file s (drop (passed stage rest) rest) (at + passed stage rest)) (renewed _ _ _ e ∙ sym stages) a in
-      let d : Reading file stage' rest' (at + passed stage rest) = subst (λ (r : List ℕ). Reading file stage' r (at + passed stage rest)) (renewed _ _ _ e ∙ sym passes) b in
+      let a : Reading file (stage_next stage rest) (drop (record_length stage rest) rest)
+      (at + record_length stage rest) = reading_more file stage rest at reading bytes e in
+      let b : Reading file stage' (drop (record_length stage rest) rest)
+      (at + record_length stage rest) =
+      subst (λ (s : Stage). Reading file s (drop (record_length stage rest) rest)
+      (at + record_length stage rest)) (renewed _ _ _ e ∙ sym stages) a in
+      let d : Reading file stage' rest' (at + record_length stage rest) =
+      subst (λ (r : List ℕ). Reading file stage' r (at + record_length stage rest))
+      (renewed _ _ _ e ∙ sym passes) b in
       subst (λ (k : ℕ). Reading file stage' rest' k) (renewed _ _ _ e ∙ sym moves) d
 
-  pub next_stage : (next : Record) → Ok (Some next) ≡ answer (field_fault stage rest at) (record_next stage rest) → stage' ≡ stage_after stage next
+  pub next_stage : (next : Record) → Ok (Some next) ≡ answer (field_fault stage rest at)
+      (record_next stage rest) → stage' ≡ stage_after stage next
   next_stage next answers =
-      let found = from_ok (field_fault stage rest at) (record_next stage rest) (Some next) answers in
+      let found = from_ok (field_fault stage rest at) (record_next stage rest) (Some next) answers
+      in
       stages ∙ sym (renewed _ _ _ found.0) ∙ stage_is stage rest next (sym found.1)
 
-  pub next_falls : (next : Record) → Ok (Some next) ≡ answer (field_fault stage rest at) (record_next stage rest) → length rest' < length rest
+  pub next_falls : (next : Record) → Ok (Some next) ≡ answer (field_fault stage rest at)
+      (record_next stage rest) → length rest' < length rest
   next_falls next answers =
-      let found = from_ok (field_fault stage rest at) (record_next stage rest) (Some next) answers in
-      subst (λ (r : List ℕ). length r < length rest) (renewed _ _ _ found.0 ∙ sym passes) (reading_falls stage rest at next found.0 (sym found.1))
+      let found = from_ok (field_fault stage rest at) (record_next stage rest) (Some next) answers
+      in
+      subst (λ (r : List ℕ). length r < length rest) (renewed _ _ _ found.0 ∙ sym passes)
+      (reading_falls stage rest at next found.0 (sym found.1))

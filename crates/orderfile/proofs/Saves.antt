@@ -1,28 +1,41 @@
--- What saving promises, once it is known whether it refuses and what it wrote; and why a saved file loads as the same sheet.
--- Idea: the file states an order, so loading shows in each cell what the pairs state. A pair of blocks that stands is named once, at its
--- cost, and one that is absent is not named, so that is what the cell held.
-use Rattle.std.proofs.Common.{◌≡◌, ℕ, ◌+◌, ◌*◌, ◌<◌, ◌≤◌, Bool, true, false, cond, not, ◌&&◌, eqb, ◌⊎◌, List, [], ◌∷◌, ◌++◌, length, take, drop, ℤ, pos, Some, None, Ok, Err, Result, sym, refl, ap, ◌∙◌, inl, inr, ⊎_elim, append_assoc, arith}
+-- What saving promises, once it is known whether it refuses and what it wrote; and why a saved file
+-- loads as the same sheet.
+-- Idea: the file states an order, so loading shows in each cell what the pairs state. A pair of
+-- blocks that stands is named once, at its cost, and one that is absent is not named, so that is
+-- what the cell held.
+use Rattle.std.proofs.Common.{◌≡◌, ℕ, ◌+◌, ◌*◌, ◌<◌, ◌≤◌, Bool, true, false, cond, not, ◌&&◌, eqb}
+use Rattle.std.proofs.Common.{◌⊎◌, List, [], ◌∷◌, ◌++◌, length, take, drop, ℤ, Some, None, Ok}
+use Rattle.std.proofs.Common.{Err, Result, sym, refl, ap, ◌∙◌, inl, inr, ⊎_elim, append_assoc}
+use Rattle.std.proofs.Common.{count_by, arith}
 use Rattle.std.proofs.ByRecursion.{All-weaker}
 use Rattle.std.proofs.lemmas.List.{length-append, take_at, drop-drop}
-use Rattle.std.proofs.lemmas.Bool.{cases_Bool, cond-true, cond-false, and_parts, eqb-true, lt-ltb, le-ltb}
+use Rattle.std.proofs.lemmas.Bool.{cases_Bool, cond-true, cond-false, and_parts, eqb-true, lt-ltb}
+use Rattle.std.proofs.lemmas.Bool.{le-ltb}
 use Rattle.std.specs.Option.{option_map}
 use Rattle.std.specs.List.{flat_map, AllByRecursion}
 use Rattle.cost.specs.declared.plain_kind.Plain.{Plain}
-use Rattle.grid.specs.Tables.{fitting, says_stands, byte_of, cell, standing_pairs}
+use Rattle.pairing.specs.Places.{places_of}
+use Rattle.tables.specs.PairTables.{have_places, says_stands, byte_of}
 use Rattle.sheet.specs.declared.fault.Cause.TheVariants.{TableLength, Inconsistent, ShortBuffer}
 use Rattle.sheet.specs.declared.fault.Fault.{Fault}
 use Rattle.sheet.specs.Refusals.{fault}
 use Rattle.sheet.proofs.Refused.{refused, accepted}
 use Rattle.orderfile.specs.declared.record.StatedPair.{StatedPair}
-use Rattle.orderfile.specs.Format.{Order, SoundPair, States, pair_field, end_field, size_field, file_of}
-use Rattle.orderfile.specs.Loading.{plain, or_else, stated}
+use Rattle.orderfile.specs.Format.{Order, SoundPair, States, pair_field, end_field, size_field}
+use Rattle.orderfile.specs.Format.{file_of}
+use Rattle.orderfile.specs.Loading.{plain, plain_cell, or_else, cost_stated}
 use Rattle.orderfile.proofs.Buffer.{put_behind}
-use Rattle.orderfile.proofs.Listed.{listed_count}
-use Rattle.orderfile.specs.Saving.{saved_length, plain_orderly, save_refusal, listed, times, Standing, Names, Written, Reloads, Saved}
+use Rattle.orderfile.proofs.Listed.{pairs_listed_count, times-cons}
+use Rattle.orderfile.specs.Saving.{saved_length, plain_in_order, save_refusal, pairs_listed, times}
+use Rattle.orderfile.specs.Saving.{Standing, Names, Written, Reloads, Saved}
 
--- what pairs that stand state of l and r: nothing where they name it never, else what the cell holds
-stated_is : (n : ℕ) (costs : List Plain) (standing : List ℕ) (l r : ℕ) (ps : List StatedPair) → AllByRecursion (Standing n costs standing) ps
-    → ((stated ps l r ≡ None) × (times l r ps ≡ 0)) ⊎ ((z : ℤ) × (stated ps l r ≡ Some z) × (cell (plain (pos 0)) n costs standing l r ≡ Some (plain z)))
+-- what pairs that stand state of l and r: nothing where they name it never, else what the cell
+-- holds
+stated_is : (n : ℕ) (costs : List Plain) (standing : List ℕ) (l r : ℕ) (ps : List StatedPair)
+    → AllByRecursion (Standing n costs standing) ps
+    → ((cost_stated ps l r ≡ None) × (times l r ps ≡ 0))
+    ⊎ ((z : ℤ) × (cost_stated ps l r ≡ Some z)
+    × (plain_cell n costs standing l r ≡ Some (plain z)))
 stated_is n costs standing l r [] s = inl (refl, refl)
 stated_is n costs standing l r (p ∷ ps) s =
     let here : Bool = eqb p.left l && eqb p.right r in
@@ -33,19 +46,27 @@ stated_is n costs standing l r (p ∷ ps) s =
     inr (
       p.cost,
       ap (λ o. or_else o (cond here (Some p.cost) None)) none.0 ∙ cond-true here _ _ yes',
-      ap (λ k. cell (plain (pos 0)) n costs standing k r) (sym (eqb-true _ _ both.0)) ∙ ap (cell (plain (pos 0)) n costs standing p.left) (sym (eqb-true _ _ both.1)) ∙ s.0.stands,
+      ap (λ k. plain_cell n costs standing k r) (sym (eqb-true _ _ both.0))
+          ∙ ap (plain_cell n costs standing p.left) (sym (eqb-true _ _ both.1))
+          ∙ s.0.stands,
     ))
-    (λ no'. inl (ap (λ o. or_else o (cond here (Some p.cost) None)) none.0 ∙ cond-false here _ _ no', ap (λ b. cond b 1 0 + times l r ps) no' ∙ omega (arith, none.1)))
+    (λ no'. inl (
+      ap (λ o. or_else o (cond here (Some p.cost) None)) none.0
+          ∙ cond-false here _ _ no',
+      times-cons l r p ps ∙ ap (λ b. cond b 1 0 + times l r ps) no' ∙ omega (arith, none.1),
+    ))
     (cases_Bool here))
     (λ some. inr (some.0, ap (λ o. or_else o (cond here (Some p.cost) None)) some.1, some.2))
     (stated_is n costs standing l r ps s.1)
 
-pub names_stated : (n : ℕ) (costs : List Plain) (standing : List ℕ) (pairs : List StatedPair) → Names n costs standing pairs → (l r : ℕ) → l < n → r < n
-    → option_map plain (stated pairs l r) ≡ cell (plain (pos 0)) n costs standing l r
+pub names_stated : (n : ℕ) (costs : List Plain) (standing : List ℕ) (pairs : List StatedPair)
+    → Names n costs standing pairs → (l r : ℕ) → l < n → r < n
+    → option_map plain (cost_stated pairs l r) ≡ plain_cell n costs standing l r
 names_stated n costs standing pairs names l r hl hr =
     ⊎_elim
     (λ none. ap (option_map plain) none.0 ∙ sym (⊎_elim
-    (λ yes'. let one : times l r pairs ≡ 1 = names.once l r hl hr ∙ cond-true _ _ _ yes' in absurd (omega (arith, none.1, one)))
+    (λ yes'. let one : times l r pairs ≡ 1 = names.once l r hl hr ∙ cond-true _ _ _ yes' in
+    absurd (omega (arith, none.1, one)))
     (λ no'. cond-false _ _ _ no')
     (cases_Bool (says_stands (byte_of n standing l r)))))
     (λ some. ap (option_map plain) some.1 ∙ sym some.2)
@@ -54,25 +75,42 @@ names_stated n costs standing pairs names l r hl hr =
 -- the length of the file of some pairs
 joined_length : (ps : List StatedPair) → length (flat_map pair_field ps) ≡ 13 * length ps
 joined_length [] = refl
-joined_length (p ∷ ps) = let rest : length (flat_map pair_field ps) ≡ 13 * length ps = joined_length ps in length-append (pair_field p) (flat_map pair_field ps) ∙ omega (arith, rest)
+joined_length (p ∷ ps) = let rest : length (flat_map pair_field ps) ≡ 13 * length ps =
+    joined_length ps in length-append (pair_field p) (flat_map pair_field ps) ∙ omega (arith, rest)
 
-pub file_length : (n : ℕ) (ps : List StatedPair) → length (file_of (record { size = n; pairs = ps })) ≡ 7 + 13 * length ps
+pub file_length : (n : ℕ) (ps : List StatedPair)
+    → length (file_of (record { size = n; pairs = ps })) ≡ 7 + 13 * length ps
 file_length n ps =
-    let tail : length (flat_map pair_field ps ++ end_field) ≡ length (flat_map pair_field ps) + 3 = length-append (flat_map pair_field ps) end_field in
-    length-append (size_field n) (flat_map pair_field ps ++ end_field) ∙ omega (arith, tail, joined_length ps)
+    let tail : length (flat_map pair_field ps ++ end_field) ≡ length (flat_map pair_field ps) + 3 =
+    length-append (flat_map pair_field ps) end_field in
+    length-append (size_field n) (flat_map pair_field ps ++ end_field)
+    ∙ omega (arith, tail, joined_length ps)
 
 module _ (n : ℕ) (some : 1 ≤ n) (few : n ≤ 64) (costs : List Plain) (standing out : List ℕ) where
-  reloads : (out' : List ℕ) → Written n costs standing out out' → Reloads n costs standing (take (saved_length standing) out')
+  reloads : (out' : List ℕ) → Written n costs standing out out' → Reloads n costs standing
+      (take (saved_length standing) out')
   reloads out' w costs₀ standing₀ r costs' standing' fit h =
       let order : Order = record { size = n; pairs = w.pairs } in
       let states : States (take (saved_length standing) out') order = record {
-        is_file = ap (take (saved_length standing)) w.file ∙ take_at (file_of order) (drop (saved_length standing) out) (saved_length standing) w.long;
-        sound = record { some = some; few = few; pairs_sound = All-weaker (Standing n costs standing) (SoundPair n) (λ p s. s.sound) w.pairs w.names.only };
+        is_file = ap (take (saved_length standing)) w.file ∙ take_at (file_of order)
+            (drop (saved_length standing) out) (saved_length standing) w.long;
+        sound = record {
+          some = some;
+          few = few;
+          pairs_sound =
+              All-weaker (Standing n costs standing) (SoundPair n) (λ p s. s.sound) w.pairs
+              w.names.only;
+        };
       } in
-      let accepts = h.loads order states fit in
-      (accepts.answers, λ l m hl hm. accepts.shows l m hl hm ∙ names_stated n costs standing w.pairs w.names l m hl hm)
+      let accepts = h.loads order states fit in (
+        accepts.answers,
+        λ l m hl hm. accepts.shows l m hl hm ∙ names_stated n costs standing w.pairs
+            w.names l m hl hm,
+      )
 
-  pub saved : (r : Result ℕ Fault) (out' : List ℕ) → save_refusal n costs standing (length out) ≡ None → r ≡ Ok (saved_length standing) → Written n costs standing out out' → Saved n costs standing out r out'
+  pub saved : (r : Result ℕ Fault) (out' : List ℕ) → save_refusal n costs standing
+      (length out) ≡ None → r ≡ Ok (saved_length standing) → Written n costs standing out out'
+      → Saved n costs standing out r out'
   saved r out' e er w = record {
     answers = er ∙ accepted _ _ e;
     stays = λ f s. let z : ◌≡◌ {A = ℕ} 0 1 = cc in absurd (omega arith);
@@ -80,7 +118,8 @@ module _ (n : ℕ) (some : 1 ≤ n) (few : n ≤ 64) (costs : List Plain) (stand
     reloads = λ _. reloads out' w;
   }
 
-  pub not_saved : (f : Fault) (r : Result ℕ Fault) (out' : List ℕ) → save_refusal n costs standing (length out) ≡ Some f → r ≡ Err f → out' ≡ out → Saved n costs standing out r out'
+  pub not_saved : (f : Fault) (r : Result ℕ Fault) (out' : List ℕ) → save_refusal n costs standing
+      (length out) ≡ Some f → r ≡ Err f → out' ≡ out → Saved n costs standing out r out'
   not_saved f r out' e er same = record {
     answers = er ∙ refused _ _ _ e;
     stays = λ g s. same;
@@ -90,28 +129,39 @@ module _ (n : ℕ) (some : 1 ≤ n) (few : n ≤ 64) (costs : List Plain) (stand
 
 -- when saving is refused
 module _ (n : ℕ) (costs : List Plain) (standing : List ℕ) (room : ℕ) where
-  pub save_misfits : fitting n (length costs) (length standing) ≡ false → save_refusal n costs standing room ≡ Some (fault TableLength 0)
+  pub save_misfits : have_places n (length costs) (length standing) ≡ false
+      → save_refusal n costs standing room ≡ Some (fault TableLength 0)
   unfolding save_refusal
   save_misfits wrong = cond-true _ _ _ (ap not wrong)
 
-  module _ (fit : fitting n (length costs) (length standing) ≡ true) where
-    pub save_disturbed : plain_orderly costs standing ≡ false → save_refusal n costs standing room ≡ Some (fault Inconsistent 0)
+  module _ (fit : have_places n (length costs) (length standing) ≡ true) where
+    pub save_disturbed : plain_in_order costs standing ≡ false
+        → save_refusal n costs standing room ≡ Some (fault Inconsistent 0)
     unfolding save_refusal
     save_disturbed e = cond-false _ _ _ (ap not fit) ∙ cond-true _ _ _ (ap not e)
 
-    pub save_short : plain_orderly costs standing ≡ true → room < saved_length standing → save_refusal n costs standing room ≡ Some (fault ShortBuffer 0)
+    pub save_short : plain_in_order costs standing ≡ true → room < saved_length standing
+        → save_refusal n costs standing room ≡ Some (fault ShortBuffer 0)
     unfolding save_refusal
-    save_short e h = cond-false _ _ _ (ap not fit) ∙ cond-false _ _ _ (ap not e) ∙ cond-true _ _ _ (lt-ltb room (saved_length standing) h)
+    save_short e h = cond-false _ _ _ (ap not fit) ∙ cond-false _ _ _ (ap not e)
+        ∙ cond-true _ _ _ (lt-ltb room (saved_length standing) h)
 
-    pub save_accepts : plain_orderly costs standing ≡ true → saved_length standing ≤ room → save_refusal n costs standing room ≡ None
+    pub save_accepts : plain_in_order costs standing ≡ true → saved_length standing ≤ room
+        → save_refusal n costs standing room ≡ None
     unfolding save_refusal
-    save_accepts e h = cond-false _ _ _ (ap not fit) ∙ cond-false _ _ _ (ap not e) ∙ cond-false _ _ _ (le-ltb room (saved_length standing) h)
+    save_accepts e h = cond-false _ _ _ (ap not fit) ∙ cond-false _ _ _ (ap not e)
+        ∙ cond-false _ _ _ (le-ltb room (saved_length standing) h)
 
 -- the bytes of the listed pairs, by their number
-pub listed-length : (n : ℕ) → 1 ≤ n → (costs : List Plain) (standing : List ℕ) → length standing ≡ n * n → 4 + length (flat_map pair_field (listed n costs standing 0 (n * n))) + 3 ≡ saved_length standing
-listed-length n some costs standing eb =
-    let count : length (listed n costs standing 0 (n * n)) ≡ standing_pairs standing = listed_count n some costs standing 0 (n * n) (omega arith) in
-    omega (arith, joined_length (listed n costs standing 0 (n * n)), count)
+pub pairs_listed-length : (n : ℕ) → 1 ≤ n → (costs : List Plain) (standing : List ℕ)
+    → length standing ≡ places_of n
+    → 4 + length (flat_map pair_field (pairs_listed n costs standing 0 (places_of n)))
+    + 3 ≡ saved_length standing
+pairs_listed-length n some costs standing eb =
+    let count : length (pairs_listed n costs standing 0 (places_of n)) ≡ count_by says_stands
+    standing =
+    pairs_listed_count n some costs standing 0 (places_of n) (omega arith) in
+    omega (arith, joined_length (pairs_listed n costs standing 0 (places_of n)), count)
 
 sum : (m : ℕ) → 4 + (m + 3) ≡ 4 + m + 3
 sum m = omega arith
@@ -121,12 +171,19 @@ sum' m = omega arith
 
 -- the three writes of a file: the size field, the pairs and the end field
 pub three_writes : (n : ℕ) (pairs out out₁ out₂ out₃ : List ℕ) (at : ℕ)
-    → out₁ ≡ size_field n ++ drop 4 out → at ≡ 4 + length pairs → out₂ ≡ (take 4 out₁ ++ pairs) ++ drop at out₁ → out₃ ≡ take at out₂ ++ (end_field ++ drop (at + 3) out₂)
+    → out₁ ≡ size_field n ++ drop 4 out → at ≡ 4 + length pairs → out₂ ≡ (take 4 out₁ ++ pairs)
+    ++ drop at out₁ → out₃ ≡ take at out₂ ++ (end_field ++ drop (at + 3) out₂)
     → out₃ ≡ (size_field n ++ (pairs ++ end_field)) ++ drop (4 + length pairs + 3) out
 three_writes n pairs out out₁ out₂ out₃ at e₁ place e₂ e₃ =
     let front : take 4 out₁ ≡ size_field n = ap (take 4) e₁ in
-    let long : length (take 4 out₁ ++ pairs) ≡ at = ap (λ t. length (t ++ pairs)) front ∙ length-append (size_field n) pairs ∙ sym place in
+    let long : length (take 4 out₁ ++ pairs) ≡ at = ap (λ t. length (t ++ pairs)) front
+    ∙ length-append (size_field n) pairs ∙ sym place in
     let rest : drop (at + 3) out₁ ≡ drop (4 + length pairs + 3) out =
-    ap (drop (at + 3)) e₁ ∙ ap (λ k. drop k (size_field n ++ drop 4 out)) (ap (λ k. k + 3) place ∙ sum' (length pairs)) ∙ sym (drop-drop (length pairs + 3) 4 (size_field n ++ drop 4 out)) ∙ drop-drop (length pairs + 3) 4 out ∙ ap (λ k. drop k out) (sum (length pairs)) in
-    put_behind (take 4 out₁ ++ pairs) end_field out₁ out₂ out₃ at e₂ long e₃ ∙ ap (λ t. ((t ++ pairs) ++ end_field) ++ drop (at + 3) out₁) front
-    ∙ ap (λ t. ((size_field n ++ pairs) ++ end_field) ++ t) rest ∙ ap (λ t. t ++ drop (4 + length pairs + 3) out) (append_assoc (size_field n) pairs end_field)
+    ap (drop (at + 3)) e₁ ∙ ap (λ k. drop k (size_field n ++ drop 4 out))
+    (ap (λ k. k + 3) place ∙ sum' (length pairs))
+    ∙ sym (drop-drop (length pairs + 3) 4 (size_field n ++ drop 4 out))
+    ∙ drop-drop (length pairs + 3) 4 out ∙ ap (λ k. drop k out) (sum (length pairs)) in
+    put_behind (take 4 out₁ ++ pairs) end_field out₁ out₂ out₃ at e₂ long e₃
+    ∙ ap (λ t. ((t ++ pairs) ++ end_field) ++ drop (at + 3) out₁) front
+    ∙ ap (λ t. ((size_field n ++ pairs) ++ end_field) ++ t) rest
+    ∙ ap (λ t. t ++ drop (4 + length pairs + 3) out) (append_assoc (size_field n) pairs end_field)

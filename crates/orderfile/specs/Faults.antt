@@ -1,13 +1,20 @@
 -- Why a file is refused: the first field that has a fault, and the first fault that it has.
-use Rattle.std.specs.Prelude.{◌≡◌, ℕ, Bool, true, false, cond, ◌||◌, List, [], ◌∷◌, ◌++◌, length, Some, None, Option, ◌==◌, nat_le, nat_lt, slice_index, unsigned_abs}
+use Rattle.std.specs.Prelude.{◌≡◌, ℕ, Bool, true, false, not, ◌||◌, List, [], ◌∷◌, ◌++◌, length}
+use Rattle.std.specs.Prelude.{Some, None, Option, ◌==◌, nat_lt, if◌then◌else◌, slice_index}
+use Rattle.std.specs.Prelude.{unsigned_abs}
 use Rattle.std.specs.List.{flat_map}
-use Rattle.sheet.specs.Refusals.{fault, first_of, unlike}
+use Rattle.cost.specs.declared.TheConstants.{COST_LIMIT}
+use Rattle.blockset.specs.declared.TheConstants.{MOST_BLOCKS}
+use Rattle.sheet.specs.Pairs.{are_blocks}
+use Rattle.sheet.specs.Refusals.{fault, first_of, differ}
 use Rattle.sheet.specs.declared.fault.Fault.{Fault}
-use Rattle.sheet.specs.declared.fault.Cause.TheVariants.{Size, Block, CostRange, Overrun, Tag, FieldLength}
+use Rattle.sheet.specs.declared.fault.Cause.TheVariants.{Size, Block, CostRange, Overrun, Tag}
+use Rattle.sheet.specs.declared.fault.Cause.TheVariants.{FieldLength}
 use Rattle.orderfile.specs.declared.record.Stage.{Stage}
 use Rattle.orderfile.specs.declared.record.Stage.TheVariants.{Start, Sized, Ended}
 use Rattle.orderfile.specs.declared.record.StatedPair.{StatedPair}
-use Rattle.orderfile.specs.Format.{Sound, size_field, pair_field, file_of, tag_of, value_of, overruns, pair_in}
+use Rattle.orderfile.specs.Format.{Sound, size_field, pair_field, file_of, tag_of, value_of}
+use Rattle.orderfile.specs.Format.{overruns, pair_in}
 
 -- the field that begins `rest`, which stands at the offset `at`, handed out as a part of the file
 pub record Handed (rest : List ℕ) (at : ℕ) (tag : ℕ) (value : List ℕ) (place : ℕ) : Type 0 where
@@ -23,29 +30,36 @@ pub record RunsPast (rest : List ℕ) (at : ℕ) (f : Fault) : Type 0 where
 
 -- the checks of each kind of field behind its tag; a pair field is checked in a file of size n
 abbrev pub size_checks : List ℕ → ℕ → List (Bool × Fault)
-size_checks value at = (unlike (length value) 1, fault FieldLength at) ∷ (slice_index value 0 == 0 || nat_lt 64 (slice_index value 0), fault Size at) ∷ []
+size_checks value at = (differ (length value) 1, fault FieldLength at)
+    ∷ (slice_index value 0 == 0 || nat_lt MOST_BLOCKS (slice_index value 0), fault Size at) ∷ []
 
 abbrev pub pair_checks : ℕ → List ℕ → ℕ → List (Bool × Fault)
 pair_checks n value at =
-    (unlike (length value) 10, fault FieldLength at)
-    ∷ (nat_le n (pair_in value).left || nat_le n (pair_in value).right, fault Block at)
-    ∷ (nat_lt 1000000000 (unsigned_abs (pair_in value).cost), fault CostRange at) ∷ []
+    (differ (length value) 10, fault FieldLength at)
+    ∷ (not (are_blocks n (pair_in value).left (pair_in value).right), fault Block at)
+    ∷ (nat_lt COST_LIMIT (unsigned_abs (pair_in value).cost), fault CostRange at) ∷ []
 
 abbrev pub end_checks : List ℕ → ℕ → List (Bool × Fault)
-end_checks value at = (unlike (length value) 0, fault FieldLength at) ∷ []
+end_checks value at = (differ (length value) 0, fault FieldLength at) ∷ []
 
--- the first fault of a whole field, by what came before it: a size comes first, then pairs, then the end
+-- the first fault of a whole field, by what came before it: a size comes first, then pairs, then
+-- the end
 abbrev pub record_fault : Stage → ℕ → List ℕ → ℕ → Option Fault
-record_fault Start tag value at = cond (tag == 1) (first_of (size_checks value at)) (Some (fault Tag at))
-record_fault (Sized n) tag value at = cond (tag == 2) (first_of (pair_checks n value at)) (cond (tag == 3) (first_of (end_checks value at)) (Some (fault Tag at)))
+record_fault Start tag value at =
+    (if tag == 1 then first_of (size_checks value at) else Some (fault Tag at))
+record_fault (Sized n) tag value at =
+    (if tag == 2 then first_of (pair_checks n value at) else
+    (if tag == 3 then first_of (end_checks value at) else Some (fault Tag at)))
 record_fault (Ended n) tag value at = Some (fault Tag at)
 
--- the first fault of the field that begins `rest`, which stands at the offset `at`: after the end any byte is one too many;
--- else a file that stops here has its next field run past its end
+-- the first fault of the field that begins `rest`, which stands at the offset `at`: after the end
+-- any byte is one too many; else a file that stops here has its next field run past its end
 abbrev pub field_fault : Stage → List ℕ → ℕ → Option Fault
-field_fault Start rest at = cond (overruns rest) (Some (fault Overrun at)) (record_fault Start (tag_of rest) (value_of rest) at)
-field_fault (Sized n) rest at = cond (overruns rest) (Some (fault Overrun at)) (record_fault (Sized n) (tag_of rest) (value_of rest) at)
-field_fault (Ended n) rest at = cond (length rest == 0) None (Some (fault Tag at))
+field_fault Start rest at = (if overruns rest then Some (fault Overrun at) else
+    record_fault Start (tag_of rest) (value_of rest) at)
+field_fault (Sized n) rest at = (if overruns rest then Some (fault Overrun at) else
+    record_fault (Sized n) (tag_of rest) (value_of rest) at)
+field_fault (Ended n) rest at = (if length rest == 0 then None else Some (fault Tag at))
 
 -- the bytes of a file up to a field: of the size and some pairs, or of all
 abbrev pub front : Stage → List StatedPair → List ℕ

@@ -1,14 +1,18 @@
 -- The order file format: the bytes of each field and of a whole file, and what a file states.
-use Rattle.std.specs.Prelude.{◌≡◌, ℕ, ◌+◌, ◌*◌, ◌/◌, ◌%◌, ◌<◌, ◌≤◌, Bool, ◌||◌, List, [], ◌∷◌, ◌++◌, length, take, drop, nat_lt, slice_index, unsigned_abs}
+use Rattle.std.specs.Prelude.{◌≡◌, ℕ, ◌+◌, ◌*◌, ◌/◌, ◌%◌, ◌<◌, ◌≤◌, Bool, ◌||◌, List, [], ◌∷◌, ◌++◌}
+use Rattle.std.specs.Prelude.{length, take, drop, nat_lt, slice_index, unsigned_abs}
 use Rattle.std.specs.Int.{w64}
 use Rattle.std.proofs.Common.{of_z, to_z}
 use Rattle.std.specs.List.{flat_map, AllByRecursion}
+use Rattle.cost.specs.declared.TheConstants.{COST_LIMIT}
+use Rattle.blockset.specs.declared.TheConstants.{MOST_BLOCKS}
 use Rattle.orderfile.specs.declared.record.StatedPair.{StatedPair}
 
 -- a number below 2^64 as eight bytes, the high byte first
 abbrev pub eight_bytes : ℕ → List ℕ
 eight_bytes x =
-    (x / 72057594037927936 % 256) ∷ (x / 281474976710656 % 256) ∷ (x / 1099511627776 % 256) ∷ (x / 4294967296 % 256)
+    (x / 72057594037927936 % 256) ∷ (x / 281474976710656 % 256) ∷ (x / 1099511627776 % 256)
+    ∷ (x / 4294967296 % 256)
     ∷ (x / 16777216 % 256) ∷ (x / 65536 % 256) ∷ (x / 256 % 256) ∷ (x % 256) ∷ []
 
 -- the three kinds of field: a tag, a length of two bytes with the high byte first, a value.
@@ -35,11 +39,11 @@ file_of order = size_field order.size ++ (flat_map pair_field order.pairs ++ end
 pub record SoundPair (n : ℕ) (p : StatedPair) : Type 0 where
   pub left_below : p.left < n
   pub right_below : p.right < n
-  pub cost_within : unsigned_abs p.cost ≤ 1000000000
+  pub cost_within : unsigned_abs p.cost ≤ COST_LIMIT
 
 pub record Sound (order : Order) : Type 0 where
   pub some : 1 ≤ order.size
-  pub few : order.size ≤ 64
+  pub few : order.size ≤ MOST_BLOCKS
   pub pairs_sound : AllByRecursion (SoundPair order.size) order.pairs
 
 -- a file states an order if it is the order's file, and a sheet takes all of it
@@ -69,6 +73,8 @@ abbrev pub pair_in : List ℕ → StatedPair
 pair_in value = record {
   left = slice_index value 0;
   right = slice_index value 1;
-  cost = to_z w64 (slice_index value 2 * 72057594037927936 + slice_index value 3 * 281474976710656 + slice_index value 4 * 1099511627776 + slice_index value 5 * 4294967296
-      + slice_index value 6 * 16777216 + slice_index value 7 * 65536 + slice_index value 8 * 256 + slice_index value 9);
+  cost = to_z w64 (slice_index value 2 * 72057594037927936 + slice_index value 3 * 281474976710656 +
+      slice_index value 4 * 1099511627776 + slice_index value 5 * 4294967296
+      + slice_index value 6 * 16777216 + slice_index value 7 * 65536 + slice_index value 8 * 256 +
+      slice_index value 9);
 }

@@ -22,6 +22,7 @@ fields_of reader = reader.fields
 abbrev pub stage_of : RecordReader → Stage
 stage_of reader = reader.stage
 
-abbrev pub Steps : RecordReader → Result (Option Record) Fault → RecordReader → Type 0
-Steps before answer after =
-    StepsFrom (stage_of before) (rest_of (fields_of before)) (offset_of (fields_of before)) answer (stage_of after) (rest_of (fields_of after)) (offset_of (fields_of after))
+abbrev pub ReadsOn : RecordReader → Result (Option Record) Fault → RecordReader → Type 0
+ReadsOn before answer after =
+    StepsFrom (stage_of before) (rest_of (fields_of before)) (offset_of (fields_of before)) answer
+    (stage_of after) (rest_of (fields_of after)) (offset_of (fields_of after))

@@ -1,5 +1,6 @@
 -- What a field without a fault states, and how far the file is read behind it.
-use Rattle.std.specs.Prelude.{◌≡◌, ℕ, ◌+◌, cond, List, [], ◌∷◌, drop, Some, None, Option, Result, ◌==◌, slice_index}
+use Rattle.std.specs.Prelude.{◌≡◌, ℕ, ◌+◌, List, [], ◌∷◌, drop, Some, None, Option, Result}
+use Rattle.std.specs.Prelude.{◌==◌, if◌then◌else◌, slice_index}
 use Rattle.sheet.specs.Refusals.{answer, after}
 use Rattle.sheet.specs.declared.fault.Fault.{Fault}
 use Rattle.orderfile.specs.declared.record.Record.{Record}
@@ -15,7 +16,8 @@ size_in value = slice_index value 0
 
 -- what a field with this tag and value states
 abbrev pub record_in : ℕ → List ℕ → Record
-record_in tag value = cond (tag == 1) (Size (size_in value)) (cond (tag == 2) (Pair (pair_in value)) End)
+record_in tag value = (if tag == 1 then Size (size_in value) else
+    (if tag == 2 then Pair (pair_in value) else End))
 
 -- the pairs that a record states
 abbrev pub pairs_stated : Record → List StatedPair
@@ -44,15 +46,16 @@ stage_next (Sized n) rest = stage_after (Sized n) (record_in (tag_of rest) (valu
 stage_next (Ended n) rest = Ended n
 
 -- how many bytes the next record takes up
-abbrev pub passed : Stage → List ℕ → ℕ
-passed Start rest = extent rest
-passed (Sized n) rest = extent rest
-passed (Ended n) rest = 0
+abbrev pub record_length : Stage → List ℕ → ℕ
+record_length Start rest = extent rest
+record_length (Sized n) rest = extent rest
+record_length (Ended n) rest = 0
 
--- one step of a record reader that stands at a stage, with `rest` left from the offset `at` on: it answers the fault of the next field and stays,
--- or else answers its record and stands behind it
-pub record StepsFrom (stage : Stage) (rest : List ℕ) (at : ℕ) (r : Result (Option Record) Fault) (stage' : Stage) (rest' : List ℕ) (at' : ℕ) : Type 0 where
+-- one step of a record reader that stands at a stage, with `rest` left from the offset `at` on: it
+-- answers the fault of the next field and stays, or else answers its record and stands behind it
+pub record StepsFrom (stage : Stage) (rest : List ℕ) (at : ℕ) (r : Result (Option Record) Fault)
+    (stage' : Stage) (rest' : List ℕ) (at' : ℕ) : Type 0 where
   pub answers : r ≡ answer (field_fault stage rest at) (record_next stage rest)
   pub stages : stage' ≡ after (field_fault stage rest at) stage (stage_next stage rest)
-  pub passes : rest' ≡ after (field_fault stage rest at) rest (drop (passed stage rest) rest)
-  pub moves : at' ≡ after (field_fault stage rest at) at (at + passed stage rest)
+  pub passes : rest' ≡ after (field_fault stage rest at) rest (drop (record_length stage rest) rest)
+  pub moves : at' ≡ after (field_fault stage rest at) at (at + record_length stage rest)

@@ -1,44 +1,50 @@
 -- What `save` answers, and what it leaves in the buffer, at every input.
-use Rattle.std.specs.Prelude.{◌≡◌, ℕ, zero, suc, ◌+◌, ◌*◌, ◌/◌, ◌%◌, ◌<◌, Bool, cond, not, ◌&&◌, List, [], ◌∷◌, ◌++◌, length, take, drop, pos, Some, None, Ok, Option, Result, ◌==◌, nat_lt, slice_index, slice_index_or}
+use Rattle.std.specs.Prelude.{◌≡◌, ℕ, zero, suc, ◌+◌, ◌*◌, ◌/◌, ◌%◌, ◌<◌, Bool, not}
+use Rattle.std.specs.Prelude.{List, [], ◌∷◌, ◌++◌, length, take, drop, pos, Some, None, Ok, Option}
+use Rattle.std.specs.Prelude.{Result, nat_lt, count_by, if◌then◌else◌, slice_index}
+use Rattle.std.specs.Prelude.{slice_index_or}
 use Rattle.std.specs.List.{AllByRecursion}
-use Rattle.cost.specs.Columns.{railed}
+use Rattle.cost.specs.Columns.{rail_of}
 use Rattle.cost.specs.declared.plain_kind.Plain.{Plain}
-use Rattle.grid.specs.Tables.{fitting, says_stands, byte_of, cell, orderly, standing_pairs}
+use Rattle.tables.specs.PairTables.{HavePlaces, have_places, says_stands, byte_of}
+use Rattle.tables.specs.PairTables.{in_order}
+use Rattle.sheet.specs.Size.{Sheet, sheet_of}
 use Rattle.sheet.specs.Refusals.{fault, first_of, answer}
 use Rattle.sheet.specs.declared.fault.Cause.TheVariants.{TableLength, Inconsistent, ShortBuffer}
 use Rattle.sheet.specs.declared.fault.Fault.{Fault}
 use Rattle.orderfile.specs.declared.record.StatedPair.{StatedPair}
 use Rattle.orderfile.specs.Format.{SoundPair, file_of}
-use Rattle.orderfile.specs.Loading.{plain, Fitting, Loaded}
+use Rattle.orderfile.specs.Loading.{plain, plain_cell, names_blocks, Loaded}
 
 -- the length of a saved file: a size field, a field for each standing pair, an end field
 abbrev pub saved_length : List ℕ → ℕ
-saved_length standing = 7 + 13 * standing_pairs standing
+saved_length standing = 7 + 13 * count_by says_stands standing
 
 -- the tables are in order: no byte is above 1, and each standing cost is within 10^9
-abbrev pub plain_orderly : List Plain → List ℕ → Bool
-plain_orderly costs standing = orderly (λ p. railed p.0 ∷ []) costs standing
+abbrev pub plain_in_order : List Plain → List ℕ → Bool
+plain_in_order costs standing = in_order (λ p. rail_of p.0 ∷ []) costs standing
 
 -- room is the length of the buffer
 unfoldable pub save_refusal : ℕ → List Plain → List ℕ → ℕ → Option Fault
 save_refusal n costs standing room = first_of (
-    (not (fitting n (length costs) (length standing)), fault TableLength 0) ∷
-    (not (plain_orderly costs standing), fault Inconsistent 0) ∷
+    (not (have_places n (length costs) (length standing)), fault TableLength 0) ∷
+    (not (plain_in_order costs standing), fault Inconsistent 0) ∷
     (nat_lt room (saved_length standing), fault ShortBuffer 0) ∷ [])
 
 -- how often pairs name left block l with right block r
 abbrev pub times : ℕ → ℕ → List StatedPair → ℕ
-times l r [] = 0
-times l r (p ∷ ps) = cond (p.left == l && p.right == r) 1 0 + times l r ps
+times l r pairs = count_by (names_blocks l r) pairs
 
 -- a pair that stands in the tables at this cost
 pub record Standing (n : ℕ) (costs : List Plain) (standing : List ℕ) (p : StatedPair) : Type 0 where
   pub sound : SoundPair n p
-  pub stands : cell (plain (pos 0)) n costs standing p.left p.right ≡ Some (plain p.cost)
+  pub stands : plain_cell n costs standing p.left p.right ≡ Some (plain p.cost)
 
 -- the pairs are the standing ones, each named once and with its cost; their order is free
-pub record Names (n : ℕ) (costs : List Plain) (standing : List ℕ) (pairs : List StatedPair) : Type 0 where
-  pub once : (l r : ℕ) → l < n → r < n → times l r pairs ≡ cond (says_stands (byte_of n standing l r)) 1 0
+pub record Names (n : ℕ) (costs : List Plain) (standing : List ℕ)
+    (pairs : List StatedPair) : Type 0 where
+  pub once : (l r : ℕ) → l < n → r < n → times l r pairs
+      ≡ (if says_stands (byte_of n standing l r) then 1 else 0)
   pub only : AllByRecursion (Standing n costs standing) pairs
 
 -- the buffer begins with the file of such pairs, and is as it was behind it
@@ -48,23 +54,34 @@ pub record Written (n : ℕ) (costs : List Plain) (standing out out' : List ℕ)
   pub long : length (file_of (record { size = n; pairs = pairs })) ≡ saved_length standing
   pub file : out' ≡ file_of (record { size = n; pairs = pairs }) ++ drop (saved_length standing) out
 
--- whatever tables of the right lengths the file is loaded into, the sheet there is the same one: its size, its standing pairs and their costs
+-- whatever tables of the right lengths the file is loaded into, the sheet there is the same one:
+-- its size, its standing pairs and their costs
 abbrev pub Reloads : ℕ → List Plain → List ℕ → List ℕ → Type 0
 Reloads n costs standing file =
-    (costs₀ : List Plain) (standing₀ : List ℕ) (r : Result ℕ Fault) (costs' : List Plain) (standing' : List ℕ)
-    → Fitting n costs₀ standing₀ → Loaded file costs₀ standing₀ r costs' standing'
-    → (r ≡ Ok n) × ((l r : ℕ) → l < n → r < n → cell (plain (pos 0)) n costs' standing' l r ≡ cell (plain (pos 0)) n costs standing l r)
+    (costs₀ : List Plain) (standing₀ : List ℕ) (r : Result Sheet Fault) (costs' : List Plain)
+    (standing' : List ℕ)
+    → HavePlaces n (length costs₀) (length standing₀)
+    → Loaded file costs₀ standing₀ r costs' standing'
+    → (r ≡ Ok (sheet_of n))
+    × ((l r : ℕ) → l < n → r < n
+    → plain_cell n costs' standing' l r ≡ plain_cell n costs standing l r)
 
-pub record Saved (n : ℕ) (costs : List Plain) (standing out : List ℕ) (r : Result ℕ Fault) (out' : List ℕ) : Type 0 where
+pub record Saved (n : ℕ) (costs : List Plain) (standing out : List ℕ) (r : Result ℕ Fault)
+    (out' : List ℕ) : Type 0 where
   pub answers : r ≡ answer (save_refusal n costs standing (length out)) (saved_length standing)
   pub stays : (f : Fault) → save_refusal n costs standing (length out) ≡ Some f → out' ≡ out
   pub writes : save_refusal n costs standing (length out) ≡ None → Written n costs standing out out'
-  pub reloads : save_refusal n costs standing (length out) ≡ None → Reloads n costs standing (take (saved_length standing) out')
+  pub reloads : save_refusal n costs standing (length out) ≡ None
+      → Reloads n costs standing
+      (take (saved_length standing) out')
 
 -- how the pairs come to stand in the file: those of m places from place k on, one after another
 abbrev pub pair_at : ℕ → List Plain → ℕ → StatedPair
-pair_at n costs k = record { left = k / n; right = k % n; cost = (slice_index_or costs k (plain (pos 0))).0 }
+pair_at n costs k =
+    record { left = k / n; right = k % n; cost = (slice_index_or costs k (plain (pos 0))).0 }
 
-abbrev pub listed : ℕ → List Plain → List ℕ → ℕ → ℕ → List StatedPair
-listed n costs standing k zero = []
-listed n costs standing k (suc m) = cond (says_stands (slice_index standing k)) (pair_at n costs k ∷ listed n costs standing (k + 1) m) (listed n costs standing (k + 1) m)
+abbrev pub pairs_listed : ℕ → List Plain → List ℕ → ℕ → ℕ → List StatedPair
+pairs_listed n costs standing k zero = []
+pairs_listed n costs standing k (suc m) = (if says_stands (slice_index standing k)
+    then pair_at n costs k ∷ pairs_listed n costs standing (k + 1) m
+    else pairs_listed n costs standing (k + 1) m)

@@ -1,6 +1,7 @@
 //! Fields: a file is cut into tagged parts, with no regard to what they state.
 
-ghost use Rattle.std.specs.Prelude.{◌≡◌, ◌+◌, ◌^◌, ◌<◌, length, drop, if◌then◌else◌, MatchResult, ◌==◌};
+ghost use Rattle.std.specs.Prelude.{◌≡◌, ◌+◌, ◌^◌, ◌<◌, length, drop, if◌then◌else◌, MatchResult};
+ghost use Rattle.std.specs.Prelude.{◌==◌};
 ghost use Rattle.orderfile.specs.Faults.{Handed, RunsPast};
 ghost use Rattle.orderfile.specs.Format.{overruns, extent};
 
@@ -51,9 +52,13 @@ impl<'a> FieldReader<'a> {
     /// Hands out the next field and moves behind it; refuses a field that runs past the file, and
     /// then stays before it.
     pub fn next(&mut self) -> Result<Field<'a>, Fault>
-        ensures hands { MatchResult result (λ field. Handed (rest_of self.old) (offset_of self.old) field.tag field.value.now field.place) (RunsPast (rest_of self.old) (offset_of self.old)) }
-        ensures passes { rest_of self.new ≡ (if overruns (rest_of self.old) then rest_of self.old else drop (extent (rest_of self.old)) (rest_of self.old)) }
-        ensures moves { offset_of self.new ≡ (if overruns (rest_of self.old) then offset_of self.old else offset_of self.old + extent (rest_of self.old)) }
+        ensures hands { MatchResult result
+            (λ field. Handed (rest_of self.old) (offset_of self.old) field.tag field.value.now
+            field.place) (RunsPast (rest_of self.old) (offset_of self.old)) }
+        ensures passes { let rest = rest_of self.old in
+            rest_of self.new ≡ (if overruns rest then rest else drop (extent rest) rest) }
+        ensures moves { let rest = rest_of self.old in let at = offset_of self.old in
+            offset_of self.new ≡ (if overruns rest then at else at + extent rest) }
     {
         let rest = self.rest;
         if rest.len() < 3 {

@@ -1,10 +1,12 @@
 //! Loading: an order file is read whole, and then entered into the caller's tables.
 
-ghost use Rattle.std.specs.Prelude.{◌≡◌, Ok as Done};
+ghost use Rattle.std.specs.Prelude.{◌≡◌, length, Ok as Done};
 ghost use Rattle.std.specs.List.{AllByRecursion};
+ghost use Rattle.tables.specs.PairTables.{HavePlaces};
+ghost use Rattle.sheet.specs.Size.{size_of};
 ghost use Rattle.orderfile.specs.Format.{Order, States, SoundPair};
 ghost use Rattle.orderfile.specs.Records.{pairs_stated};
-ghost use Rattle.orderfile.specs.Loading.{Checked, Fitting, costs_after, standing_after, Loaded};
+ghost use Rattle.orderfile.specs.Loading.{Checked, costs_after, standing_after, Loaded};
 
 use crate::record::Record;
 use crate::record_reader::RecordReader;
@@ -47,10 +49,12 @@ fn enter_all(
     costs: &mut [Plain],
     standing: &mut [u8],
 ) -> Result<(), Fault>
-    requires stated { (order : Order) × States file.now order × (order.size ≡ sheet.now) }
-    requires fitting { Fitting sheet.now costs.old standing.old }
+    requires stated { (order : Order) × States file.now order × (order.size ≡ size_of sheet.now) }
+    requires places { HavePlaces (size_of sheet.now) (length costs.old) (length standing.old) }
     ensures answers { result ≡ Done tt }
-    ensures enters { (order : Order) → States file.now order → (costs.new ≡ costs_after order.size order.pairs costs.old) × (standing.new ≡ standing_after order.size order.pairs standing.old) }
+    ensures enters { (order : Order) → States file.now order
+        → (costs.new ≡ costs_after order.size order.pairs costs.old)
+        × (standing.new ≡ standing_after order.size order.pairs standing.old) }
 {
     let mut records = RecordReader::new(file);
     while let Some(record) = records.next()? {
@@ -66,11 +70,12 @@ fn enter(
     standing: &mut [u8],
     stated: Record,
 ) -> Result<(), Fault>
-    requires fitting { Fitting sheet.now costs.old standing.old }
-    requires sound { AllByRecursion (SoundPair sheet.now) (pairs_stated stated) }
+    requires places { HavePlaces (size_of sheet.now) (length costs.old) (length standing.old) }
+    requires sound { AllByRecursion (SoundPair (size_of sheet.now)) (pairs_stated stated) }
     ensures answers { result ≡ Done tt }
-    ensures stores { costs.new ≡ costs_after sheet.now (pairs_stated stated) costs.old }
-    ensures raises { standing.new ≡ standing_after sheet.now (pairs_stated stated) standing.old }
+    ensures stores { costs.new ≡ costs_after (size_of sheet.now) (pairs_stated stated) costs.old }
+    ensures raises { standing.new ≡ standing_after (size_of sheet.now) (pairs_stated stated)
+        standing.old }
 {
     let Record::Pair(pair) = stated else {
         return Ok(());

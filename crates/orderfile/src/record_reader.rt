@@ -5,14 +5,14 @@ ghost use Rattle.sheet.specs.Refusals.{first_of, answer};
 ghost use Rattle.orderfile.specs.Faults.{size_checks, pair_checks, end_checks, record_fault};
 ghost use Rattle.orderfile.specs.Format.{pair_in};
 ghost use Rattle.orderfile.specs.Records.{size_in, record_in, stage_after};
-ghost use Rattle.orderfile.specs.Readers.{rest_of, offset_of, fields_of, stage_of, Steps};
+ghost use Rattle.orderfile.specs.Readers.{rest_of, offset_of, fields_of, stage_of, ReadsOn};
 ghost use Rattle.orderfile.specs.declared.record.Record.TheVariants.{End as EndRecord};
 ghost use Rattle.orderfile.specs.declared.record.Stage.TheVariants.{Start as AtStart};
 
 use crate::field::{Field, FieldReader};
 use crate::record::{Record, Stage, StatedPair};
-use grid::{COST_LIMIT, MOST_BLOCKS};
 use sheet::fault::{Cause, Fault};
+use tables::{COST_LIMIT, MOST_BLOCKS};
 
 /// Moves over the records of a file.
 #[derive(Clone, Copy)]
@@ -36,7 +36,7 @@ impl<'a> RecordReader<'a> {
 
     /// The next record, or none where the file is at its end; a fault leaves the reader before it.
     pub fn next(&mut self) -> Result<Option<Record>, Fault>
-        ensures { Steps self.old result self.new }
+        ensures { ReadsOn self.old result self.new }
     {
         if let Stage::Ended(_) = self.stage {
             return if self.fields.is_done() {
@@ -66,7 +66,9 @@ fn followed(stage: Stage, by: Record) -> Stage
 
 // What a field states where this stage is reached, or its first fault.
 fn interpret(stage: Stage, field: Field<'_>) -> Result<Record, Fault>
-    ensures { result ≡ answer (record_fault stage field.entry.tag field.entry.value.now field.entry.place) (record_in field.entry.tag field.entry.value.now) }
+    ensures { result ≡ answer
+        (record_fault stage field.entry.tag field.entry.value.now field.entry.place)
+        (record_in field.entry.tag field.entry.value.now) }
 {
     match (stage, field.tag) {
         (Stage::Start, 1) => Ok(Record::Size(size(field)?)),
@@ -78,7 +80,8 @@ fn interpret(stage: Stage, field: Field<'_>) -> Result<Record, Fault>
 
 // The size that a size field states.
 fn size(field: Field<'_>) -> Result<u8, Fault>
-    ensures { result ≡ answer (first_of (size_checks field.entry.value.now field.entry.place)) (size_in field.entry.value.now) }
+    ensures { result ≡ answer (first_of (size_checks field.entry.value.now field.entry.place))
+        (size_in field.entry.value.now) }
 {
     if field.value.len() != 1 {
         return Err(Cause::FieldLength.at(field.place));
@@ -92,7 +95,8 @@ fn size(field: Field<'_>) -> Result<u8, Fault>
 
 // The pair that a pair field states in a file of size n.
 fn pair(n: u8, field: Field<'_>) -> Result<StatedPair, Fault>
-    ensures { result ≡ answer (first_of (pair_checks n field.entry.value.now field.entry.place)) (pair_in field.entry.value.now) }
+    ensures { result ≡ answer (first_of (pair_checks n field.entry.value.now field.entry.place))
+        (pair_in field.entry.value.now) }
 {
     if field.value.len() != 10 {
         return Err(Cause::FieldLength.at(field.place));
@@ -124,7 +128,8 @@ fn stated_pair(value: &[u8]) -> StatedPair
 
 // The end, which has no value.
 fn end(field: Field<'_>) -> Result<Record, Fault>
-    ensures { result ≡ answer (first_of (end_checks field.entry.value.now field.entry.place)) EndRecord }
+    ensures { result ≡ answer (first_of (end_checks field.entry.value.now field.entry.place))
+        EndRecord }
 {
     if field.value.len() != 0 {
         return Err(Cause::FieldLength.at(field.place));

@@ -1,15 +1,19 @@
 //! Saving: a sheet of plain costs as an order file in the caller's buffer.
 
-ghost use Rattle.std.specs.Prelude.{◌≡◌, ◌+◌, ◌*◌, ◌<◌, ◌≤◌, ◌++◌, length, take, drop};
+ghost use Rattle.std.specs.Prelude.{◌≡◌, ◌+◌, ◌<◌, ◌≤◌, ◌++◌, length, take, drop};
 ghost use Rattle.std.specs.List.{flat_map};
+ghost use Rattle.blockset.specs.declared.TheConstants.{MOST_BLOCKS};
+ghost use Rattle.pairing.specs.Places.{places_of};
+ghost use Rattle.tables.specs.PairTables.{HavePlaces};
+ghost use Rattle.sheet.specs.Size.{size_of};
 ghost use Rattle.orderfile.specs.Format.{pair_field, file_of};
-ghost use Rattle.orderfile.specs.Saving.{saved_length, pair_at, listed, Saved};
+ghost use Rattle.orderfile.specs.Saving.{saved_length, pair_at, pairs_listed, Saved};
 
 use crate::record::StatedPair;
 use cost::Plain;
-use grid::{fits, in_order, standing_pairs, stands};
 use sheet::fault::{Cause, Fault};
 use sheet::state::OpenSheet;
+use tables::{have_places, in_order, standing_pairs, stands};
 
 // The lengths of the three kinds of field.
 const SIZE_FIELD: usize = 4;
@@ -29,10 +33,10 @@ pub fn save(
     standing: &[u8],
     out: &mut [u8],
 ) -> Result<usize, Fault>
-    ensures { Saved sheet.now costs.now standing.now out.old result out.new }
+    ensures { Saved (size_of sheet.now) costs.now standing.now out.old result out.new }
 {
     let n = sheet.size();
-    if !fits(n, costs.len(), standing.len()) {
+    if !have_places(n, costs.len(), standing.len()) {
         return Err(Cause::TableLength.at(0));
     }
     if !in_order(costs, standing) {
@@ -49,11 +53,12 @@ pub fn save(
 // Writes the whole file.
 fn write_file(n: u16, costs: &[Plain], standing: &[u8], out: &mut [u8])
     requires some { 1 ≤ n }
-    requires few { n ≤ 64 }
-    requires costs_fit { length costs.now ≡ n * n }
-    requires standing_fits { length standing.now ≡ n * n }
+    requires few { n ≤ MOST_BLOCKS }
+    requires places { HavePlaces n (length costs.now) (length standing.now) }
     requires room { saved_length standing.now ≤ length out.old }
-    ensures { out.new ≡ file_of (record { size = n; pairs = listed n costs.now standing.now 0 (n * n) }) ++ drop (saved_length standing.now) out.old }
+    ensures { out.new ≡ file_of
+        (record { size = n; pairs = pairs_listed n costs.now standing.now 0 (places_of n) })
+        ++ drop (saved_length standing.now) out.old }
 {
     put(out, 0, &[1, 0, 1, n as u8]);
     let at = write_pairs(n, costs, standing, out);
@@ -64,12 +69,14 @@ fn write_file(n: u16, costs: &[Plain], standing: &[u8], out: &mut [u8])
 // offset behind them.
 fn write_pairs(n: u16, costs: &[Plain], standing: &[u8], out: &mut [u8]) -> usize
     requires some { 1 ≤ n }
-    requires few { n ≤ 64 }
-    requires costs_fit { length costs.now ≡ n * n }
-    requires standing_fits { length standing.now ≡ n * n }
-    requires room { 4 + length (flat_map pair_field (listed n costs.now standing.now 0 (n * n))) ≤ length out.old }
-    ensures behind { result ≡ 4 + length (flat_map pair_field (listed n costs.now standing.now 0 (n * n))) }
-    ensures writes { out.new ≡ (take 4 out.old ++ flat_map pair_field (listed n costs.now standing.now 0 (n * n))) ++ drop result out.old }
+    requires few { n ≤ MOST_BLOCKS }
+    requires places { HavePlaces n (length costs.now) (length standing.now) }
+    requires room { let pairs = pairs_listed n costs.now standing.now 0 (places_of n) in
+        4 + length (flat_map pair_field pairs) ≤ length out.old }
+    ensures behind { let pairs = pairs_listed n costs.now standing.now 0 (places_of n) in
+        result ≡ 4 + length (flat_map pair_field pairs) }
+    ensures writes { let pairs = pairs_listed n costs.now standing.now 0 (places_of n) in
+        out.new ≡ (take 4 out.old ++ flat_map pair_field pairs) ++ drop result out.old }
 {
     let mut at = SIZE_FIELD;
     for k in 0..standing.len() {
@@ -84,9 +91,9 @@ fn write_pairs(n: u16, costs: &[Plain], standing: &[u8], out: &mut [u8]) -> usiz
 // The pair at a place of the tables.
 fn pair_at(n: u16, costs: &[Plain], k: usize) -> StatedPair
     requires some { 1 ≤ n }
-    requires few { n ≤ 64 }
-    requires fitting { length costs.now ≡ n * n }
-    requires inside { k < n * n }
+    requires few { n ≤ MOST_BLOCKS }
+    requires places { length costs.now ≡ places_of n }
+    requires inside { k < places_of n }
     ensures { result ≡ pair_at n costs.now k }
 {
     StatedPair {

@@ -1,19 +1,24 @@
--- What is reached by steps from a start can be told by a test, and each reached number knows a shorter way back.
--- Idea: begin with the start, and while some step leaves the set take in where it leads, with a rank above all ranks so far. Each time one
--- number fewer is missing, so this ends, and then no step leaves the set. A number is reached from one of smaller rank, so following the
--- ranks down never comes round again: the way back is a simple path.
-use Rattle.std.proofs.Common.{◌≡◌, ℕ, zero, suc, ◌<◌, Bool, true, false, cond, not, ◌&&◌, ◌||◌, eqb, ◌⊎◌, sym, refl, ap, ◌∙◌, subst, inl, inr, arith}
+-- What is reached by steps from a start can be told by a test, and each reached number knows a
+-- shorter way back.
+-- Idea: begin with the start, and while some step leaves the set take in where it leads, with a
+-- rank above all ranks so far. Each time one number fewer is missing, so this ends, and then no
+-- step leaves the set. A number is reached from one of smaller rank, so following the ranks down
+-- never comes round again: the way back is a simple path.
+use Rattle.std.proofs.Common.{◌≡◌, ℕ, zero, suc, ◌<◌, Bool, true, false, cond, not, ◌&&◌, ◌||◌, eqb}
+use Rattle.std.proofs.Common.{◌⊎◌, sym, refl, ap, ◌∙◌, subst, inl, inr, arith}
 use Rattle.std.proofs.lemmas.Bool.Decides.{nat_tests}
-use Rattle.std.proofs.lemmas.Bool.{cases_eq, cases_Bool, or_cases, or_left, or_right, and_parts, and_from, eqb-true, eq-eqb, ne_eqb, both_ways, not-true, not_from_false, not_from_true, cond-true, cond-false}
+use Rattle.std.proofs.lemmas.Bool.{cases_eq, cases_Bool, or_cases, or_left, or_right, and_parts}
+use Rattle.std.proofs.lemmas.Bool.{and_from, eqb-true, eq-eqb, ne_eqb, both_ways, not-true}
+use Rattle.std.proofs.lemmas.Bool.{not_from_false, not_from_true, cond-true, cond-false}
 use Rattle.blockset.specs.Sets.{members}
 use Rattle.blockset.proofs.Members.{members_with}
-use Rattle.pairing.specs.Largest.{some_below}
-use Rattle.pairing.proofs.Members.{some_tells}
+use Rattle.pairing.proofs.Members.{some_below, some_tells}
 
 module _ (n : ℕ) (start : ℕ → Bool) (edge : ℕ → ℕ → Bool) where
   -- y is of the start, or one step behind an x of smaller rank
   abbrev pub Back : (D : ℕ → Bool) (rank : ℕ → ℕ) → ℕ → Type 0
-  Back D rank y = (start y ≡ true) ⊎ ((x : ℕ) × (x < n) × (D x ≡ true) × (edge x y ≡ true) × (rank x < rank y))
+  Back D rank y = (start y ≡ true) ⊎ ((x : ℕ) × (x < n) × (D x ≡ true) × (edge x y ≡ true)
+      × (rank x < rank y))
 
   -- D is what is reached
   pub record Closure (D : ℕ → Bool) (rank : ℕ → ℕ) : Type 0 where
@@ -31,7 +36,8 @@ module _ (n : ℕ) (start : ℕ → Bool) (edge : ℕ → ℕ → Bool) where
   leaves : (ℕ → Bool) → ℕ → ℕ → Bool
   leaves C x y = C x && (edge x y && not (C y))
 
-  leaving : (C : ℕ → Bool) → some_below n (λ x. some_below n (leaves C x)) ≡ true → (x y : ℕ) × (x < n) × (y < n) × (C x ≡ true) × (edge x y ≡ true) × (C y ≡ false)
+  leaving : (C : ℕ → Bool) → some_below n (λ x. some_below n (leaves C x)) ≡ true → (x y : ℕ)
+      × (x < n) × (y < n) × (C x ≡ true) × (edge x y ≡ true) × (C y ≡ false)
   unfolding leaves
   leaving C e =
       let w = (some_tells n (λ x. some_below n (leaves C x))).0 e in
@@ -40,17 +46,20 @@ module _ (n : ℕ) (start : ℕ → Bool) (edge : ℕ → ℕ → Bool) where
       let b = and_parts (edge w.0 v.0) (not (C v.0)) a.1 in
       (w.0, v.0, w.1, v.1, a.0, b.0, not-true (C v.0) b.1)
 
-  staying : (C : ℕ → Bool) → some_below n (λ x. some_below n (leaves C x)) ≡ false → (x y : ℕ) → x < n → y < n → C x ≡ true → edge x y ≡ true → C y ≡ true
+  staying : (C : ℕ → Bool) → some_below n (λ x. some_below n (leaves C x)) ≡ false → (x y : ℕ)
+      → x < n → y < n → C x ≡ true → edge x y ≡ true → C y ≡ true
   unfolding leaves
   staying C e x y i j a t =
       elim (cases_Bool (C y)) [
         | inl h ↦ h
         | inr h ↦
-            let v = (some_tells n (leaves C x)).1 (y, j, and_from _ _ a (and_from _ _ t (not_from_false (C y) h))) in
+            let v = (some_tells n (leaves C x)).1
+            (y, j, and_from _ _ a (and_from _ _ t (not_from_false (C y) h))) in
             absurd (both_ways _ e ((some_tells n (λ x. some_below n (leaves C x))).1 (x, i, v)))
       ]
 
-  module _ (C : ℕ → Bool) (rank : ℕ → ℕ) (t : ℕ) (g : Growing C rank t) (x y : ℕ) (i : x < n) (j : y < n) (a : C x ≡ true) (e : edge x y ≡ true) (out : C y ≡ false) where
+  module _ (C : ℕ → Bool) (rank : ℕ → ℕ) (t : ℕ) (g : Growing C rank t) (x y : ℕ) (i : x < n)
+      (j : y < n) (a : C x ≡ true) (e : edge x y ≡ true) (out : C y ≡ false) where
     C' : ℕ → Bool
     C' z = eqb z y || C z
 
@@ -63,7 +72,11 @@ module _ (n : ℕ) (start : ℕ → Bool) (edge : ℕ → ℕ → Bool) where
 
     old : (z : ℕ) → C' z ≡ true → (z ≡ y → ⊥) → C z ≡ true
     unfolding C'
-    old z c ne = elim (or_cases (eqb z y) (C z) c) [ inl s ↦ absurd (ne (eqb-true z y s)) | inr s ↦ s ]
+    old z c ne = elim (or_cases (eqb z y) (C z) c) [
+      | inl s ↦ absurd (ne (eqb-true z y s))
+      | inr s ↦
+          s
+    ]
 
     apart : (z : ℕ) → C z ≡ true → z ≡ y → ⊥
     apart z c s = both_ways (C z) (ap C s ∙ out) c
@@ -80,10 +93,18 @@ module _ (n : ℕ) (start : ℕ → Bool) (edge : ℕ → ℕ → Bool) where
     grown = record {
       has = λ z h s. kept z (g.has z h s);
       back = λ z h c. elim (cases_eq z y) [
-        | inl s ↦ subst (Back C' rank') (sym s) (inr (x, i, kept x a, e, omega (arith, rank_new, rank_old x (apart x a), g.low x i a)))
+        | inl s ↦ subst (Back C' rank') (sym s)
+            (inr (x, i, kept x a, e, omega (arith, rank_new, rank_old x (apart x a), g.low x i a)))
         | inr ne ↦ elim (g.back z h (old z c ne)) [
           | inl s ↦ inl s
-          | inr w ↦ inr (w.0, w.1, kept w.0 w.2, w.3, omega (arith, w.4, rank_old z ne, rank_old w.0 (apart w.0 w.2)))
+          | inr w ↦
+              inr (
+                w.0,
+                w.1,
+                kept w.0 w.2,
+                w.3,
+                omega (arith, w.4, rank_old z ne, rank_old w.0 (apart w.0 w.2)),
+              )
         ]
       ];
       low = λ z h c. elim (cases_eq z y) [
@@ -101,9 +122,11 @@ module _ (n : ℕ) (start : ℕ → Bool) (edge : ℕ → ℕ → Bool) where
 
     fewer : members n (λ z. not (C z)) ≡ suc (members n (λ z. not (C' z)))
     unfolding C'
-    fewer = members_with n (λ z. not (C' z)) (λ z. not (C z)) y j (not_from_true _ (or_left (eqb y y) (C y) (eq-eqb y y refl))) missing
+    fewer = members_with n (λ z. not (C' z)) (λ z. not (C z)) y j
+        (not_from_true _ (or_left (eqb y y) (C y) (eq-eqb y y refl))) missing
 
-  grow : (k : ℕ) (C : ℕ → Bool) (rank : ℕ → ℕ) (t : ℕ) → Growing C rank t → members n (λ z. not (C z)) < k → (D : ℕ → Bool) × (rank' : ℕ → ℕ) × Closure D rank'
+  grow : (k : ℕ) (C : ℕ → Bool) (rank : ℕ → ℕ) (t : ℕ) → Growing C rank t
+      → members n (λ z. not (C z)) < k → (D : ℕ → Bool) × (rank' : ℕ → ℕ) × Closure D rank'
   grow zero C rank t g small = absurd (omega arith)
   grow (suc k) C rank t g small =
       elim (cases_Bool (some_below n (λ x. some_below n (leaves C x)))) [
@@ -111,18 +134,23 @@ module _ (n : ℕ) (start : ℕ → Bool) (edge : ℕ → ℕ → Bool) where
         | inl e ↦
             let w = leaving C e in
             let f = fewer C rank t g w.0 w.1 w.2 w.3 w.4 w.5 w.6 in
-            grow k (C' C rank t g w.0 w.1 w.2 w.3 w.4 w.5 w.6) (rank' C rank t g w.0 w.1 w.2 w.3 w.4 w.5 w.6) (suc t)
+            grow k (C' C rank t g w.0 w.1 w.2 w.3 w.4 w.5 w.6)
+            (rank' C rank t g w.0 w.1 w.2 w.3 w.4 w.5 w.6) (suc t)
             (grown C rank t g w.0 w.1 w.2 w.3 w.4 w.5 w.6) (omega arith)
       ]
 
   pub closure : (D : ℕ → Bool) × (rank : ℕ → ℕ) × Closure D rank
-  closure = grow (suc (members n (λ z. not (start z)))) start (λ _. 0) 1 (record { has = λ x h s. s; back = λ y h s. inl s; low = λ y h s. omega arith }) (omega arith)
+  closure = grow (suc (members n (λ z. not (start z)))) start (λ _. 0) 1
+      (record { has = λ x h s. s; back = λ y h s. inl s; low = λ y h s. omega arith }) (omega arith)
 
   -- what holds of the start and passes along each step holds of all that is reached
-  pub reached_all : (D : ℕ → Bool) (rank : ℕ → ℕ) → Closure D rank → (Q : ℕ → Type 0) → ((y : ℕ) → y < n → start y ≡ true → Q y)
-      → ((x y : ℕ) → x < n → y < n → Q x → edge x y ≡ true → Q y) → (b y : ℕ) → y < n → rank y < b → D y ≡ true → Q y
+  pub reached_all : (D : ℕ → Bool) (rank : ℕ → ℕ) → Closure D rank → (Q : ℕ → Type 0)
+      → ((y : ℕ) → y < n → start y ≡ true → Q y)
+      → ((x y : ℕ) → x < n → y < n → Q x → edge x y ≡ true → Q y) → (b y : ℕ) → y < n → rank y < b
+      → D y ≡ true → Q y
   reached_all D rank c Q first next zero y h low d = absurd (omega arith)
   reached_all D rank c Q first next (suc b) y h low d = elim (c.back y h d) [
     | inl s ↦ first y h s
-    | inr w ↦ next w.0 y w.1 h (reached_all D rank c Q first next b w.0 w.1 (omega (arith, w.4)) w.2) w.3
+    | inr w ↦
+        next w.0 y w.1 h (reached_all D rank c Q first next b w.0 w.1 (omega (arith, w.4)) w.2) w.3
   ]

@@ -1,21 +1,28 @@
--- What valid prices prove: their pairing is optimum, just the tight perfect pairings are, and the greatest prices are unique.
--- Idea: every perfect pairing uses each left and each right block once, so the prices of its pairs always come to the same sum.
--- A standing pair never costs less than its prices, so no perfect pairing costs less than that sum; the valid prices' own pairing
--- costs just it. Another perfect pairing costs the same exactly if none of its pairs exceeds its prices, that is, if it is tight.
--- Greatest prices: each of two such systems is at least the other, so their right prices weigh the same, and are the same.
-use Rattle.std.proofs.Common.{◌≡◌, ℕ, ◌<◌, Bool, true, ◌↔◌, List, length, ℤ, ◌+ℤ◌, ◌-ℤ◌, ◌≤ℤ◌, Decides, Equal, Greater, sym, ap, ◌∙◌, arith}
+-- What valid prices prove: their pairing is optimum, just the tight perfect pairings are, and the
+-- greatest prices are unique.
+-- Idea: every perfect pairing uses each left and each right block once, so the prices of its pairs
+-- always come to the same sum. A standing pair never costs less than its prices, so no perfect
+-- pairing costs less than that sum; the valid prices' own pairing costs just it. Another perfect
+-- pairing costs the same exactly if none of its pairs exceeds its prices, that is, if it is tight.
+-- Greatest prices: each of two such systems is at least the other, so their right prices weigh the
+-- same, and are the same.
+use Rattle.std.proofs.Common.{◌≡◌, ℕ, ◌<◌, Bool, true, ◌↔◌, List, length, ℤ, ◌+ℤ◌, ◌-ℤ◌, ◌≤ℤ◌}
+use Rattle.std.proofs.Common.{Decides, Equal, Greater, sym, ap, ◌∙◌, arith}
 use Rattle.std.proofs.lemmas.Int.{ints}
 use Rattle.std.proofs.lemmas.Bool.Decides.{Decides-like}
 use Rattle.cost.specs.Columns.{minus, lex}
 use Rattle.cost.proofs.Exact.{minus-within, within_more, length-columnwise}
 use Rattle.cost.proofs.Order.{lex_refl}
-use Rattle.cost.proofs.Weights.{weight, same_from, weight_minus}
+use Rattle.cost.specs.Weights.{weight}
+use Rattle.cost.proofs.Weights.{same_from, weight_minus}
 use Rattle.pairing.specs.Grid.{Grid, Sane, at, PerfectIn, total, Optimum}
 use Rattle.pairing.specs.Prices.{Valid, Tight, Greatest}
-use Rattle.pairing.specs.Theorems.{ProvesOptimum, OptimumIfTight, TightAlike, ValidAlike, GreatestAlike}
+use Rattle.pairing.specs.Theorems.{ProvesOptimum, OptimumIfTight, TightAlike, ValidAlike}
+use Rattle.pairing.specs.Theorems.{GreatestAlike}
 use Rattle.pairing.proofs.Sums.{sum_z, sum-le, sum_same, sum_add, sum_tight}
 use Rattle.pairing.proofs.Counting.{sum_shuffle}
-use Rattle.pairing.proofs.Weighing.{value_light, value_upto, value_same, cost_value, total_value, total_is, total_from, price_upto, price_same, price_is}
+use Rattle.pairing.proofs.Weighing.{value_light, value_upto, value_same, cost_value, total_value}
+use Rattle.pairing.proofs.Weighing.{total_is, total_from, price_upto, price_same, price_is}
 
 module _ (g : Grid) (s : Sane g) (left right : ℕ → List ℤ) where
   -- what two prices weigh
@@ -23,40 +30,67 @@ module _ (g : Grid) (s : Sane g) (left right : ℕ → List ℤ) where
   both l r = weight (left l) +ℤ weight (right r)
 
   -- the prices of the pairs of any perfect pairing come to the same
-  all_prices : (q : List ℕ) → PerfectIn g q → sum_z g.size (λ l. both l (at q l)) ≡ sum_z g.size (λ l. weight (left l)) +ℤ sum_z g.size (λ r. weight (right r))
+  all_prices : (q : List ℕ) → PerfectIn g q → sum_z g.size (λ l. both l (at q l)) ≡ sum_z g.size
+      (λ l. weight (left l)) +ℤ sum_z g.size (λ r. weight (right r))
   unfolding both
-  all_prices q k = omega (arith, ints, sum_add g.size (λ l. weight (left l)) (λ l. weight (right (at q l))), sum_shuffle g.size g.stands q k (λ r. weight (right r)))
+  all_prices q k =
+      omega (
+        arith,
+        ints,
+        sum_add g.size (λ l. weight (left l)) (λ l. weight (right (at q l))),
+        sum_shuffle g.size g.stands q k (λ r. weight (right r)),
+      )
 
   module _ (p : List ℕ) (h : PerfectIn g p) (v : Valid g left right p) where
-    pub pair_under : (l r : ℕ) → l < g.size → r < g.size → g.stands l r ≡ true → (weight (left l) +ℤ weight (right r)) ≤ℤ weight (g.cost l r)
-    pair_under l r i j t = price_upto g s left right l r i j t (v.lefts l i) (v.rights r j) (v.under l r i j t)
+    pub pair_under : (l r : ℕ) → l < g.size → r < g.size → g.stands l r ≡ true
+        → (weight (left l) +ℤ weight (right r)) ≤ℤ weight (g.cost l r)
+    pair_under l r i j t = price_upto g s left right l r i j t (v.lefts l i) (v.rights r j)
+        (v.under l r i j t)
 
     -- tight pairs by their weights, at any perfect pairing
-    pub tight_is : (q : List ℕ) → PerfectIn g q → Tight g left right q → (l : ℕ) → l < g.size → weight (left l) +ℤ weight (right (at q l)) ≡ weight (g.cost l (at q l))
-    tight_is q k t l i = price_is g s left right l (at q l) i (k.below l i) (k.standing l i) (v.lefts l i) (v.rights (at q l) (k.below l i)) (t l i)
+    pub tight_is : (q : List ℕ) → PerfectIn g q → Tight g left right q → (l : ℕ) → l < g.size
+        → weight (left l) +ℤ weight (right (at q l)) ≡ weight (g.cost l (at q l))
+    tight_is q k t l i = price_is g s left right l (at q l) i (k.below l i) (k.standing l i)
+        (v.lefts l i) (v.rights (at q l) (k.below l i)) (t l i)
 
     total_price : weight (total g p) ≡ sum_z g.size (λ l. both l (at p l))
     unfolding both
-    total_price = total_is g s p h ∙ sym (sum_same g.size (λ l. both l (at p l)) (λ l. weight (g.cost l (at p l))) (tight_is p h v.equal))
+    total_price = total_is g s p h
+        ∙ sym (sum_same g.size (λ l. both l (at p l)) (λ l. weight (g.cost l (at p l)))
+        (tight_is p h v.equal))
 
-    under_total : (q : List ℕ) → PerfectIn g q → sum_z g.size (λ l. both l (at q l)) ≤ℤ sum_z g.size (λ l. weight (g.cost l (at q l)))
+    under_total : (q : List ℕ) → PerfectIn g q → sum_z g.size (λ l. both l (at q l)) ≤ℤ sum_z g.size
+        (λ l. weight (g.cost l (at q l)))
     unfolding both
-    under_total q k = sum-le g.size (λ l. both l (at q l)) (λ l. weight (g.cost l (at q l))) (λ l i. pair_under l (at q l) i (k.below l i) (k.standing l i))
+    under_total q k = sum-le g.size (λ l. both l (at q l)) (λ l. weight (g.cost l (at q l)))
+        (λ l i. pair_under l (at q l) i (k.below l i) (k.standing l i))
 
     pub optimum : Optimum g p
     optimum = record {
       perfect = h;
-      least = λ q k. total_from g s p q h k (omega (arith, ints, total_price, all_prices p h, all_prices q k, under_total q k, total_is g s q k));
+      least = λ q k. total_from g s p q h k
+          (omega (
+            arith,
+            ints,
+            total_price,
+            all_prices p h,
+            all_prices q k,
+            under_total q k,
+            total_is g s q k,
+          ));
     }
 
     pub tight : (q : List ℕ) → Optimum g q → Tight g left right q
     unfolding both
     tight q o l i =
         let k = o.perfect in
-        let at_most = value_upto g.columns (total g q) (total g p) (total_value g s q k) (total_value g s p h) (o.least p h) in
-        let same = sum_tight g.size (λ l. both l (at q l)) (λ l. weight (g.cost l (at q l))) (λ l i. pair_under l (at q l) i (k.below l i) (k.standing l i))
+        let at_most = value_upto g.columns (total g q) (total g p) (total_value g s q k)
+        (total_value g s p h) (o.least p h) in
+        let same = sum_tight g.size (λ l. both l (at q l)) (λ l. weight (g.cost l (at q l)))
+        (λ l i. pair_under l (at q l) i (k.below l i) (k.standing l i))
         (omega (arith, ints, total_price, all_prices p h, all_prices q k, total_is g s q k)) in
-        price_same g s left right l (at q l) i (k.below l i) (k.standing l i) (v.lefts l i) (v.rights (at q l) (k.below l i)) (same l i)
+        price_same g s left right l (at q l) i (k.below l i) (k.standing l i) (v.lefts l i)
+        (v.rights (at q l) (k.below l i)) (same l i)
 
     pub valid_for : (q : List ℕ) → Tight g left right q → Valid g left right q
     valid_for q t = record { lefts = v.lefts; rights = v.rights; under = v.under; equal = t }
@@ -70,7 +104,10 @@ told b P Q e = (e, Decides-like b e.0 e.1)
 
 pub optimum_if_tight_lem : (b : Bool) → OptimumIfTight b b
 optimum_if_tight_lem b g left right p q s h v k =
-    told b (Tight g left right q) (Optimum g q) (λ t. optimum g s left right q k (valid_for g s left right p h v q t), tight g s left right p h v q)
+    told b (Tight g left right q) (Optimum g q) (
+      λ t. optimum g s left right q k (valid_for g s left right p h v q t),
+      tight g s left right p h v q,
+    )
 
 pub tight_alike : (b : Bool) → TightAlike b b
 tight_alike b g left right left' right' p p' q s h v h' v' k =
@@ -80,11 +117,15 @@ tight_alike b g left right left' right' p p' q s h v h' v' k =
 
 pub valid_alike : (b : Bool) → ValidAlike b b
 valid_alike b g left right p q s h v k =
-    told b (Optimum g q) (Valid g left right q) (λ o. valid_for g s left right p h v q (tight g s left right p h v q o), optimum g s left right q k)
+    told b (Optimum g q) (Valid g left right q) (
+      λ o. valid_for g s left right p h v q (tight g s left right p h v q o),
+      optimum g s left right q k,
+    )
 
 -- ---- the greatest prices
 
-module _ (g : Grid) (s : Sane g) (left right : ℕ → List ℤ) (p : List ℕ) (h : PerfectIn g p) (v : Valid g left right p) where
+module _ (g : Grid) (s : Sane g) (left right : ℕ → List ℤ) (p : List ℕ) (h : PerfectIn g p)
+    (v : Valid g left right p) where
   pub left_is : (l : ℕ) → l < g.size → left l ≡ minus (g.cost l (at p l)) (right (at p l))
   left_is l i =
       let r = at p l in
@@ -93,30 +134,39 @@ module _ (g : Grid) (s : Sane g) (left right : ℕ → List ℤ) (p : List ℕ) 
       let a = v.lefts l i in
       let e = weight_minus (g.cost l r) (right r) (c.sized ∙ sym w.sized) in
       let t = tight_is g s left right p h v p h v.equal l i in
-      let sized : length (minus (g.cost l r) (right r)) ≡ g.columns = length-columnwise ◌-ℤ◌ (g.cost l r) (right r) (c.sized ∙ sym w.sized) ∙ c.sized in
-      same_from (left l) (minus (g.cost l r) (right r)) (a.sized ∙ sym sized) (value_light g.columns (left l) a)
-      (within_more 2000000000000000 4000000000000000000 (minus (g.cost l r) (right r)) (omega arith) (minus-within 1000000000000000 1000000000000000 (g.cost l r) (right r) c.railed w.railed))
+      let sized : length (minus (g.cost l r) (right r)) ≡ g.columns =
+      length-columnwise ◌-ℤ◌ (g.cost l r) (right r) (c.sized ∙ sym w.sized) ∙ c.sized in
+      same_from (left l) (minus (g.cost l r) (right r)) (a.sized ∙ sym sized)
+      (value_light g.columns (left l) a)
+      (within_more 2000000000000000 4000000000000000000 (minus (g.cost l r) (right r)) (omega arith)
+      (minus-within 1000000000000000 1000000000000000 (g.cost l r) (right r) c.railed w.railed))
       (omega (arith, ints))
 
-module _ (g : Grid) (s : Sane g) (left right left' right' : ℕ → List ℤ) (p q : List ℕ) (h : PerfectIn g p) (k : PerfectIn g q) (a : Greatest g left right p) (b : Greatest g left' right' q) where
+module _ (g : Grid) (s : Sane g) (left right left' right' : ℕ → List ℤ) (p q : List ℕ)
+    (h : PerfectIn g p) (k : PerfectIn g q) (a : Greatest g left right p)
+    (b : Greatest g left' right' q) where
   -- prices valid for p are valid for q too, since q is optimum
   moved : Valid g left right q
-  moved = (valid_alike true g left right p q s h a.valid k).0.0 (optimum g s left' right' q k b.valid)
+  moved = (valid_alike true g left right p q s h a.valid k).0.0
+      (optimum g s left' right' q k b.valid)
 
   back : Valid g left' right' p
-  back = (valid_alike true g left' right' q p s k b.valid h).0.0 (optimum g s left right p h a.valid)
+  back = (valid_alike true g left' right' q p s k b.valid h).0.0
+      (optimum g s left right p h a.valid)
 
   rights_same : (r : ℕ) → r < g.size → right r ≡ right' r
   rights_same r j =
       let v = a.valid.rights r j in
       let w = b.valid.rights r j in
       let up = value_upto g.columns (right r) (right' r) v w (b.most left right moved a.low r j) in
-      let down = value_upto g.columns (right' r) (right r) w v (a.most left' right' back b.low r j) in
+      let down = value_upto g.columns (right' r) (right r) w v (a.most left' right' back b.low r j)
+      in
       value_same g.columns (right r) (right' r) v w (omega (arith, ints))
 
   lefts_same : (l : ℕ) → l < g.size → left l ≡ left' l
   lefts_same l i =
-      left_is g s left right p h a.valid l i ∙ ap (minus (g.cost l (at p l))) (rights_same (at p l) (h.below l i)) ∙ sym (left_is g s left' right' p h back l i)
+      left_is g s left right p h a.valid l i ∙ ap (minus (g.cost l (at p l)))
+      (rights_same (at p l) (h.below l i)) ∙ sym (left_is g s left' right' p h back l i)
 
 same_compare : (xs ys : List ℤ) → xs ≡ ys → lex xs ys ≡ Equal
 same_compare xs ys e = ap (λ t. lex t ys) e ∙ lex_refl ys
@@ -124,5 +174,10 @@ same_compare xs ys e = ap (λ t. lex t ys) e ∙ lex_refl ys
 pub greatest_alike : GreatestAlike Equal
 greatest_alike g left right left' right' p q s h k a b x i =
     let r = rights_same g s left right left' right' p q h k a b x i in
-    let l = lefts_same g s left right left' right' p q h k a b x i in
-    (same_compare (right x) (right' x) r, same_compare (left x) (left' x) l, r, l, left_is g s left right p h a.valid x i)
+    let l = lefts_same g s left right left' right' p q h k a b x i in (
+      same_compare (right x) (right' x) r,
+      same_compare (left x) (left' x) l,
+      r,
+      l,
+      left_is g s left right p h a.valid x i,
+    )

@@ -11,3 +11,5 @@ pub mod Crowds
 pub mod Sending
 pub mod Tests
 pub mod Shown
+pub mod Alike
+pub mod Inside

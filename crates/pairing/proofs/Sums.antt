@@ -1,6 +1,7 @@
 -- Sums of integers over the numbers below n.
 -- Idea: each law is an induction on n, and the step is linear arithmetic on the last summand.
-use Rattle.std.proofs.Common.{◌≡◌, ℕ, zero, suc, ◌<◌, cond, eqb, ℤ, pos, ◌+ℤ◌, ◌≤ℤ◌, sym, refl, ap, ap₂, inl, inr, arith}
+use Rattle.std.proofs.Common.{◌≡◌, ℕ, zero, suc, ◌<◌, cond, eqb, ℤ, pos, ◌+ℤ◌, ◌≤ℤ◌, sym, refl, ap}
+use Rattle.std.proofs.Common.{ap₂, inl, inr, arith}
 use lib.Signed.{≤ℤ_refl}
 use Rattle.std.proofs.lemmas.Int.{ints}
 use Rattle.std.proofs.lemmas.Bool.{cases_eq, eq-eqb, ne_eqb, cond-true, cond-false}
@@ -11,7 +12,8 @@ sum_z (suc n) f = sum_z n f +ℤ f n
 
 pub sum-le : (n : ℕ) (f g : ℕ → ℤ) → ((l : ℕ) → l < n → f l ≤ℤ g l) → sum_z n f ≤ℤ sum_z n g
 sum-le zero f g h = ≤ℤ_refl (pos 0)
-sum-le (suc n) f g h = omega (arith, ints, sum-le n f g (λ l k. h l (omega arith)), h n (omega arith))
+sum-le (suc n) f g h =
+    omega (arith, ints, sum-le n f g (λ l k. h l (omega arith)), h n (omega arith))
 
 pub sum_same : (n : ℕ) (f g : ℕ → ℤ) → ((l : ℕ) → l < n → f l ≡ g l) → sum_z n f ≡ sum_z n g
 sum_same zero f g h = refl
@@ -26,7 +28,8 @@ sum-zero zero = refl
 sum-zero (suc n) = omega (arith, ints, sum-zero n)
 
 -- two sums that agree, one below the other at each place, agree at each place
-pub sum_tight : (n : ℕ) (f g : ℕ → ℤ) → ((l : ℕ) → l < n → f l ≤ℤ g l) → sum_z n g ≤ℤ sum_z n f → (l : ℕ) → l < n → f l ≡ g l
+pub sum_tight : (n : ℕ) (f g : ℕ → ℤ) → ((l : ℕ) → l < n → f l ≤ℤ g l) → sum_z n g ≤ℤ sum_z n f
+    → (l : ℕ) → l < n → f l ≡ g l
 sum_tight zero f g h e l k = absurd (omega arith)
 sum_tight (suc n) f g h e l k =
     let under = sum-le n f g (λ m j. h m (omega arith)) in
@@ -45,7 +48,9 @@ sum_without zero x f h = absurd (omega arith)
 sum_without (suc n) x f h =
     elim (cases_eq n x) [
       | inl s ↦
-          let rest : sum_z n f ≡ sum_z n (without x f) = sum_same n f (without x f) (λ l k. sym (cond-false (eqb l x) (pos 0) (f l) (ne_eqb l x (omega arith)))) in
+          let rest : sum_z n f ≡ sum_z n (without x f) =
+          sum_same n f (without x f)
+          (λ l k. sym (cond-false (eqb l x) (pos 0) (f l) (ne_eqb l x (omega arith)))) in
           let last : without x f n ≡ pos 0 = cond-true (eqb n x) (pos 0) (f n) (eq-eqb n x s) in
           let same : f n ≡ f x = ap f s in
           omega (arith, ints)

@@ -1,18 +1,24 @@
--- The costs, totals and prices of a grid as single integers, so that chains of comparisons become linear arithmetic.
--- Idea: a column list weighs an integer; sums of columns weigh the sums, and columns far from 2^62 keep their order. A total
--- is at most 64 costs of 10^9 and a pair of prices at most 2 · 10^15, so both stay far below.
-use Rattle.std.proofs.Common.{◌≡◌, ℕ, zero, suc, ◌+◌, ◌*◌, ◌<◌, ◌≤◌, true, List, length, ℤ, pos, ◌+ℤ◌, ◌≤ℤ◌, sym, ap, ◌∙◌, arith}
+-- The costs, totals and prices of a grid as single integers, so that chains of comparisons become
+-- linear arithmetic.
+-- Idea: a column list weighs an integer; sums of columns weigh the sums, and columns far from 2^62
+-- keep their order. A total is at most 64 costs of 10^9 and a pair of prices at most 2 · 10^15, so
+-- both stay far below.
+use Rattle.std.proofs.Common.{◌≡◌, ℕ, zero, suc, ◌+◌, ◌*◌, ◌<◌, ◌≤◌, true, List, length, ℤ, pos}
+use Rattle.std.proofs.Common.{◌+ℤ◌, ◌≤ℤ◌, sym, ap, ◌∙◌, arith}
 use Rattle.std.proofs.lemmas.Int.{ints}
 use Rattle.std.proofs.lemmas.List.{length-replicate}
 use Rattle.cost.specs.Columns.{Within, zeros, plus}
 use Rattle.cost.proofs.Exact.{plus-within, zeros_within, within_more, length-columnwise}
-use Rattle.cost.proofs.Weights.{weight, Light, upto_is, upto_from, same_from, weight_plus, weight_zeros}
+use Rattle.cost.specs.Weights.{weight, Light}
+use Rattle.cost.proofs.Weights.{upto_is, upto_from, same_from, weight_plus}
+use Rattle.cost.proofs.Weights.{weight_zeros}
 use Rattle.pairing.specs.Grid.{Grid, Sane, at, PerfectIn, total_of, total, Upto}
 use Rattle.pairing.specs.Prices.{Value, TightPair}
 use Rattle.pairing.proofs.Sums.{sum_z}
 
 pub value_light : (columns : ℕ) (xs : List ℤ) → Value columns xs → Light xs
-value_light columns xs v = within_more 1000000000000000 4000000000000000000 xs (omega arith) v.railed
+value_light columns xs v = within_more 1000000000000000 4000000000000000000 xs (omega arith)
+    v.railed
 
 pub zeros_sized : (columns : ℕ) → length (zeros columns) ≡ columns
 zeros_sized columns = length-replicate columns (pos 0)
@@ -20,13 +26,16 @@ zeros_sized columns = length-replicate columns (pos 0)
 -- two values compare as they weigh
 module _ (columns : ℕ) (xs ys : List ℤ) (v : Value columns xs) (w : Value columns ys) where
   pub value_upto : Upto xs ys → weight xs ≤ℤ weight ys
-  value_upto = upto_is xs ys (v.sized ∙ sym w.sized) (value_light columns xs v) (value_light columns ys w)
+  value_upto = upto_is xs ys (v.sized ∙ sym w.sized) (value_light columns xs v)
+      (value_light columns ys w)
 
   pub value_from : weight xs ≤ℤ weight ys → Upto xs ys
-  value_from = upto_from xs ys (v.sized ∙ sym w.sized) (value_light columns xs v) (value_light columns ys w)
+  value_from = upto_from xs ys (v.sized ∙ sym w.sized) (value_light columns xs v)
+      (value_light columns ys w)
 
   pub value_same : weight xs ≡ weight ys → xs ≡ ys
-  value_same = same_from xs ys (v.sized ∙ sym w.sized) (value_light columns xs v) (value_light columns ys w)
+  value_same = same_from xs ys (v.sized ∙ sym w.sized) (value_light columns xs v)
+      (value_light columns ys w)
 
   pub value_plus : weight (plus xs ys) ≡ weight xs +ℤ weight ys
   value_plus = weight_plus xs ys (v.sized ∙ sym w.sized)
@@ -35,73 +44,106 @@ module _ (columns : ℕ) (xs ys : List ℤ) (v : Value columns xs) (w : Value co
   plus_sized = length-columnwise ◌+ℤ◌ xs ys (v.sized ∙ sym w.sized) ∙ v.sized
 
   plus_light : Light (plus xs ys)
-  plus_light = within_more 2000000000000000 4000000000000000000 (plus xs ys) (omega arith) (plus-within 1000000000000000 1000000000000000 xs ys v.railed w.railed)
+  plus_light = within_more 2000000000000000 4000000000000000000 (plus xs ys) (omega arith)
+      (plus-within 1000000000000000 1000000000000000 xs ys v.railed w.railed)
 
-pub value_low : (columns : ℕ) (xs : List ℤ) → Value columns xs → Upto xs (zeros columns) → weight xs ≤ℤ pos 0
+pub value_low : (columns : ℕ) (xs : List ℤ) → Value columns xs → Upto xs (zeros columns)
+    → weight xs ≤ℤ pos 0
 value_low columns xs v u =
     let e = weight_zeros columns in
-    let h = value_upto columns xs (zeros columns) v (record { sized = zeros_sized columns; railed = zeros_within 1000000000000000 columns }) u in
+    let h = value_upto columns xs (zeros columns) v
+    (record { sized = zeros_sized columns; railed = zeros_within 1000000000000000 columns }) u
+    in
     omega (arith, ints)
 
 module _ (g : Grid) (s : Sane g) where
   -- what a standing pair costs is a value
-  pub cost_value : (l r : ℕ) → l < g.size → r < g.size → g.stands l r ≡ true → Value g.columns (g.cost l r)
-  cost_value l r i j t = record { sized = s.sized l r i j t; railed = within_more 1000000000 1000000000000000 (g.cost l r) (omega arith) (s.small l r i j t) }
+  pub cost_value : (l r : ℕ) → l < g.size → r < g.size → g.stands l r ≡ true
+      → Value g.columns (g.cost l r)
+  cost_value l r i j t =
+      record {
+        sized = s.sized l r i j t;
+        railed = within_more 1000000000 1000000000000000
+            (g.cost l r) (omega arith) (s.small l r i j t);
+      }
 
   module _ (p : List ℕ) (h : PerfectIn g p) where
     total_sized : (k : ℕ) → k ≤ g.size → length (total_of g p k) ≡ g.columns
     total_sized zero b = zeros_sized g.columns
     total_sized (suc k) b =
         let ih = total_sized k (omega arith) in
-        let c = s.sized k (at p k) (omega arith) (h.below k (omega arith)) (h.standing k (omega arith)) in
+        let c = s.sized k (at p k) (omega arith) (h.below k (omega arith))
+        (h.standing k (omega arith)) in
         length-columnwise ◌+ℤ◌ (total_of g p k) (g.cost k (at p k)) (ih ∙ sym c) ∙ ih
 
     total-within : (k : ℕ) → k ≤ g.size → Within (k * 1000000000) (total_of g p k)
     total-within zero b = zeros_within 0 g.columns
     total-within (suc k) b =
-        within_more (k * 1000000000 + 1000000000) (suc k * 1000000000) (total_of g p (suc k)) (omega arith)
-        (plus-within (k * 1000000000) 1000000000 (total_of g p k) (g.cost k (at p k)) (total-within k (omega arith))
+        within_more (k * 1000000000 + 1000000000) (suc k * 1000000000) (total_of g p (suc k))
+        (omega arith)
+        (plus-within (k * 1000000000) 1000000000 (total_of g p k) (g.cost k (at p k))
+        (total-within k (omega arith))
         (s.small k (at p k) (omega arith) (h.below k (omega arith)) (h.standing k (omega arith))))
 
-    total_weight : (k : ℕ) → k ≤ g.size → weight (total_of g p k) ≡ sum_z k (λ l. weight (g.cost l (at p l)))
+    total_weight : (k : ℕ) → k ≤ g.size → weight (total_of g p k) ≡ sum_z k
+        (λ l. weight (g.cost l (at p l)))
     total_weight zero b = weight_zeros g.columns
     total_weight (suc k) b =
-        weight_plus (total_of g p k) (g.cost k (at p k)) (total_sized k (omega arith) ∙ sym (s.sized k (at p k) (omega arith) (h.below k (omega arith)) (h.standing k (omega arith))))
+        weight_plus (total_of g p k) (g.cost k (at p k))
+        (total_sized k (omega arith)
+        ∙ sym (s.sized k (at p k) (omega arith) (h.below k (omega arith))
+        (h.standing k (omega arith))))
         ∙ ap (λ z. z +ℤ weight (g.cost k (at p k))) (total_weight k (omega arith))
 
     -- a total is a value, and weighs what the costs of its pairs weigh together
     pub total_value : Value g.columns (total g p)
     total_value = record {
       sized = total_sized g.size (omega arith);
-      railed = within_more (g.size * 1000000000) 1000000000000000 (total g p) (omega (arith, s.few)) (total-within g.size (omega arith));
+      railed = within_more (g.size * 1000000000) 1000000000000000 (total g p) (omega (arith, s.few))
+          (total-within g.size (omega arith));
     }
 
     pub total_is : weight (total g p) ≡ sum_z g.size (λ l. weight (g.cost l (at p l)))
     total_is = total_weight g.size (omega arith)
 
-  pub total_from : (p q : List ℕ) → PerfectIn g p → PerfectIn g q → weight (total g p) ≤ℤ weight (total g q) → Upto (total g p) (total g q)
-  total_from p q h k = value_from g.columns (total g p) (total g q) (total_value p h) (total_value q k)
+  pub total_from : (p q : List ℕ) → PerfectIn g p → PerfectIn g q → weight (total g p) ≤ℤ weight
+      (total g q) → Upto (total g p) (total g q)
+  total_from p q h k = value_from g.columns (total g p) (total g q) (total_value p h)
+      (total_value q k)
 
   -- a standing pair and its two prices
-  module _ (left right : ℕ → List ℤ) (l r : ℕ) (i : l < g.size) (j : r < g.size) (t : g.stands l r ≡ true) (v : Value g.columns (left l)) (w : Value g.columns (right r)) where
-    pub price_upto : Upto (plus (left l) (right r)) (g.cost l r) → (weight (left l) +ℤ weight (right r)) ≤ℤ weight (g.cost l r)
+  module _ (left right : ℕ → List ℤ) (l r : ℕ) (i : l < g.size) (j : r < g.size)
+      (t : g.stands l r ≡ true) (v : Value g.columns (left l)) (w : Value g.columns (right r)) where
+    pub price_upto : Upto (plus (left l) (right r)) (g.cost l r)
+        → (weight (left l) +ℤ weight (right r)) ≤ℤ weight (g.cost l r)
     price_upto u =
         let c = cost_value l r i j t in
         let e = value_plus g.columns (left l) (right r) v w in
-        let h = upto_is (plus (left l) (right r)) (g.cost l r) (plus_sized g.columns (left l) (right r) v w ∙ sym c.sized) (plus_light g.columns (left l) (right r) v w) (value_light g.columns (g.cost l r) c) u in
+        let h = upto_is (plus (left l) (right r)) (g.cost l r)
+        (plus_sized g.columns (left l) (right r) v w ∙ sym c.sized)
+        (plus_light g.columns (left l) (right r) v w) (value_light g.columns (g.cost l r) c) u
+        in
         omega (arith, ints)
 
-    pub price_from : (weight (left l) +ℤ weight (right r)) ≤ℤ weight (g.cost l r) → Upto (plus (left l) (right r)) (g.cost l r)
+    pub price_from : (weight (left l) +ℤ weight (right r)) ≤ℤ weight (g.cost l r)
+        → Upto (plus (left l) (right r)) (g.cost l r)
     price_from h =
         let c = cost_value l r i j t in
         let e = value_plus g.columns (left l) (right r) v w in
-        upto_from (plus (left l) (right r)) (g.cost l r) (plus_sized g.columns (left l) (right r) v w ∙ sym c.sized) (plus_light g.columns (left l) (right r) v w) (value_light g.columns (g.cost l r) c) (omega (arith, ints))
+        upto_from (plus (left l) (right r)) (g.cost l r)
+        (plus_sized g.columns (left l) (right r) v w ∙ sym c.sized)
+        (plus_light g.columns (left l) (right r) v w) (value_light g.columns (g.cost l r) c)
+        (omega (arith, ints))
 
-    pub price_same : weight (left l) +ℤ weight (right r) ≡ weight (g.cost l r) → TightPair g left right l r
+    pub price_same : weight (left l) +ℤ weight (right r) ≡ weight (g.cost l r)
+        → TightPair g left right l r
     price_same e =
         let c = cost_value l r i j t in
-        same_from (plus (left l) (right r)) (g.cost l r) (plus_sized g.columns (left l) (right r) v w ∙ sym c.sized) (plus_light g.columns (left l) (right r) v w) (value_light g.columns (g.cost l r) c)
+        same_from (plus (left l) (right r)) (g.cost l r)
+        (plus_sized g.columns (left l) (right r) v w ∙ sym c.sized)
+        (plus_light g.columns (left l) (right r) v w) (value_light g.columns (g.cost l r) c)
         (value_plus g.columns (left l) (right r) v w ∙ e)
 
-    pub price_is : TightPair g left right l r → weight (left l) +ℤ weight (right r) ≡ weight (g.cost l r)
+    pub price_is : TightPair g left right l r → weight (left l) +ℤ weight (right r) ≡ weight
+        (g.cost l r)
     price_is e = sym (value_plus g.columns (left l) (right r) v w) ∙ ap weight e

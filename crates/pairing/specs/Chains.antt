@@ -1,22 +1,26 @@
--- Alternating chains: steps from a block to another by a standing pair, and on by a pair of the pairing. Exchanging the two kinds
--- of pairs along a chain makes another pairing.
+-- Alternating chains: steps from a block to another by a standing pair, and on by a pair of the
+-- pairing. Exchanging the two kinds of pairs along a chain makes another pairing.
 use Rattle.std.specs.Prelude.{◌≡◌, ℕ, ◌<◌, ◌≤◌, Bool, true, false, List}
 use Rattle.pairing.specs.Grid.{at, Perfect}
 
 -- ---- From the left blocks that a pairing leaves out
 
--- a left block is reached if it is left out, or if a reached left block stands with the right block that p gives it
+-- a left block is reached if it is left out, or if a reached left block stands with the right block
+-- that p gives it
 pub data Reached (n : ℕ) (stands : ℕ → ℕ → Bool) (p : List ℕ) (out : ℕ → Bool) : ℕ → Type 0 where
   free : (l : ℕ) → l < n → out l ≡ true → Reached n stands p out l
-  onward : (l m : ℕ) → Reached n stands p out l → m < n → out m ≡ false → stands l (at p m) ≡ true → Reached n stands p out m
+  onward : (l m : ℕ) → Reached n stands p out l → m < n → out m ≡ false → stands l (at p m) ≡ true
+      → Reached n stands p out m
 
 -- p gives right block r to some left block
 abbrev pub Held : (n : ℕ) (p : List ℕ) (out : ℕ → Bool) → ℕ → Type 0
 Held n p out r = (l : ℕ) × (l < n) × (out l ≡ false) × (at p l ≡ r)
 
--- no chain from a left block that is left out ends at a right block that is free: there is no augmenting path
+-- no chain from a left block that is left out ends at a right block that is free: there is no
+-- augmenting path
 abbrev pub Stuck : (n : ℕ) (stands : ℕ → ℕ → Bool) (p : List ℕ) (out : ℕ → Bool) → Type 0
-Stuck n stands p out = (l r : ℕ) → Reached n stands p out l → r < n → stands l r ≡ true → Held n p out r
+Stuck n stands p out = (l r : ℕ) → Reached n stands p out l → r < n → stands l r ≡ true
+    → Held n p out r
 
 -- ---- Over a perfect pairing of tight pairs
 
@@ -24,13 +28,15 @@ Stuck n stands p out = (l r : ℕ) → Reached n stands p out l → r < n → st
 abbrev pub Agree : ℕ → List ℕ → List ℕ → Type 0
 Agree k p q = (l : ℕ) → l < k → at q l ≡ at p l
 
--- a chain leads from right block r to another, over left blocks from k on: the left block that has a right block of the chain is
--- tight with the next one
+-- a chain leads from right block r to another, over left blocks from k on: the left block that has
+-- a right block of the chain is tight with the next one
 pub data Chain (n k : ℕ) (tight : ℕ → ℕ → Bool) (p : List ℕ) (r : ℕ) : ℕ → Type 0 where
   here : Chain n k tight p r r
-  step : (l c : ℕ) → k ≤ l → l < n → Chain n k tight p r (at p l) → tight l c ≡ true → Chain n k tight p r c
+  step : (l c : ℕ) → k ≤ l → l < n → Chain n k tight p r (at p l) → tight l c ≡ true
+      → Chain n k tight p r c
 
--- some perfect pairing of tight pairs that agrees with p below k gives left block l the right block r
+-- some perfect pairing of tight pairs that agrees with p below k gives left block l the right block
+-- r
 abbrev pub Sends : (n k : ℕ) (tight : ℕ → ℕ → Bool) (p : List ℕ) → ℕ → ℕ → Type 0
 Sends n k tight p l r = (q : List ℕ) × Perfect n tight q × Agree k p q × (at q l ≡ r)
 

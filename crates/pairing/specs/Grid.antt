@@ -1,23 +1,35 @@
 -- A grid of blocks, its perfect pairings, what a pairing costs, and which pairings cost least.
 use Rattle.std.specs.Prelude.{◌≡◌, ℕ, zero, suc, ◌<◌, ◌≤◌, Bool, true, List, length, ℤ, slice_index}
+use Rattle.std.specs.List.{range_with_len}
 use Rattle.std.specs.declared.cmp.Ordering.TheVariants.{Greater}
+use Rattle.cost.specs.declared.TheConstants.{COST_LIMIT}
+use Rattle.blockset.specs.declared.TheConstants.{MOST_BLOCKS}
 use Rattle.cost.specs.Columns.{Within, zeros, plus, lex}
 
--- `size` left blocks and as many right blocks, both numbered from 0: which pairs of a left and a right block stand, how many
--- columns a cost has, and the columns of the cost of each standing pair. What `cost` says of any other pair means nothing.
+-- `size` left blocks and as many right blocks, both numbered from 0: which pairs of a left and a
+-- right block stand, how many columns a cost has, and the columns of the cost of each standing
+-- pair. What `cost` says of any other pair means nothing.
 pub record Grid : Type 0 where
   pub size : ℕ
   pub columns : ℕ
   pub stands : ℕ → ℕ → Bool
   pub cost : ℕ → ℕ → List ℤ
 
--- what entering a cost grants: few blocks, and at each standing pair a cost of the grid's columns, each within 10^9
+-- what entering a cost grants: few blocks, and at each standing pair a cost of the grid's columns,
+-- each within `COST_LIMIT`
 pub record Sane (g : Grid) : Type 0 where
-  pub few : g.size ≤ 64
-  pub sized : (l r : ℕ) → l < g.size → r < g.size → g.stands l r ≡ true → length (g.cost l r) ≡ g.columns
-  pub small : (l r : ℕ) → l < g.size → r < g.size → g.stands l r ≡ true → Within 1000000000 (g.cost l r)
+  pub few : g.size ≤ MOST_BLOCKS
+  pub sized : (l r : ℕ) → l < g.size → r < g.size → g.stands l r ≡ true
+      → length (g.cost l r) ≡ g.columns
+  pub small : (l r : ℕ) → l < g.size → r < g.size → g.stands l r ≡ true
+      → Within COST_LIMIT (g.cost l r)
 
--- A pairing is written as the list of the right blocks of left blocks 0, 1, 2 and so on: here the right block of left block l.
+-- the numbers below n: the n blocks of a side
+abbrev pub numbers : ℕ → List ℕ
+numbers n = range_with_len 0 n
+
+-- A pairing is written as the list of the right blocks of left blocks 0, 1, 2 and so on: here the
+-- right block of left block l.
 abbrev pub at : List ℕ → ℕ → ℕ
 at p l = slice_index p l
 

@@ -1,14 +1,12 @@
 -- Pairings that leave blocks out, the largest of them, the crowd set and its shortage.
-use Rattle.std.specs.Prelude.{◌≡◌, ℕ, zero, suc, ◌-◌, ◌<◌, ◌≤◌, Bool, true, false, not, ◌&&◌, ◌||◌, List, length, IsTrue, ◌↔◌}
+use Rattle.std.specs.Prelude.{◌≡◌, ℕ, ◌-◌, ◌<◌, ◌≤◌, Bool, true, false, not, ◌&&◌, List, length}
+use Rattle.std.specs.Prelude.{IsTrue, ◌↔◌}
+use Rattle.std.specs.List.{list_any}
 use Rattle.blockset.specs.Sets.{members, bit}
-use Rattle.pairing.specs.Grid.{at, Perfect}
+use Rattle.pairing.specs.Grid.{numbers, at, Perfect}
 
--- the test passes at some number below n
-abbrev pub some_below : ℕ → (ℕ → Bool) → Bool
-some_below zero t = false
-some_below (suc n) t = t n || some_below n t
-
--- a set of standing pairs in which no block comes twice: p gives each left block that is not in `out` its right block
+-- a set of standing pairs in which no block comes twice: p gives each left block that is not in
+-- `out` its right block
 pub record Partial (n : ℕ) (stands : ℕ → ℕ → Bool) (p : List ℕ) (out : ℕ → Bool) : Type 0 where
   pub len : length p ≡ n
   pub below : (l : ℕ) → l < n → out l ≡ false → at p l < n
@@ -38,7 +36,7 @@ CrowdSet n stands X = (l : ℕ) → (IsTrue (X l) ↔ Crowd n stands l)
 
 -- the right blocks that stand with any left block of a set
 abbrev pub around : ℕ → (ℕ → ℕ → Bool) → (ℕ → Bool) → ℕ → Bool
-around n stands X r = some_below n (λ l. X l && stands l r)
+around n stands X r = list_any (λ l. X l && stands l r) (numbers n)
 
 -- how many more left blocks a set has than right blocks stand with any of them
 abbrev pub shortage : ℕ → (ℕ → ℕ → Bool) → (ℕ → Bool) → ℕ

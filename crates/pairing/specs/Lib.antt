@@ -5,3 +5,6 @@ pub mod Largest
 pub mod Chains
 pub mod Theorems
 pub mod Examples
+pub mod Rows
+pub mod Inside
+pub mod Places

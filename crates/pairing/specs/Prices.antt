@@ -1,12 +1,13 @@
 -- Prices of the blocks: they prove a pairing optimum, and show which other pairings are.
 use Rattle.std.specs.Prelude.{◌≡◌, ℕ, ◌<◌, true, List, length, ℤ}
+use Rattle.cost.specs.declared.TheConstants.{RAIL}
 use Rattle.cost.specs.Columns.{Within, zeros, plus}
 use Rattle.pairing.specs.Grid.{Grid, at, Upto}
 
--- what a value of a cost kind means: so many columns, each on the rail from -10^15 to 10^15
+-- what a value of a cost kind means: so many columns, each on the rail from -`RAIL` to `RAIL`
 pub record Value (columns : ℕ) (xs : List ℤ) : Type 0 where
   pub sized : length xs ≡ columns
-  pub railed : Within 1000000000000000 xs
+  pub railed : Within RAIL xs
 
 -- the pair costs its two prices, neither more nor less: it is tight
 abbrev pub TightPair : Grid → (left right : ℕ → List ℤ) → ℕ → ℕ → Type 0
@@ -16,19 +17,23 @@ TightPair g left right l r = plus (left l) (right r) ≡ g.cost l r
 abbrev pub Tight : Grid → (left right : ℕ → List ℤ) → List ℕ → Type 0
 Tight g left right p = (l : ℕ) → l < g.size → TightPair g left right l (at p l)
 
--- no standing pair costs less than its two prices, and the pairs of p cost just them (dual prices: feasible, and tight at p)
+-- no standing pair costs less than its two prices, and the pairs of p cost just them (dual prices:
+-- feasible, and tight at p)
 pub record Valid (g : Grid) (left right : ℕ → List ℤ) (p : List ℕ) : Type 0 where
   pub lefts : (l : ℕ) → l < g.size → Value g.columns (left l)
   pub rights : (r : ℕ) → r < g.size → Value g.columns (right r)
-  pub under : (l r : ℕ) → l < g.size → r < g.size → g.stands l r ≡ true → Upto (plus (left l) (right r)) (g.cost l r)
+  pub under : (l r : ℕ) → l < g.size → r < g.size → g.stands l r ≡ true
+      → Upto (plus (left l) (right r)) (g.cost l r)
   pub equal : Tight g left right p
 
 -- no right price is above zero
 abbrev pub Low : Grid → (right : ℕ → List ℤ) → Type 0
 Low g right = (r : ℕ) → r < g.size → Upto (right r) (zeros g.columns)
 
--- valid prices, no right price above zero, whose right prices are at least those of all other such prices, at each right block
+-- valid prices, no right price above zero, whose right prices are at least those of all other such
+-- prices, at each right block
 pub record Greatest (g : Grid) (left right : ℕ → List ℤ) (p : List ℕ) : Type 0 where
   pub valid : Valid g left right p
   pub low : Low g right
-  pub most : (left' right' : ℕ → List ℤ) → Valid g left' right' p → Low g right' → (r : ℕ) → r < g.size → Upto (right' r) (right r)
+  pub most : (left' right' : ℕ → List ℤ) → Valid g left' right' p → Low g right' → (r : ℕ)
+      → r < g.size → Upto (right' r) (right r)

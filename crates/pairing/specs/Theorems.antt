@@ -1,124 +1,208 @@
--- The theorems on pairings, prices, chains and counting that the calls lean on, each the contract of a function.
-use Rattle.std.specs.Prelude.{◌≡◌, ℕ, ◌+◌, ◌-◌, ◌<◌, ◌≤◌, Bool, true, false, not, ◌&&◌, ◌↔◌, List, [], ℤ, IsTrue, ◌≢◌}
+-- The theorems on pairings, prices, chains and counting that the calls lean on, each the contract
+-- of a function.
+use Rattle.std.specs.Prelude.{◌≡◌, ℕ, ◌+◌, ◌-◌, ◌<◌, ◌≤◌, Bool, true, false, ◌&&◌, ◌↔◌, List}
+use Rattle.std.specs.Prelude.{[], ℤ, IsTrue, ◌≢◌, Contains, AllPairs, length, nat_lt}
 use Rattle.std.specs.declared.cmp.Ordering.{Ordering}
 use Rattle.cost.specs.Columns.{minus, lex}
 use Rattle.pairing.specs.Grid.{Grid, Sane, at, Perfect, PerfectIn, total, Optimum}
 use Rattle.pairing.specs.Prices.{Valid, Tight, Greatest}
 use Rattle.blockset.specs.Sets.{members}
 use Rattle.pairing.specs.Largest.{Partial, pairs, Largest, Crowd, CrowdSet, around, shortage}
+use Rattle.pairing.specs.Largest.{Unpaired}
+use Rattle.pairing.specs.Inside.{SameInside}
 use Rattle.pairing.specs.Chains.{Reached, Stuck, Chain, Sends, Closed, Shut}
-use Rattle.pairing.specs.Optima.{In, Ascending, Distinct, optima, empty, Marked, marked}
+use Rattle.pairing.specs.Optima.{Before, perfects, optima, Paired, Marked, has_pair, is_marked}
 
 -- ---- Prices (weak duality and complementary slackness)
 
--- prices valid for a perfect pairing make it optimum; its total never compares as `never` with that of a perfect pairing
+-- prices valid for a perfect pairing make it optimum; its total never compares as `never` with that
+-- of a perfect pairing
 abbrev pub ProvesOptimum : Ordering → Type 0
 ProvesOptimum never =
-    (g : Grid) (left right : ℕ → List ℤ) (p : List ℕ) → Sane g → PerfectIn g p → Valid g left right p
+    (g : Grid) (left right : ℕ → List ℤ) (p : List ℕ) → Sane g → PerfectIn g p
+    → Valid g left right p
     → Optimum g p × ((q : List ℕ) → PerfectIn g q → lex (total g p) (total g q) ≢ never)
 
--- under prices valid for some perfect pairing, a perfect pairing is optimum exactly if it is tight: `optimum` tells it from `tight`
+-- under prices valid for some perfect pairing, a perfect pairing is optimum exactly if it is tight:
+-- `optimum` tells it from `tight`
 abbrev pub OptimumIfTight : (tight optimum : Bool) → Type 0
 OptimumIfTight tight optimum =
-    (g : Grid) (left right : ℕ → List ℤ) (p q : List ℕ) → Sane g → PerfectIn g p → Valid g left right p → PerfectIn g q
-    → (Tight g left right q ↔ Optimum g q) × ((IsTrue tight ↔ Tight g left right q) → (IsTrue optimum ↔ Optimum g q))
+    (g : Grid) (left right : ℕ → List ℤ) (p q : List ℕ) → Sane g → PerfectIn g p
+    → Valid g left right p → PerfectIn g q
+    → (Tight g left right q ↔ Optimum g q)
+    × ((IsTrue tight ↔ Tight g left right q) → (IsTrue optimum ↔ Optimum g q))
 
 -- whichever valid prices were taken, for whichever pairing, the same perfect pairings are tight
 abbrev pub TightAlike : (tight tight' : Bool) → Type 0
 TightAlike tight tight' =
-    (g : Grid) (left right left' right' : ℕ → List ℤ) (p p' q : List ℕ) → Sane g → PerfectIn g p → Valid g left right p
+    (g : Grid) (left right left' right' : ℕ → List ℤ) (p p' q : List ℕ) → Sane g → PerfectIn g p
+    → Valid g left right p
     → PerfectIn g p' → Valid g left' right' p' → PerfectIn g q
-    → (Tight g left right q ↔ Tight g left' right' q) × ((IsTrue tight ↔ Tight g left right q) → (IsTrue tight' ↔ Tight g left' right' q))
+    → (Tight g left right q ↔ Tight g left' right' q)
+    × ((IsTrue tight ↔ Tight g left right q) → (IsTrue tight' ↔ Tight g left' right' q))
 
 -- prices valid for one perfect pairing are valid for just the optimum pairings
 abbrev pub ValidAlike : (optimum valid : Bool) → Type 0
 ValidAlike optimum valid =
-    (g : Grid) (left right : ℕ → List ℤ) (p q : List ℕ) → Sane g → PerfectIn g p → Valid g left right p → PerfectIn g q
-    → (Optimum g q ↔ Valid g left right q) × ((IsTrue optimum ↔ Optimum g q) → (IsTrue valid ↔ Valid g left right q))
+    (g : Grid) (left right : ℕ → List ℤ) (p q : List ℕ) → Sane g → PerfectIn g p
+    → Valid g left right p → PerfectIn g q
+    → (Optimum g q ↔ Valid g left right q)
+    × ((IsTrue optimum ↔ Optimum g q) → (IsTrue valid ↔ Valid g left right q))
 
--- two systems of greatest prices, for two perfect pairings even, compare as `order` at each block and are the same;
--- the left prices are what the pairs cost beyond their right prices
+-- two systems of greatest prices, for two perfect pairings even, compare as `order` at each block
+-- and are the same; the left prices are what the pairs cost beyond their right prices
 abbrev pub GreatestAlike : Ordering → Type 0
 GreatestAlike order =
-    (g : Grid) (left right left' right' : ℕ → List ℤ) (p q : List ℕ) → Sane g → PerfectIn g p → PerfectIn g q → Greatest g left right p → Greatest g left' right' q
+    (g : Grid) (left right left' right' : ℕ → List ℤ) (p q : List ℕ) → Sane g → PerfectIn g p
+    → PerfectIn g q → Greatest g left right p → Greatest g left' right' q
     → (k : ℕ) → k < g.size
-    → (lex (right k) (right' k) ≡ order) × (lex (left k) (left' k) ≡ order) × (right k ≡ right' k) × (left k ≡ left' k) × (left k ≡ minus (g.cost k (at p k)) (right (at p k)))
+    → (lex (right k) (right' k) ≡ order) × (lex (left k) (left' k) ≡ order) × (right k ≡ right' k)
+    × (left k ≡ left' k) × (left k ≡ minus (g.cost k (at p k)) (right (at p k)))
 
 -- ---- Counting
 
--- As many left blocks get a right block of C from one perfect pairing as from another. So if each left block that gets one from p gets
--- one from q too, no other left block gets one from q: `given'`, whether p gives l one, is told from `given`, whether q does.
--- That is so if C is closed, and p and q are both of tight pairs.
+-- As many left blocks get a right block of C from one perfect pairing as from another. So if each
+-- left block that gets one from p gets one from q too, no other left block gets one from q:
+-- `given'`, whether p gives l one, is told from `given`, whether q does. That is so if C is closed,
+-- and p and q are both of tight pairs.
 pub record GivenAlike (given given' : Bool) : Type 0 where
-  pub alike : (n : ℕ) (stands stands' : ℕ → ℕ → Bool) (p q : List ℕ) → Perfect n stands p → Perfect n stands' q
-      → (C : ℕ → Bool) → ((l : ℕ) → l < n → C (at p l) ≡ true → C (at q l) ≡ true) → (l : ℕ) → l < n → C (at q l) ≡ given → C (at p l) ≡ given'
+  pub alike : (n : ℕ) (stands stands' : ℕ → ℕ → Bool) (p q : List ℕ) → Perfect n stands p
+      → Perfect n stands' q
+      → (C : ℕ → Bool) → ((l : ℕ) → l < n → C (at p l) ≡ true → C (at q l) ≡ true) → (l : ℕ) → l < n
+      → C (at q l) ≡ given → C (at p l) ≡ given'
   pub closed : (n : ℕ) (tight : ℕ → ℕ → Bool) (p q : List ℕ) → Perfect n tight p → Perfect n tight q
-      → (C : ℕ → Bool) → Closed n tight p C → (l : ℕ) → l < n → C (at q l) ≡ given → C (at p l) ≡ given'
+      → (C : ℕ → Bool) → Closed n tight p C → (l : ℕ) → l < n → C (at q l) ≡ given
+      → C (at p l) ≡ given'
 
--- a set of `many` left blocks that stand with no right block outside a set of `few`: every pairing leaves at least many - few of
--- them out, and so has at most n - (many - few) pairs
+-- a set of `many` left blocks that stand with no right block outside a set of `few`: every pairing
+-- leaves at least many - few of them out, and so has at most n - (many - few) pairs
 pub record LeavesOut (many few least : ℕ) : Type 0 where
   pub is : least ≡ many - few
-  pub bound : (n : ℕ) (stands : ℕ → ℕ → Bool) (X Y : ℕ → Bool) → Shut n stands X Y → members n X ≡ many → members n Y ≡ few
-      → (p : List ℕ) (out : ℕ → Bool) → Partial n stands p out → (least ≤ members n (λ l. X l && out l)) × (pairs n out + least ≤ n)
+  pub bound : (n : ℕ) (stands : ℕ → ℕ → Bool) (X Y : ℕ → Bool) → Shut n stands X Y
+      → members n X ≡ many → members n Y ≡ few
+      → (p : List ℕ) (out : ℕ → Bool) → Partial n stands p out
+      → (least ≤ members n (λ l. X l && out l)) × (pairs n out + least ≤ n)
 
--- Hall's condition, that such a set has no more left blocks than right blocks: where `possible` is false of one set no pairing is
--- perfect, and where every set meets it some pairing is
+-- Hall's condition, that such a set has no more left blocks than right blocks: where `possible` is
+-- false of one set no pairing is perfect, and where every set meets it some pairing is
 pub record Hall (many few : ℕ) (possible : Bool) : Type 0 where
   pub is : IsTrue possible ↔ (many ≤ few)
-  pub needed : (n : ℕ) (stands : ℕ → ℕ → Bool) (X Y : ℕ → Bool) → Shut n stands X Y → members n X ≡ many → members n Y ≡ few
+  pub needed : (n : ℕ) (stands : ℕ → ℕ → Bool) (X Y : ℕ → Bool) → Shut n stands X Y
+      → members n X ≡ many → members n Y ≡ few
       → possible ≡ false → (p : List ℕ) → Perfect n stands p → ⊥
-  pub enough : (n : ℕ) (stands : ℕ → ℕ → Bool) → ((X : ℕ → Bool) → members n X ≤ members n (around n stands X)) → (p : List ℕ) × Perfect n stands p
+  pub enough : (n : ℕ) (stands : ℕ → ℕ → Bool)
+      → ((X : ℕ → Bool) → members n X ≤ members n (around n stands X)) → (p : List ℕ)
+      × Perfect n stands p
 
 -- ---- Largest pairings
 
--- there is always a largest pairing, and a pairing is largest exactly if no augmenting path is left: `largest` tells it from `stuck`
+-- there is always a largest pairing, and a pairing is largest exactly if no augmenting path is
+-- left: `largest` tells it from `stuck`
 pub record LargestAre (stuck largest : Bool) (n : ℕ) (stands : ℕ → ℕ → Bool) : Type 0 where
   pub exists : (p : List ℕ) × (out : ℕ → Bool) × Largest n stands p out
-  pub are : (p : List ℕ) (out : ℕ → Bool) → Partial n stands p out → Stuck n stands p out ↔ Largest n stands p out
-  pub told : (p : List ℕ) (out : ℕ → Bool) → Partial n stands p out → (IsTrue stuck ↔ Stuck n stands p out) → (IsTrue largest ↔ Largest n stands p out)
+  pub are : (p : List ℕ) (out : ℕ → Bool) → Partial n stands p out → Stuck n stands p out
+      ↔ Largest n stands p out
+  pub told : (p : List ℕ) (out : ℕ → Bool) → Partial n stands p out
+      → (IsTrue stuck ↔ Stuck n stands p out) → (IsTrue largest ↔ Largest n stands p out)
 
 abbrev pub LargestIfStuck : (stuck largest : Bool) → Type 0
 LargestIfStuck stuck largest = (n : ℕ) (stands : ℕ → ℕ → Bool) → LargestAre stuck largest n stands
 
--- the crowd set is the set reached from the left blocks that a largest pairing leaves out, whichever largest pairing that is
+-- the crowd set is the set reached from the left blocks that a largest pairing leaves out,
+-- whichever largest pairing that is
 abbrev pub CrowdIfReached : (reached crowd : Bool) → Type 0
 CrowdIfReached reached crowd =
     (n : ℕ) (stands : ℕ → ℕ → Bool) (p : List ℕ) (out : ℕ → Bool) → Largest n stands p out → (l : ℕ)
-    → (Reached n stands p out l ↔ Crowd n stands l) × ((IsTrue reached ↔ Reached n stands p out l) → (IsTrue crowd ↔ Crowd n stands l))
+    → (Reached n stands p out l ↔ Crowd n stands l)
+    × ((IsTrue reached ↔ Reached n stands p out l) → (IsTrue crowd ↔ Crowd n stands l))
 
--- the crowd set is short of as many right blocks as a largest pairing leaves left blocks out, and that is none exactly if a pairing
--- is perfect
+-- the crowd set is short of as many right blocks as a largest pairing leaves left blocks out, and
+-- that is none exactly if a pairing is perfect
 abbrev pub ShortBy : (left_out short : ℕ) → Type 0
 ShortBy left_out short =
-    (n : ℕ) (stands : ℕ → ℕ → Bool) (p : List ℕ) (out X : ℕ → Bool) → Largest n stands p out → members n out ≡ left_out → CrowdSet n stands X
-    → (shortage n stands X ≡ short) × (members n X ≡ members n (around n stands X) + short) × ((short ≡ 0) ↔ ((q : List ℕ) × Perfect n stands q))
+    (n : ℕ) (stands : ℕ → ℕ → Bool) (p : List ℕ) (out X : ℕ → Bool) → Largest n stands p out
+    → members n out ≡ left_out → CrowdSet n stands X
+    → (shortage n stands X ≡ short) × (members n X ≡ members n (around n stands X) + short)
+    × ((short ≡ 0) ↔ ((q : List ℕ) × Perfect n stands q))
 
 -- ---- Exchange along a chain
 
--- over a perfect pairing p of tight pairs, some perfect pairing of tight pairs that keeps what p gives below k gives l the right block r
--- exactly if l and r are tight and a chain leads from r to the right block that p gives l: `sends` tells it from `chain`
+-- over a perfect pairing p of tight pairs, some perfect pairing of tight pairs that keeps what p
+-- gives below k gives l the right block r exactly if l and r are tight and a chain leads from r to
+-- the right block that p gives l: `sends` tells it from `chain`
 abbrev pub SendsIfChain : (chain sends : Bool) → Type 0
 SendsIfChain chain sends =
-    (n k : ℕ) (tight : ℕ → ℕ → Bool) (p : List ℕ) → Perfect n tight p → (l r : ℕ) → k ≤ l → l < n → r < n
+    (n k : ℕ) (tight : ℕ → ℕ → Bool) (p : List ℕ) → Perfect n tight p → (l r : ℕ) → k ≤ l → l < n
+    → r < n
     → (((tight l r ≡ true) × Chain n k tight p r (at p l)) ↔ Sends n k tight p l r)
-    × ((IsTrue chain ↔ ((tight l r ≡ true) × Chain n k tight p r (at p l))) → (IsTrue sends ↔ Sends n k tight p l r))
+    × ((IsTrue chain ↔ ((tight l r ≡ true) × Chain n k tight p r (at p l)))
+    → (IsTrue sends ↔ Sends n k tight p l r))
 
--- ---- The list of all optimum pairings
+-- ---- The lists of all perfect and of all optimum pairings
 
--- it holds just the optimum pairings, in dictionary order and none twice, which makes it the only such list; it is empty exactly if no
--- pairing is perfect: `found` tells from `perfect` whether it holds any
+-- the list holds just what has the property, in dictionary order and none twice, which makes it the
+-- only such list
+pub record IsListOf (P : List ℕ → Type 0) (ps : List (List ℕ)) : Type 0 where
+  pub are : (p : List ℕ) → Contains ps p ↔ P p
+  pub ascend : AllPairs Before ps
+  pub distinct : AllPairs ◌≢◌ ps
+  pub only : (qs : List (List ℕ)) → AllPairs Before qs → ((p : List ℕ) → Contains qs p ↔ P p)
+      → qs ≡ ps
+
+-- `perfects` is the list of the perfect pairings; it is empty exactly if no pairing is perfect:
+-- `found` tells from `perfect` whether it holds any
+pub record PerfectsHold (perfect found : Bool) (n : ℕ) (stands : ℕ → ℕ → Bool) : Type 0 where
+  pub list : IsListOf (Perfect n stands) (perfects n stands)
+  pub none : (perfects n stands ≡ []) ↔ ((p : List ℕ) → Perfect n stands p → ⊥)
+  pub told : (IsTrue perfect ↔ ((p : List ℕ) × Perfect n stands p))
+      → nat_lt 0 (length (perfects n stands)) ≡ found
+
+abbrev pub PerfectsAre : (perfect found : Bool) → Type 0
+PerfectsAre perfect found = (n : ℕ) (stands : ℕ → ℕ → Bool) → PerfectsHold perfect found n stands
+
+-- the test on the list tells whether some perfect pairing has a pair
+abbrev pub PairsAre : (listed paired : Bool) → Type 0
+PairsAre listed paired = (n : ℕ) (stands : ℕ → ℕ → Bool) (l r : ℕ) → l < n
+    → has_pair l r (perfects n stands) ≡ listed → (IsTrue paired ↔ Paired n stands l r)
+
+-- `optima` is the list of the optimum pairings; it is empty exactly if no pairing is perfect:
+-- `found` tells from `perfect` whether it holds any
 pub record OptimaHold (perfect found : Bool) (g : Grid) : Type 0 where
-  pub are : (p : List ℕ) → In p (optima g) ↔ Optimum g p
-  pub ascend : Ascending (optima g)
-  pub distinct : Distinct (optima g)
-  pub only : (ps : List (List ℕ)) → Ascending ps → ((p : List ℕ) → In p ps ↔ Optimum g p) → ps ≡ optima g
+  pub list : IsListOf (Optimum g) (optima g)
   pub none : Sane g → (optima g ≡ []) ↔ ((p : List ℕ) → PerfectIn g p → ⊥)
-  pub told : Sane g → (IsTrue perfect ↔ ((p : List ℕ) × PerfectIn g p)) → empty (optima g) ≡ not found
+  pub told : Sane g → (IsTrue perfect ↔ ((p : List ℕ) × PerfectIn g p))
+      → nat_lt 0 (length (optima g)) ≡ found
 
 abbrev pub OptimaAre : (perfect found : Bool) → Type 0
 OptimaAre perfect found = (g : Grid) → OptimaHold perfect found g
 
 -- the test on the list tells whether some optimum pairing has a pair
-abbrev pub MarksAre : (listed marked' : Bool) → Type 0
-MarksAre listed marked' = (g : Grid) (l r : ℕ) → marked g l r ≡ listed → (IsTrue marked' ↔ Marked g l r)
+abbrev pub MarksAre : (listed marked : Bool) → Type 0
+MarksAre listed marked = (g : Grid) (l r : ℕ) → is_marked g l r ≡ listed
+    → (IsTrue marked ↔ Marked g l r)
+
+-- ---- What a grid says of other pairs never matters
+
+-- grids that are the same inside have the same pairings, optimum pairings, prices and crowd sets:
+-- `there`, whether a pairing is optimum in h, is told from `here`, whether it is in g
+pub record AlikeInside (here there : Bool) (g h : Grid) : Type 0 where
+  pub sane : Sane g ↔ Sane h
+  pub perfect : (p : List ℕ) → PerfectIn g p ↔ PerfectIn h p
+  pub perfects : perfects g.size g.stands ≡ perfects h.size h.stands
+  pub totals : (p : List ℕ) → PerfectIn g p → total g p ≡ total h p
+  pub optimum : (p : List ℕ) → Optimum g p ↔ Optimum h p
+  pub optima : optima g ≡ optima h
+  pub valid : (left right : ℕ → List ℤ) (p : List ℕ) → PerfectIn g p
+      → Valid g left right p ↔ Valid h left right p
+  pub greatest : (left right : ℕ → List ℤ) (p : List ℕ) → PerfectIn g p
+      → Greatest g left right p ↔ Greatest h left right p
+  pub largest : (p : List ℕ) (out : ℕ → Bool)
+      → Largest g.size g.stands p out ↔ Largest h.size h.stands p out
+  pub unpaired : (crowd short : ℕ)
+      → Unpaired g.size g.stands crowd short ↔ Unpaired h.size h.stands crowd short
+  pub marked : (l r : ℕ) → Marked g l r ↔ Marked h l r
+  pub is_marked : (l r : ℕ) → is_marked g l r ≡ is_marked h l r
+  pub told : (p : List ℕ) → (IsTrue here ↔ Optimum g p) → (IsTrue there ↔ Optimum h p)
+
+abbrev pub InsideMatters : (here there : Bool) → Type 0
+InsideMatters here there = (g h : Grid) → SameInside g h → AlikeInside here there g h

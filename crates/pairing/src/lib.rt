@@ -3,7 +3,11 @@
 #![tactic(auto)]
 
 ghost use Rattle.pairing.specs.Examples.{Examples};
-ghost use Rattle.pairing.specs.Theorems.{ProvesOptimum, OptimumIfTight, TightAlike, ValidAlike, GreatestAlike, GivenAlike, LeavesOut, Hall, LargestIfStuck, CrowdIfReached, ShortBy, SendsIfChain, OptimaAre, MarksAre};
+ghost use Rattle.pairing.specs.Theorems.{ProvesOptimum, OptimumIfTight, TightAlike, ValidAlike};
+ghost use Rattle.pairing.specs.Theorems.{GreatestAlike, GivenAlike, LeavesOut, Hall};
+ghost use Rattle.pairing.specs.Theorems.{LargestIfStuck, CrowdIfReached, ShortBy, SendsIfChain};
+ghost use Rattle.pairing.specs.Theorems.{PerfectsAre, PairsAre, OptimaAre, MarksAre};
+ghost use Rattle.pairing.specs.Theorems.{InsideMatters};
 
 use std::cmp::Ordering;
 
@@ -98,6 +102,20 @@ pub fn sends_if_chain(chain: bool) -> bool
     chain
 }
 
+/// Whether the list of all perfect pairings holds any, told whether any pairing is perfect.
+pub fn listed_if_any(any: bool) -> bool
+    ensures { PerfectsAre any result }
+{
+    any
+}
+
+/// Whether some perfect pairing has a pair, told whether one in the list has it.
+pub fn paired_if_in_list(in_list: bool) -> bool
+    ensures { PairsAre in_list result }
+{
+    in_list
+}
+
 /// Whether the list of all optimum pairings holds any, told whether any pairing is perfect.
 pub fn found_if_perfect(perfect: bool) -> bool
     ensures { OptimaAre perfect result }
@@ -110,6 +128,14 @@ pub fn marked_if_listed(listed: bool) -> bool
     ensures { MarksAre listed result }
 {
     listed
+}
+
+/// Whether a pairing is optimum in a grid, told whether it is in another one that is the same
+/// inside: nothing that a grid says of other pairs matters.
+pub fn optimum_if_same_inside(in_other: bool) -> bool
+    ensures { InsideMatters in_other result }
+{
+    in_other
 }
 
 /// A pair of a left and a right block.

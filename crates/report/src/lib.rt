@@ -1,18 +1,22 @@
 //! Order files as text: what a file states, or why it is refused.
 #![tactic(auto)]
 
-ghost use Rattle.std.specs.Prelude.{◌≡◌, ◌<◌, ◌++◌, IfOk, OnOk, Some, string_bytes};
+ghost use Rattle.std.specs.Prelude.{◌≡◌, ◌<◌, ◌++◌, length, IfOk, OnOk, Some, string_bytes};
+ghost use Rattle.sheet.specs.Size.{size_of};
 ghost use Rattle.orderfile.specs.Format.{Order, States};
-ghost use Rattle.orderfile.specs.Loading.{Fitting};
+ghost use Rattle.tables.specs.PairTables.{HavePlaces};
 ghost use Rattle.report.specs.Describing.{Describes};
 ghost use Rattle.report.specs.Text.{pair_line, cost_in, row_lines, all_lines, sheet_text, refusal};
 
+mod input;
+
 use cost::Plain;
-use grid::pairs_of;
+pub use input::{MOST_BYTES, describe_input};
 use orderfile::loading::{check, load};
 use sheet::fault::Fault;
 use sheet::state::OpenSheet;
 use std::alloc::{AllocError, Global};
+use tables::places;
 
 /// The line that tells a refusal: `refused NUMBER at PLACE layer LAYER`.
 pub fn refusal_line(heap: Global, fault: Fault) -> Result<String, AllocError>
@@ -30,9 +34,10 @@ fn push_pair(
     left: u16,
     right: u16,
 ) -> Result<(), AllocError>
-    requires fitting { Fitting sheet.now costs.now standing.now }
-    requires inside { (left < sheet.now) × (right < sheet.now) }
-    ensures { OnOk result (string_bytes text.new ≡ string_bytes text.old ++ pair_line left right (cost_in sheet.now costs.now standing.now left right)) }
+    requires places { HavePlaces (size_of sheet.now) (length costs.now) (length standing.now) }
+    requires inside { (left < size_of sheet.now) × (right < size_of sheet.now) }
+    ensures { OnOk result (string_bytes text.new ≡ string_bytes text.old ++ pair_line left right
+        (cost_in (size_of sheet.now) costs.now standing.now left right)) }
 {
     if let Ok(cost) = sheet.read(costs, standing, left, right) {
         let Plain(cost) = cost;
@@ -49,9 +54,10 @@ fn push_row(
     standing: &[u8],
     left: u16,
 ) -> Result<(), AllocError>
-    requires fitting { Fitting sheet.now costs.now standing.now }
-    requires inside { left < sheet.now }
-    ensures { OnOk result (string_bytes text.new ≡ string_bytes text.old ++ row_lines sheet.now costs.now standing.now left sheet.now) }
+    requires places { HavePlaces (size_of sheet.now) (length costs.now) (length standing.now) }
+    requires inside { left < size_of sheet.now }
+    ensures { OnOk result (string_bytes text.new ≡ string_bytes text.old
+        ++ row_lines (size_of sheet.now) costs.now standing.now left (size_of sheet.now)) }
 {
     for right in 0..sheet.size() {
         push_pair(text, sheet, costs, standing, left, right)?;
@@ -66,8 +72,9 @@ fn push_rows(
     costs: &[Plain],
     standing: &[u8],
 ) -> Result<(), AllocError>
-    requires { Fitting sheet.now costs.now standing.now }
-    ensures { OnOk result (string_bytes text.new ≡ string_bytes text.old ++ all_lines sheet.now costs.now standing.now sheet.now) }
+    requires { HavePlaces (size_of sheet.now) (length costs.now) (length standing.now) }
+    ensures { OnOk result (string_bytes text.new ≡ string_bytes text.old
+        ++ all_lines (size_of sheet.now) costs.now standing.now (size_of sheet.now)) }
 {
     for left in 0..sheet.size() {
         push_row(text, sheet, costs, standing, left)?;
@@ -82,8 +89,9 @@ fn tell(
     costs: &[Plain],
     standing: &[u8],
 ) -> Result<String, AllocError>
-    requires { Fitting sheet.now costs.now standing.now }
-    ensures { IfOk result (λ text. string_bytes text ≡ sheet_text sheet.now costs.now standing.now) }
+    requires { HavePlaces (size_of sheet.now) (length costs.now) (length standing.now) }
+    ensures { IfOk result
+        (λ text. string_bytes text ≡ sheet_text (size_of sheet.now) costs.now standing.now) }
 {
     let n = sheet.size();
     let mut text = format!(in heap; "size {n}\n")?;
@@ -99,7 +107,8 @@ fn load_and_tell(
     costs: &mut [Plain],
     standing: &mut [u8],
 ) -> Result<String, AllocError>
-    requires { (order : Order) → States file.now order → Fitting order.size costs.old standing.old }
+    requires { (order : Order) → States file.now order
+        → HavePlaces order.size (length costs.old) (length standing.old) }
     ensures { IfOk result (λ text. Describes file.now (string_bytes text)) }
 {
     match load(file, costs, standing) {
@@ -108,15 +117,15 @@ fn load_and_tell(
     }
 }
 
-/// What an order file states, as text: `size N`, then `pair L R COST` for each standing pair by left
-/// and right block, then `end`, a line each; or else the line of its first fault.
+/// What an order file states, as text: `size N`, then `pair L R COST` for each standing pair by
+/// left and right block, then `end`, a line each; or else the line of its first fault.
 pub fn describe(heap: Global, file: &[u8]) -> Result<String, AllocError>
     ensures { IfOk result (λ text. Describes file.now (string_bytes text)) }
 {
     match check(file) {
         Ok(n) => {
-            let mut costs = vec![in heap; Plain(0); pairs_of(n)]?;
-            let mut standing = vec![in heap; 0u8; pairs_of(n)]?;
+            let mut costs = vec![in heap; Plain(0); places(n)]?;
+            let mut standing = vec![in heap; 0u8; places(n)]?;
             load_and_tell(heap, file, costs.as_mut_slice(), standing.as_mut_slice())
         }
         Err(fault) => refusal_line(heap, fault),

@@ -1,7 +1,9 @@
 -- The number of each cause and of each layer of a refusal.
 use Rattle.std.specs.Prelude.{ℕ}
 use Rattle.sheet.specs.declared.fault.Cause.{Cause}
-use Rattle.sheet.specs.declared.fault.Cause.TheVariants.{Size, TableLength, Block, CostRange, Absent, NoPerfectPairing, Inconsistent, Overrun, Tag, FieldLength, ShortBuffer}
+use Rattle.sheet.specs.declared.fault.Cause.TheVariants.{Size, TableLength, Block, CostRange}
+use Rattle.sheet.specs.declared.fault.Cause.TheVariants.{Absent, NoPerfectPairing, Inconsistent}
+use Rattle.sheet.specs.declared.fault.Cause.TheVariants.{Overrun, Tag, FieldLength, ShortBuffer}
 use Rattle.sheet.specs.declared.fault.Layer.{Layer}
 use Rattle.sheet.specs.declared.fault.Layer.TheVariants.{Field, Record, Sheet}
 

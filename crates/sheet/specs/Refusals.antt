@@ -1,5 +1,6 @@
 -- Refusals: the checks of a call in their order, and what a refused call answers and leaves.
-use Rattle.std.specs.Prelude.{ℕ, Bool, cond, not, List, [], ◌∷◌, ◌++◌, codes, decimal, Some, None, Ok, Err, Option, Result, ◌==◌}
+use Rattle.std.specs.Prelude.{ℕ, Bool, not, List, [], ◌∷◌, ◌++◌, codes, decimal, Some, None}
+use Rattle.std.specs.Prelude.{Ok, Err, Option, Result, ◌==◌, if◌then◌else◌}
 use Rattle.sheet.specs.declared.fault.Cause.{Cause}
 use Rattle.sheet.specs.declared.fault.Fault.{Fault}
 use Rattle.sheet.specs.Numbers.{cause_number, layer_number, layer_of}
@@ -10,15 +11,18 @@ fault cause place = record { cause = cause; place = place; layer = layer_of caus
 
 -- what tells a refusal: `refused NUMBER at PLACE layer LAYER`
 abbrev pub refusal_text : Fault → List ℕ
-refusal_text f = codes "refused " ++ (decimal (cause_number f.cause) ++ (codes " at " ++ (decimal f.place ++ (codes " layer " ++ decimal (layer_number f.layer)))))
+refusal_text f = codes "refused "
+    ++ (decimal (cause_number f.cause)
+    ++ (codes " at " ++ (decimal f.place ++ (codes " layer " ++ decimal (layer_number f.layer)))))
 
 -- the checks of a call, in order: the first that holds refuses
 abbrev pub first_of : List (Bool × Fault) → Option Fault
 first_of [] = None
-first_of (check ∷ checks) = cond check.0 (Some check.1) (first_of checks)
+first_of (check ∷ checks) = (if check.0 then Some check.1 else first_of checks)
 
-abbrev pub unlike : ℕ → ℕ → Bool
-unlike a b = not (a == b)
+-- two numbers differ
+abbrev pub differ : ℕ → ℕ → Bool
+differ a b = not (a == b)
 
 -- the answer of a call: a refusal if there is one, else r
 abbrev pub answer : {R : Type 0} → Option Fault → R → Result R Fault

@@ -1,4 +1,5 @@
-//! A sheet of costs over tables that the caller lends: its states, the calls on it, and why a call is refused.
+//! A sheet of costs over tables that the caller lends: its states, the calls on it, and why a call
+//! is refused.
 #![tactic(auto)]
 
 pub mod fault;

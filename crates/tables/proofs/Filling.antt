@@ -1,16 +1,22 @@
--- Filling rows of right blocks by a test: one row, a right block after the other, and the rows of a table, a row after the other.
--- Idea: a right block that passes is put in, and one that fails was not in yet, so in both cases the row is right one right block further.
--- A row is filled from its part of each table, in which right block r stands at place r.
-use Rattle.std.proofs.Common.{◌≡◌, ℕ, ◌+◌, ◌-◌, ◌*◌, ◌<◌, ◌≤◌, Bool, false, ◌&&◌, ltb, List, [], map, length, get_or, take, drop, set, ℤ, sym, ap, ◌∙◌, inl, inr, add-mul, one-mul, arith}
-use Rattle.std.proofs.lemmas.List.{get_or-set_same, get_or-set_other, get_or-take, get_or-drop, get_or-map, take-map, drop-map, length-map, length-take, length-drop}
+-- Filling rows of right blocks by a test: one row, a right block after the other, and the rows of a
+-- table, a row after the other.
+-- Idea: a right block that passes is put in, and one that fails was not in yet, so in both cases
+-- the row is right one right block further. A row is filled from its part of each table, in which
+-- right block r stands at place r.
+use Rattle.std.proofs.Common.{◌≡◌, ℕ, ◌+◌, ◌-◌, ◌*◌, ◌<◌, ◌≤◌, Bool, false, ◌&&◌, ltb, List, []}
+use Rattle.std.proofs.Common.{map, length, get_or, take, drop, set, ℤ, sym, ap, ◌∙◌, inl, inr}
+use Rattle.std.proofs.Common.{add-mul, one-mul, arith}
+use Rattle.std.proofs.lemmas.List.{get_or-set_same, get_or-set_other, get_or-take, get_or-drop}
+use Rattle.std.proofs.lemmas.List.{get_or-map, take-map, drop-map, length-map, length-take}
+use Rattle.std.proofs.lemmas.List.{length-drop}
 use Rattle.std.proofs.lemmas.Nat.{mul-le}
 use Rattle.std.proofs.lemmas.Bool.Decides.{nat_tests}
 use Rattle.std.proofs.lemmas.Bool.{cases_eq, cases_lt, le-ltb}
 use Rattle.blockset.specs.declared.BlockSet.{BlockSet}
 use Rattle.blockset.specs.Has.{has}
-use Rattle.matching.specs.Rows.{holds}
+use Rattle.pairing.specs.Rows.{holds}
 use Rattle.tables.specs.Said.{columns_at}
-use Rattle.tables.specs.Rows.{Passing}
+use Rattle.tables.specs.PairRows.{Passing}
 
 module _ (row : BlockSet) (k : ℕ) (test : ℕ → Bool) (filled : Passing k test row) where
   pub left_out : test k ≡ false → Passing (k + 1) test row
@@ -38,33 +44,44 @@ agree_below n r a b e = elim (cases_lt r n) [
 ]
 
 -- one row more, filled by a test over its own part of the tables
-pub row_made : (n l : ℕ) (test : ℕ → ℕ → Bool) (own : ℕ → Bool) (rows : List BlockSet) (row : BlockSet) → n ≤ 64 → l < length rows
-    → Made l n test rows → Passing n own row → ((r : ℕ) → r < n → own r ≡ test l r) → Made (l + 1) n test (set rows l row)
+pub row_made : (n l : ℕ) (test : ℕ → ℕ → Bool) (own : ℕ → Bool) (rows : List BlockSet)
+    (row : BlockSet) → n ≤ 64 → l < length rows
+    → Made l n test rows → Passing n own row → ((r : ℕ) → r < n → own r ≡ test l r)
+    → Made (l + 1) n test (set rows l row)
 row_made n l test own rows row small inside made filled same m r below = elim (cases_eq m l) [
   | inl e ↦
-      ap (λ k. holds (set rows l row) k r) e ∙ ap (λ s. has s r) (get_or-set_same rows l row _ inside)
-      ∙ filled r ∙ few n r (own r) small ∙ agree_below n r (own r) (test l r) (same r) ∙ ap (λ k. ltb r n && test k r) (sym e)
+      ap (λ k. holds (set rows l row) k r) e
+      ∙ ap (λ s. has s r) (get_or-set_same rows l row _ inside)
+      ∙ filled r ∙ few n r (own r) small ∙ agree_below n r (own r) (test l r) (same r)
+      ∙ ap (λ k. ltb r n && test k r) (sym e)
   | inr ne ↦ ap (λ s. has s r) (get_or-set_other rows l m row _ ne) ∙ made m r (omega arith)
 ]
 
 -- the part of a table that belongs to left block l
 module _ {X : Type 0} (xs : List X) (n l : ℕ) (inside : l < n) (whole : length xs ≡ n * n) where
   pub row_end : l * n + n ≤ length xs
-  row_end = let h : (l + 1) * n ≤ n * n = mul-le (l + 1) n n n (omega arith) (omega arith) in omega (arith, add-mul l 1 n, one-mul n)
+  row_end = let h : (l + 1) * n ≤ n * n = mul-le (l + 1) n n n (omega arith) (omega arith) in
+      omega (arith, add-mul l 1 n, one-mul n)
 
   pub row_length : length (take (l * n + n - l * n) (drop (l * n) xs)) ≡ n
   row_length = simp (length-take, length-drop) (omega (arith, row_end))
 
-  pub row_at : (r : ℕ) (d : X) → r < n → get_or (take (l * n + n - l * n) (drop (l * n) xs)) r d ≡ get_or xs (l * n + r) d
-  row_at r d below = get_or-take (l * n + n - l * n) (drop (l * n) xs) r d (omega arith) ∙ get_or-drop (l * n) xs r d
+  pub row_at : (r : ℕ) (d : X) → r < n → get_or (take (l * n + n - l * n) (drop (l * n) xs)) r
+      d ≡ get_or xs (l * n + r) d
+  row_at r d below = get_or-take (l * n + n - l * n) (drop (l * n) xs) r d (omega arith)
+      ∙ get_or-drop (l * n) xs r d
 
 -- the same of the columns of its values
-pub columns_at_lem : {K : Type 0} (meaning : K → List ℤ) (xs : List K) (n l : ℕ) → l < n → length xs ≡ n * n → (r : ℕ) → r < n
-    → columns_at meaning (take (l * n + n - l * n) (drop (l * n) xs)) r ≡ columns_at meaning xs (l * n + r)
+pub columns_at_lem : {K : Type 0} (meaning : K → List ℤ) (xs : List K) (n l : ℕ) → l < n
+    → length xs ≡ n * n → (r : ℕ) → r < n
+    → columns_at meaning (take (l * n + n - l * n) (drop (l * n) xs)) r ≡ columns_at meaning xs
+    (l * n + r)
 columns_at_lem meaning xs n l inside whole r below =
-    ap (λ ys. get_or ys r []) (sym (take-map meaning (l * n + n - l * n) (drop (l * n) xs)) ∙ ap (take (l * n + n - l * n)) (sym (drop-map meaning (l * n) xs)))
+    ap (λ ys. get_or ys r []) (sym (take-map meaning (l * n + n - l * n) (drop (l * n) xs))
+    ∙ ap (take (l * n + n - l * n)) (sym (drop-map meaning (l * n) xs)))
     ∙ row_at (map meaning xs) n l inside (length-map xs meaning ∙ whole) r [] below
 
 -- a value that was read from a table
-pub value_at : {K : Type 0} (meaning : K → List ℤ) (table : List K) (k : ℕ) (x : K) → k < length table → x ≡ get_or table k x → meaning x ≡ columns_at meaning table k
+pub value_at : {K : Type 0} (meaning : K → List ℤ) (table : List K) (k : ℕ) (x : K)
+    → k < length table → x ≡ get_or table k x → meaning x ≡ columns_at meaning table k
 value_at meaning table k x h e = ap meaning e ∙ sym (get_or-map meaning table k x [] h)

@@ -1,76 +1,107 @@
 -- The test that pair tables are in order tells just that, and the grid of such tables is sane.
--- Idea: the test asks the same of every place, so it is an induction over the tables; the pair of l and r has its own place.
-use Rattle.std.proofs.Common.{◌≡◌, ℕ, zero, suc, ◌*◌, ◌<◌, ◌≤◌, true, not, ◌||◌, List, [], ◌∷◌, length, get_or, ℤ, Decides, refl, inl, inr, arith}
+-- Idea: the test asks the same of every place, so it is an induction over the tables; the pair of l
+-- and r has its own place.
+use Rattle.std.proofs.Common.{◌≡◌, ℕ, zero, suc, ◌<◌, ◌≤◌, true, false, not, ◌||◌, List, [], ◌∷◌}
+use Rattle.std.proofs.Common.{length, get_or, ℤ, Decides, refl, inl, inr, arith}
 use Rattle.std.proofs.lemmas.Nat.{mul-add-lt}
-use Rattle.std.proofs.lemmas.Bool.{and_parts, and_from, cases_Bool, or_cases, or_left, or_right, not-true, not_from_false, both_ways, ltb-false, le-ltb}
+use Rattle.std.proofs.lemmas.Bool.{and_parts, and_from, cases_Bool, or_cases, or_left, or_right}
+use Rattle.std.proofs.lemmas.Bool.{not-true, not_from_false, both_ways}
 use Rattle.cost.specs.Columns.{Within, within}
 use Rattle.cost.proofs.Exact.{within_tells}
-use Rattle.grid.specs.Tables.{place_of, says_stands, says_disturbed, place_orderly, orderly}
+use Rattle.tables.specs.PairTables.{says_stands, says_disturbed, is_place_in_order, in_order}
+use Rattle.pairing.specs.Places.{place_of, places_of}
 use Rattle.pairing.specs.Grid.{Sane}
-use Rattle.tables.specs.Said.{columns_at, grid_of, Ordered}
+use Rattle.tables.specs.Said.{columns_at, grid_of, IsInOrder}
 
-place_tells : (columns : List ℤ) (byte : ℕ) → Decides (place_orderly columns byte) ((byte ≤ 1) × (says_stands byte ≡ true → Within 1000000000 columns))
+place_tells : (columns : List ℤ) (byte : ℕ) → Decides (is_place_in_order columns byte)
+    ((says_disturbed byte ≡ false) × (says_stands byte ≡ true → Within 1000000000 columns))
 place_tells columns byte = (tells, from)
   where
-    tells : place_orderly columns byte ≡ true → (byte ≤ 1) × (says_stands byte ≡ true → Within 1000000000 columns)
+    tells : is_place_in_order columns byte ≡ true → (says_disturbed byte ≡ false)
+        × (says_stands byte ≡ true → Within 1000000000 columns)
     tells e =
-        let both = and_parts (not (says_disturbed byte)) (not (says_stands byte) || within 1000000000 columns) e in (
-          ltb-false 1 byte (not-true (says_disturbed byte) both.0),
+        let both = and_parts (not (says_disturbed byte))
+        (not (says_stands byte) || within 1000000000 columns) e in (
+          not-true (says_disturbed byte) both.0,
           λ stands. elim (or_cases (not (says_stands byte)) (within 1000000000 columns) both.1) [
-            | inl absent ↦ absurd (both_ways (says_stands byte) (not-true (says_stands byte) absent) stands)
+            | inl absent ↦
+                absurd (both_ways (says_stands byte) (not-true (says_stands byte) absent) stands)
             | inr small ↦ (within_tells 1000000000 columns).0 small
           ],
         )
 
-    from : (byte ≤ 1) × (says_stands byte ≡ true → Within 1000000000 columns) → place_orderly columns byte ≡ true
+    from : (says_disturbed byte ≡ false) × (says_stands byte ≡ true → Within 1000000000 columns)
+        → is_place_in_order columns byte ≡ true
     from h =
-        and_from (not (says_disturbed byte)) (not (says_stands byte) || within 1000000000 columns) (not_from_false (says_disturbed byte) (le-ltb 1 byte h.0))
+        and_from (not (says_disturbed byte)) (not (says_stands byte) || within 1000000000 columns)
+        (not_from_false (says_disturbed byte) h.0)
         (elim (cases_Bool (says_stands byte)) [
-          | inl stands ↦ or_right (not (says_stands byte)) (within 1000000000 columns) ((within_tells 1000000000 columns).1 (h.1 stands))
-          | inr absent ↦ or_left (not (says_stands byte)) (within 1000000000 columns) (not_from_false (says_stands byte) absent)
+          | inl stands ↦ or_right (not (says_stands byte)) (within 1000000000 columns)
+              ((within_tells 1000000000 columns).1 (h.1 stands))
+          | inr absent ↦ or_left (not (says_stands byte)) (within 1000000000 columns)
+              (not_from_false (says_stands byte) absent)
         ])
 
 module _ {K : Type 0} (meaning : K → List ℤ) where
-  passes : (costs : List K) (bytes : List ℕ) (places : ℕ) → length costs ≡ places → length bytes ≡ places → orderly meaning costs bytes ≡ true
-      → (k : ℕ) → k < places → place_orderly (columns_at meaning costs k) (get_or bytes k 0) ≡ true
+  passes : (costs : List K) (bytes : List ℕ) (places : ℕ) → length costs ≡ places
+      → length bytes ≡ places → in_order meaning costs bytes ≡ true
+      → (k : ℕ) → k < places → is_place_in_order (columns_at meaning costs k)
+      (get_or bytes k 0) ≡ true
   passes [] bytes places ec eb e k h = absurd (omega arith)
   passes (c ∷ costs) [] places ec eb e k h = absurd (omega arith)
-  passes (c ∷ costs) (b ∷ bytes) places ec eb e zero h = (and_parts (place_orderly (meaning c) b) (orderly meaning costs bytes) e).0
+  passes (c ∷ costs) (b ∷ bytes) places ec eb e zero h =
+      (and_parts (is_place_in_order (meaning c) b) (in_order meaning costs bytes) e).0
   passes (c ∷ costs) (b ∷ bytes) places ec eb e (suc k) h =
-      passes costs bytes (length costs) refl (omega arith) (and_parts (place_orderly (meaning c) b) (orderly meaning costs bytes) e).1 k (omega arith)
+      passes costs bytes (length costs) refl (omega arith)
+      (and_parts (is_place_in_order (meaning c) b) (in_order meaning costs bytes) e).1 k
+      (omega arith)
 
-  passed : (costs : List K) (bytes : List ℕ) (places : ℕ) → length costs ≡ places → length bytes ≡ places
-      → ((k : ℕ) → k < places → place_orderly (columns_at meaning costs k) (get_or bytes k 0) ≡ true) → orderly meaning costs bytes ≡ true
+  passed : (costs : List K) (bytes : List ℕ) (places : ℕ) → length costs ≡ places
+      → length bytes ≡ places
+      → ((k : ℕ) → k < places → is_place_in_order (columns_at meaning costs k)
+      (get_or bytes k 0) ≡ true) → in_order meaning costs bytes ≡ true
   passed [] bytes places ec eb each = refl
   passed (c ∷ costs) [] places ec eb each = refl
   passed (c ∷ costs) (b ∷ bytes) places ec eb each =
-      and_from (place_orderly (meaning c) b) (orderly meaning costs bytes) (each 0 (omega arith))
+      and_from (is_place_in_order (meaning c) b) (in_order meaning costs bytes)
+      (each 0 (omega arith))
       (passed costs bytes (length costs) refl (omega arith) (λ k h. each (suc k) (omega arith)))
 
-  pub orderly_tells : (costs : List K) (standing : List ℕ) (places : ℕ) → length costs ≡ places → length standing ≡ places
-      → Decides (orderly meaning costs standing) (Ordered meaning places costs standing)
-  orderly_tells costs standing places ec eb = (
+  pub in_order_tells : (costs : List K) (standing : List ℕ) (places : ℕ) → length costs ≡ places
+      → length standing ≡ places
+      → Decides (in_order meaning costs standing) (IsInOrder meaning places costs standing)
+  in_order_tells costs standing places ec eb = (
     λ e. record {
-      bytes = λ k h. ((place_tells (columns_at meaning costs k) (get_or standing k 0)).0 (passes costs standing places ec eb e k h)).0;
-      small = λ k h. ((place_tells (columns_at meaning costs k) (get_or standing k 0)).0 (passes costs standing places ec eb e k h)).1;
+      bytes = λ k h. ((place_tells (columns_at meaning costs k) (get_or standing k 0)).0
+          (passes costs standing places ec eb e k h)).0;
+      small = λ k h. ((place_tells (columns_at meaning costs k) (get_or standing k 0)).0
+          (passes costs standing places ec eb e k h)).1;
     },
-    λ o. passed costs standing places ec eb (λ k h. (place_tells (columns_at meaning costs k) (get_or standing k 0)).1 (o.bytes k h, o.small k h)),
+    λ o. passed costs standing places ec eb
+        (λ k h. (place_tells (columns_at meaning costs k) (get_or standing k 0)).1
+        (o.bytes k h, o.small k h)),
   )
 
   module _ (columns : ℕ) (sized : (x : K) → length (meaning x) ≡ columns) where
     -- each value of a table has the columns of its kind
-    pub columns_sized : (table : List K) (k : ℕ) → k < length table → length (columns_at meaning table k) ≡ columns
+    pub columns_sized : (table : List K) (k : ℕ) → k < length table
+        → length (columns_at meaning table k) ≡ columns
     columns_sized [] k h = absurd (omega arith)
     columns_sized (x ∷ table) zero h = sized x
     columns_sized (x ∷ table) (suc k) h = columns_sized table k (omega arith)
 
-    module _ (n : ℕ) (costs : List K) (standing : List ℕ) (few : n ≤ 64) (whole : length costs ≡ n * n) where
-      pub sane_ordered : Ordered meaning (n * n) costs standing → Sane (grid_of columns meaning n costs standing)
-      sane_ordered o = record {
+    module _ (n : ℕ) (costs : List K) (standing : List ℕ) (few : n ≤ 64)
+        (whole : length costs ≡ places_of n) where
+      pub sane_in_order : IsInOrder meaning (places_of n) costs standing
+          → Sane (grid_of columns meaning n costs standing)
+      sane_in_order o = record {
         few = few;
-        sized = λ l r i j t. columns_sized costs (place_of n l r) (omega (arith, mul-add-lt l n r n i j));
+        sized = λ l r i j t. columns_sized costs (place_of n l r)
+            (omega (arith, mul-add-lt l n r n i j));
         small = λ l r i j t. o.small (place_of n l r) (mul-add-lt l n r n i j) t;
       }
 
-      pub sane_orderly : length standing ≡ n * n → orderly meaning costs standing ≡ true → Sane (grid_of columns meaning n costs standing)
-      sane_orderly bytes e = sane_ordered ((orderly_tells costs standing (n * n) whole bytes).0 e)
+      pub sane_if_in_order : length standing ≡ places_of n → in_order meaning costs standing ≡ true
+          → Sane (grid_of columns meaning n costs standing)
+      sane_if_in_order bytes e =
+          sane_in_order ((in_order_tells costs standing (places_of n) whole bytes).0 e)

@@ -1,3 +1,6 @@
+pub mod PairTables
 pub mod Said
-pub mod Fit
-pub mod Rows
+pub mod Flaws
+pub mod Lent
+pub mod PairRows
+pub mod Together

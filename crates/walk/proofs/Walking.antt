@@ -1,48 +1,37 @@
--- Over tables that hold together, the calls of `matching` on the tight rows speak of the optimum pairings.
--- Idea: the pairings over the tight rows are the optimum pairings, as a list in dictionary order; so a step, or a mark, over the one list is one over the other.
-use Rattle.std.proofs.Common.{◌≡◌, ℕ, ◌+◌, ◌*◌, ◌<◌, ◌&&◌, cond, List, length, ℤ, sym, ap, ◌∙◌, subst}
-use Rattle.std.proofs.lemmas.Bool.{lt-ltb}
+-- Over certified rows, the calls of `matching` speak of the optimum pairings: the two lists are
+-- one.
+-- Idea: what is said of one list is said of the other, and what stands in the list of the optimum
+-- pairings is one of them.
+use Rattle.std.proofs.Common.{ℕ, ◌+◌, List, length, true, sym, subst}
 use Rattle.blockset.specs.declared.BlockSet.{BlockSet}
-use Rattle.pairing.specs.Grid.{Optimum, at}
-use Rattle.pairing.specs.Optima.{optima, has_pair}
-use Rattle.matching.specs.Rows.{Pairs, pairings}
-use Rattle.matching.specs.Answers.{Place, Steps, Marked}
-use Rattle.matching.specs.declared.Step.{Step}
-use Rattle.matching.specs.declared.Step.TheVariants.{Next, End}
-use Rattle.tables.specs.Said.{columns_at, grid_of}
-use Rattle.tables.specs.Rows.{TightRows}
-use Rattle.certificate.specs.Together.{Together}
-use Rattle.settling.proofs.Firsts.{are, accepted, listed}
-use Rattle.walk.specs.Walk.{Follows, MarksOf}
+use Rattle.cost.specs.declared.Cost.{Ghosts}
+use Rattle.pairing.specs.Grid.{Grid, Optimum}
+use Rattle.pairing.specs.Optima.{optima}
+use Rattle.pairing.specs.Rows.{pairings}
+use Rattle.pairing.proofs.Listing.{optima_are}
+use Rattle.matching.specs.Answers.{IsNth, Follows, MarksOf}
+use Rattle.matching.specs.declared.stepping.Step.{Step}
+use Rattle.matching.specs.declared.stepping.Step.TheVariants.{Next, End}
+use Rattle.matching.proofs.Nth.{contains_nth}
+use Rattle.tables.specs.Lent.{Lent, grid}
+use Rattle.walk.specs.Certified.{Certified}
 
--- a step over rows is one over the list of their pairings
-stepped : (rows : List BlockSet) (before after : List ℕ) (s : Step) → Steps rows before after s → Follows (pairings rows) before after s
-unfolding Follows
-stepped rows before after Next h = (h.0, h.1, h.2)
-stepped rows before after End h = (h.0, h.1, h.2.0, h.2.1)
+-- what a walk leaves in its list is an optimum pairing
+pub nth_optimum : (g : Grid) (i : ℕ) (q : List ℕ) → IsNth (optima g) i q → Optimum g q
+nth_optimum g i q h = ((optima_are true g).list.are q).0 (contains_nth (optima g) i q h)
 
-module _ {K : Type 0} (columns : ℕ) (meaning : K → List ℤ) (wide : (x : K) → length (meaning x) ≡ columns)
-    (n : ℕ) (costs : List K) (standing p : List ℕ) (left right : List K) (together : Together columns meaning n costs standing p left right)
-    (rows : List BlockSet) (sized : length rows ≡ n)
-    (made : TightRows (grid_of columns meaning n costs standing) (columns_at meaning left) (columns_at meaning right) rows) where
-  pub paired : Pairs rows p
-  paired = accepted columns meaning wide n costs standing p left right rows together.in_order.few together.in_order.costs_fit together.in_order.ordered together.perfect together.valid sized made
+pub step_optimum : (g : Grid) (before after : List ℕ) (s : Step)
+    → Follows (optima g) before after s → Optimum g after
+step_optimum g before after Next h = nth_optimum g (h.0 + 1) after h.2
+step_optimum g before after End h = subst (Optimum g) (sym h.3) (nth_optimum g h.0 before h.1)
 
-  pub paired_too : (q : List ℕ) → Optimum (grid_of columns meaning n costs standing) q → Pairs rows q
-  paired_too q o = (are columns meaning wide n costs standing p left right rows together.in_order.few together.in_order.costs_fit together.in_order.ordered together.perfect together.valid sized made q).1 o
+module _ {K : Type 0} (kind : Ghosts K) (t : Lent K) (rows : List BlockSet)
+    (known : Certified kind t rows) where
+  pub follows : (before after : List ℕ) (s : Step) → Follows (pairings rows) before after s
+      → Follows (optima (grid kind t)) before after s
+  follows before after s h = subst (λ ps. Follows ps before after s) known.optima_are h
 
-  same : pairings rows ≡ optima (grid_of columns meaning n costs standing)
-  same = listed columns meaning wide n costs standing p left right rows together.in_order.few together.in_order.costs_fit together.in_order.ordered together.perfect together.valid sized made
-
-  pub begun : (q : List ℕ) → Place (pairings rows) 0 q → Place (optima (grid_of columns meaning n costs standing)) 0 q
-  begun q h = subst (λ ps. Place ps 0 q) same h
-
-  pub follows : (before after : List ℕ) (s : Step) → Steps rows before after s → Follows (optima (grid_of columns meaning n costs standing)) before after s
-  follows before after s h = subst (λ ps. Follows ps before after s) same (stepped rows before after s h)
-
-  pub marks_of : (marks : List ℕ) → Marked rows marks → MarksOf (grid_of columns meaning n costs standing) marks
-  marks_of marks h l r i j =
-      ap (λ k. at marks (l * k + r)) (sym sized)
-      ∙ h l r (subst (λ k. l < k) (sym sized) i) (subst (λ k. r < k) (sym sized) j)
-      ∙ ap (λ ps. cond (has_pair l r ps) 1 0) same
-      ∙ ap (λ b. cond (b && has_pair l r (optima (grid_of columns meaning n costs standing))) 1 0) (sym (lt-ltb l n i))
+  pub marks_of : (table : List ℕ) → MarksOf (length rows) (pairings rows) table
+      → MarksOf t.size (optima (grid kind t)) table
+  marks_of table h = subst (λ n. MarksOf n (optima (grid kind t)) table) known.long
+      (subst (λ ps. MarksOf (length rows) ps table) known.optima_are h)

@@ -1,10 +1,10 @@
-//! Examples of settling and walking: all optimum pairings in turn, and the pairs that occur in them, in three cost kinds.
+//! Examples of settling and walking: all optimum pairings in turn, and the pairs that occur in
+//! them, in three cost kinds.
 
 use crate::{marks, next, start};
-use assign::Outcome;
+use assign::{Outcome, settle};
 use cost::{Cost, Free, Plain, TwoStep};
 use matching::Step;
-use settling::settle;
 use std::test::Fail;
 
 // Three blocks a plane: which pairs stand, and what they cost.

@@ -4,4 +4,5 @@ use Rattle.report.specs.Text.{row_lines}
 use Rattle.report.proofs.push_row.Given as goal
 
 abbrev pub invariant-loop-right : goal.invariant-loop-right
-invariant-loop-right l = string_bytes l.text ≡ string_bytes l.initial.text ++ row_lines l.sheet l.costs l.standing l.left l.right
+invariant-loop-right l = string_bytes l.text ≡ string_bytes l.initial.text
+    ++ row_lines l.sheet.size l.costs l.standing l.left l.right

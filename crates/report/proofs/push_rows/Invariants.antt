@@ -4,4 +4,5 @@ use Rattle.report.specs.Text.{all_lines}
 use Rattle.report.proofs.push_rows.Given as goal
 
 abbrev pub invariant-loop-left : goal.invariant-loop-left
-invariant-loop-left l = string_bytes l.text ≡ string_bytes l.initial.text ++ all_lines l.sheet l.costs l.standing l.left
+invariant-loop-left l = string_bytes l.text ≡ string_bytes l.initial.text
+    ++ all_lines l.sheet.size l.costs l.standing l.left

@@ -1,29 +1,32 @@
 //! The calls on an open sheet: open one, then enter, strike and read pairs.
 
-ghost use Rattle.std.specs.Prelude.{◌≡◌, ◌<◌, length, IfOk};
+ghost use Rattle.std.specs.Prelude.{◌≡◌, ◌<◌, length, IfOk, OnOk, OnErr, Some, None};
 ghost use Rattle.cost.specs.Columns.{within};
-ghost use Rattle.grid.specs.Tables.{place_of, byte_of};
+ghost use Rattle.tables.specs.PairTables.{byte_of, cell, ChangesCell, AllAbsent, HavePlaces};
+ghost use Rattle.pairing.specs.Places.{place_of};
 ghost use Rattle.sheet.specs.Opening.{Opened};
-ghost use Rattle.sheet.specs.Pairs.{misplaced, strike_refusal, Entered, Struck, Answered};
+ghost use Rattle.sheet.specs.Pairs.{placement_checks, strike_refusal};
+ghost use Rattle.sheet.specs.Pairs.{Entered, Struck, Reads};
 ghost use Rattle.sheet.specs.Refusals.{first_of, answer};
-ghost use Rattle.sheet.specs.Size.{IsSize};
+ghost use Rattle.sheet.specs.Size.{IsSize, size_of};
 
 use super::OpenSheet;
 use crate::fault::{Cause, Fault};
 use cost::Cost;
-use grid::{COST_LIMIT, MOST_BLOCKS, disturbed, fill, fits, place, stands};
+use tables::{COST_LIMIT, MOST_BLOCKS, disturbed, fill, have_places, place, stands};
 
 /// Opens a sheet of n left and n right blocks, with every pair absent and at cost zero.
 ///
-/// `costs` and `standing` have n * n places each. Refused, in this order: a size of 0 or above 64,
-/// a table of the wrong length.
+/// `costs` and `standing` have a place for each pair, n * n. Refused, in this order: a size of 0 or
+/// above 64, a table of the wrong length.
 pub fn open<K: Cost>(n: u16, costs: &mut [K], standing: &mut [u8]) -> Result<OpenSheet, Fault>
-    ensures { Opened K.nought n costs.old standing.old result costs.new standing.new }
+    ensures call { Opened K.zero n costs.old standing.old result costs.new standing.new }
+    ensures cells { OnOk result (AllAbsent n (cell K.zero n costs.new standing.new)) }
 {
     if n == 0 || n > MOST_BLOCKS {
         return Err(Cause::Size.at(0));
     }
-    if !fits(n, costs.len(), standing.len()) {
+    if !have_places(n, costs.len(), standing.len()) {
         return Err(Cause::TableLength.at(0));
     }
     fill(costs, K::zero());
@@ -34,13 +37,14 @@ pub fn open<K: Cost>(n: u16, costs: &mut [K], standing: &mut [u8]) -> Result<Ope
 impl OpenSheet {
     /// The number of left blocks, which is that of the right blocks too.
     pub fn size(&self) -> u16
-        ensures value { result ≡ self.now }
-        ensures range { IsSize self.now }
+        ensures value { result ≡ size_of self.now }
+        ensures range { IsSize (size_of self.now) }
     {
         self.n
     }
 
-    /// Makes a pair stand with a cost; a later cost replaces an earlier one, and any byte becomes 1.
+    /// Makes a pair stand with a cost; a later cost replaces an earlier one, and any byte becomes
+    /// 1.
     ///
     /// Refused, in this order: a table of the wrong length, a block number of n or more, a cost
     /// that is not within 10^9.
@@ -52,7 +56,11 @@ impl OpenSheet {
         right: u16,
         cost: K,
     ) -> Result<(), Fault>
-        ensures { Entered self.now costs.old standing.old left right cost (within 1000000000 (K.meaning cost)) result costs.new standing.new }
+        ensures call { Entered (size_of self.now) costs.old standing.old left right cost
+            (within COST_LIMIT (K.meaning cost)) result costs.new standing.new }
+        ensures cells { let n = size_of self.now in
+            OnOk result (ChangesCell n left right (Some cost)
+            (cell K.zero n costs.old standing.old) (cell K.zero n costs.new standing.new)) }
     {
         let at = self.locate(costs.len(), standing.len(), left, right)?;
         if !cost.within(COST_LIMIT) {
@@ -74,7 +82,11 @@ impl OpenSheet {
         left: u16,
         right: u16,
     ) -> Result<(), Fault>
-        ensures { Struck K.nought self.now costs.old standing.old left right result costs.new standing.new }
+        ensures call { Struck K.zero (size_of self.now) costs.old standing.old left right result
+            costs.new standing.new }
+        ensures cells { let n = size_of self.now in
+            OnOk result (ChangesCell n left right None
+            (cell K.zero n costs.old standing.old) (cell K.zero n costs.new standing.new)) }
     {
         let at = self.find(costs, standing, left, right)?;
         costs[at] = K::zero();
@@ -90,18 +102,26 @@ impl OpenSheet {
         left: u16,
         right: u16,
     ) -> Result<K, Fault>
-        ensures { Answered K.nought self.now costs.now standing.now left right result }
+        ensures call { Reads K.zero (size_of self.now) costs.now standing.now left right result }
+        ensures cell { let n = size_of self.now in
+            IfOk result (λ cost. cell K.zero n costs.now standing.now left right ≡ Some cost) }
+        ensures no_cell { let n = size_of self.now in
+            HavePlaces n (length costs.now) (length standing.now) → left < n → right < n
+            → OnErr result (cell K.zero n costs.now standing.now left right ≡ None) }
     {
         let at = self.find(costs, standing, left, right)?;
         Ok(costs[at])
     }
 
-    // Refuses tables of the wrong length and blocks that do not exist, and else gives the pair's place.
+    // Refuses tables of the wrong length and blocks that do not exist, and else gives the pair's
+    // place.
     fn locate(&self, costs: usize, standing: usize, left: u16, right: u16) -> Result<usize, Fault>
-        ensures answers { result ≡ answer (first_of (misplaced self.now costs standing left right)) (place_of self.now left right) }
+        ensures answers { let n = size_of self.now in
+            result ≡ answer (first_of (placement_checks n costs standing left right))
+            (place_of n left right) }
         ensures inside { IfOk result (λ at. (at < costs) × (at < standing)) }
     {
-        if !fits(self.n, costs, standing) {
+        if !have_places(self.n, costs, standing) {
             return Err(Cause::TableLength.at(0));
         }
         if left >= self.n || right >= self.n {
@@ -118,7 +138,9 @@ impl OpenSheet {
         left: u16,
         right: u16,
     ) -> Result<usize, Fault>
-        ensures answers { result ≡ answer (strike_refusal self.now (length costs.now) (length standing.now) left right (byte_of self.now standing.now left right)) (place_of self.now left right) }
+        ensures answers { let n = size_of self.now in
+            result ≡ answer (strike_refusal n (length costs.now) (length standing.now) left right
+            (byte_of n standing.now left right)) (place_of n left right) }
         ensures inside { IfOk result (λ at. (at < length costs.now) × (at < length standing.now)) }
     {
         let at = self.locate(costs.len(), standing.len(), left, right)?;

@@ -1,4 +1,5 @@
--- The state of proofs/Choosing.antt; each turn looks at one right block of those that the iterator has left.
+-- The state of proofs/Choosing.antt; each turn looks at one right block of those that the iterator
+-- has left.
 use Rattle.std.proofs.Common.{◌≡◌, length}
 use Rattle.blockset.specs.Has.{has}
 use Rattle.pairing.specs.Grid.{at}
@@ -8,4 +9,5 @@ use Rattle.assign.proofs.pairs.pair_cheapest.Given as goal
 abbrev pub invariant-loop-c : goal.invariant-loop-c
 invariant-loop-c l =
     (goal.iterator-loop-c).can_next l.c-iterator × (goal.iterator-loop-c).is_finite l.c-iterator
-    × Choosing l.n (has l.cheapest.priced) (at l.cheapest.row) (has l.c-iterator) (has l.out) (at l.partners) (at l.owner) × (length l.owner ≡ 64)
+    × Choosing l.n (has l.cheapest.priced) (at l.cheapest.row) (has l.c-iterator) (has l.out)
+    l.partners (has l.held) l.row × (length l.row ≡ 64)

@@ -7,14 +7,20 @@ use Rattle.blockset.proofs.Removing.{still_in, fewer}
 use Rattle.assign.proofs.pairs.pair_rest.Goals as goal
 
 pub loop-k-smaller : goal.loop-k-smaller
-loop-k-smaller g c = fewer (has c.loop-k.out) (has c.remove.new.self) c.in-Some.k c.remove.ensures c.in-Some.ensures.0 c.in-Some.ensures.1
+loop-k-smaller g c = fewer (has c.loop-k.out) (has c.remove.new.self) c.in-Some.k c.remove.ensures
+    c.in-Some.ensures.0 c.in-Some.ensures.1
 
 pub loop-k-preserved : goal.loop-k-preserved
 loop-k-preserved g c = (
-  subst (λ out. Paired g.K.Cost.meaning c.args.rows.now c.args.costs.now out c.pair_row.new.partners c.pair_row.new.owner c.pair_row.new.right) (sym (fun_ext c.remove.ensures)) c.pair_row.ensures,
-  λ j t. c.loop-k.invariant.1 j (still_in (has c.loop-k.out) (has c.remove.new.self) c.in-Some.k c.remove.ensures j t).0,
+  subst (λ out. Paired g.K.Cost c.args.rows.now c.args.costs.now out c.pair_row.new.partners
+      c.pair_row.new.holders c.pair_row.new.right) (sym (fun_ext c.remove.ensures))
+      c.pair_row.ensures,
+  λ j t. c.loop-k.invariant.1 j
+      (still_in (has c.loop-k.out) (has c.remove.new.self) c.in-Some.k c.remove.ensures j t).0,
 )
 
 pub returns : goal.returns
 returns g c =
-    subst (λ out. Paired g.K.Cost.meaning c.args.rows.now c.args.costs.now out c.loop-k.partners c.loop-k.owner c.loop-k.right) (fun_ext {f = has c.loop-k.out} {g = λ _. false} c.in_default.ensures) c.loop-k.invariant.0
+    subst (λ out. Paired g.K.Cost c.args.rows.now c.args.costs.now out c.loop-k.partners
+    c.loop-k.holders c.loop-k.right)
+    (fun_ext {f = has c.loop-k.out} {g = λ _. false} c.in_default.ensures) c.loop-k.invariant.0

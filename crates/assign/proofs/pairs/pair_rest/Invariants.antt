@@ -7,7 +7,7 @@ use Rattle.assign.proofs.pairs.pair_rest.Given as goal
 
 abbrev pub invariant-loop-k : goal.invariant-loop-k
 invariant-loop-k g l =
-    Paired g.K.Cost.meaning l.rows l.costs (has l.out) l.partners l.owner l.right
+    Paired g.K.Cost l.rows l.costs (has l.out) l.partners l.holders l.right
     × ((j : ℕ) → has l.out j ≡ true → j < length l.rows)
 
 abbrev pub decreases-loop-k : goal.decreases-loop-k

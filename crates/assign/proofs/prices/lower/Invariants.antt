@@ -1,16 +1,20 @@
--- The state of proofs/Lowering.antt, with a bound on what every distance is lowered by; each turn lowers the price of one right block that the iterator has left.
+-- The state of proofs/Lowering.antt, with a bound on what every distance is lowered by; each turn
+-- lowers the price of one right block that the iterator has left.
 use Rattle.std.proofs.Common.{length}
 use Rattle.cost.specs.Columns.{Within}
-use Rattle.cost.proofs.Weights.{weight}
+use Rattle.cost.specs.Weights.{weight}
 use Rattle.blockset.specs.Has.{has}
 use Rattle.tables.specs.Said.{columns_at}
+use Rattle.assign.specs.declared.limits.TheConstants.{LEFT_PRICE_LIMIT}
 use Rattle.assign.specs.Weighed.{weight_at}
 use Rattle.assign.proofs.Lowering.{Lowering}
 use Rattle.assign.proofs.prices.lower.Given as goal
 
 abbrev pub invariant-loop-c : goal.invariant-loop-c
 invariant-loop-c g l =
+    let kind = g.K.Cost in
     let meaning = g.K.Cost.meaning in
     (goal.iterator-loop-c g).can_next l.c-iterator × (goal.iterator-loop-c g).is_finite l.c-iterator
-    × Lowering (length l.dist) (has l.tree.open) (has l.c-iterator) (weight (meaning l.far)) (weight_at meaning l.dist) (columns_at meaning l.initial.right) (columns_at meaning l.right)
-    × Within 201000000000 (meaning l.far)
+    × Lowering (length l.dist) (has l.fn.taken) (has l.c-iterator) (weight (meaning l.far))
+    (weight_at kind l.dist) (columns_at meaning l.initial.right) (columns_at meaning l.right)
+    × Within LEFT_PRICE_LIMIT (meaning l.far)

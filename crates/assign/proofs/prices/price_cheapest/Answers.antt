@@ -1,22 +1,31 @@
--- Each turn is one step of proofs/Pricing.antt: left block l offers its part of the cost table, with nothing added, so that no price is beyond a cost.
-use Rattle.std.proofs.Common.{◌+◌, ◌-◌, ◌*◌, length, take, drop, replicate, sym, refl, ap, ◌∙◌, subst, arith}
+-- Each turn is one step of proofs/Pricing.antt: left block l offers its part of the cost table,
+-- with nothing added, so that no price is beyond a cost.
+use Rattle.std.proofs.Common.{◌+◌, ◌-◌, ◌*◌, length, take, drop, replicate, sym, refl, ap, ◌∙◌}
+use Rattle.std.proofs.Common.{subst, arith}
+use Rattle.cost.specs.declared.TheConstants.{COST_LIMIT}
 use Rattle.cost.specs.Columns.{Within}
 use Rattle.cost.proofs.Exact.{zeros_within}
-use Rattle.cost.proofs.Weights.{weight, weight_zeros}
+use Rattle.cost.specs.Weights.{weight}
+use Rattle.cost.proofs.Weights.{weight_zeros}
 use Rattle.blockset.specs.Has.{has}
 use Rattle.pairing.specs.Grid.{at}
-use Rattle.matching.specs.Rows.{holds}
+use Rattle.pairing.specs.Rows.{holds}
 use Rattle.tables.proofs.Filling.{row_length, columns_at_lem}
+use Rattle.assign.specs.declared.limits.TheConstants.{SHIFT_LIMIT}
 use Rattle.assign.specs.Weighed.{weight_at, cost_weight}
 use Rattle.assign.proofs.Pricing.{cleared_within, cheapest_none, cheapest_more}
 use Rattle.assign.proofs.prices.price_cheapest.Goals as goal
 
 pub loop-l-init : goal.loop-l-init
 loop-l-init g c =
-    let m = g.K.Cost.meaning in
+    let kind = g.K.Cost in
     let n = length c.args.rows.now in (
-      cheapest_none n (holds c.args.rows.now) (cost_weight m n c.args.costs.now) (has c.empty-priced.result) (at (replicate 64 0)) (weight_at m c.clear.new.table) c.empty-priced.ensures,
-      λ k h. cleared_within m g.K.Cost.nought g.K.Cost.columns g.met.K.Cost.nothing (length c.args.right.now) c.clear.new.table c.clear.ensures 1000000000 k (omega (arith, c.requires.rights)),
+      cheapest_none n (holds c.args.rows.now) (cost_weight kind n c.args.costs.now)
+          (has c.empty-priced.result) (at (replicate 64 0)) (weight_at kind c.clear.new.table)
+          c.empty-priced.ensures,
+      λ k h. cleared_within kind g.K.Cost.zero g.K.Cost.columns g.met.K.Cost.laws.zero_columns
+          (length c.args.right.now) c.clear.new.table c.clear.ensures COST_LIMIT k
+          (omega (arith, c.requires.rights)),
     )
 
 pub offer-requires : goal.offer-requires
@@ -31,21 +40,35 @@ offer-requires g c =
       sized = omega (arith, long, c.loop-l.auto.right, c.clear.auto.table, c.requires.rights);
       block = omega (arith, c.requires.lent.few);
       inside = λ j r. omega (arith, long, c.requires.lent.inside l j lies r);
-      modest = λ j r. subst (Within 1000000000) (sym (columns_at_lem m c.args.costs.now n l lies c.requires.lent.square j (c.requires.lent.inside l j lies r))) (c.requires.lent.modest l j lies r);
-      near = subst (Within 400000000000) (sym (ap m c.zero.ensures ∙ g.met.K.Cost.nothing)) (zeros_within 400000000000 g.K.Cost.columns);
+      modest = λ j r. subst (Within COST_LIMIT)
+          (sym (columns_at_lem m c.args.costs.now n l lies c.requires.lent.square j
+          (c.requires.lent.inside l j lies r))) (c.requires.lent.modest l j lies r);
+      near = subst (Within SHIFT_LIMIT)
+          (sym (ap m c.zero.ensures ∙ g.met.K.Cost.laws.zero_columns))
+          (zeros_within SHIFT_LIMIT g.K.Cost.columns);
     }
 
 pub loop-l-preserved : goal.loop-l-preserved
 loop-l-preserved g c =
+    let kind = g.K.Cost in
     let m = g.K.Cost.meaning in
     let rows = c.args.rows.now in
     let n = length c.args.rows.now in
     let costs = c.args.costs.now in
     let l = c.loop-l.l in
     let lies = c.loop-l-test.true in
-    let zero = ap m c.zero.ensures ∙ g.met.K.Cost.nothing in (
-      cheapest_more n (holds rows) (cost_weight m n costs) l (has c.loop-l.priced) (at c.loop-l.row) (weight_at m c.loop-l.right) c.loop-l.invariant.0 (weight (m c.zero.result)) (ap weight zero ∙ weight_zeros g.K.Cost.columns)
-          (weight_at m (take (l * n + n - l * n) (drop (l * n) costs))) (holds rows l) (λ j. refl) (λ j r. c.requires.lent.inside l j lies r) (λ j h. ap weight (columns_at_lem m costs n l lies c.requires.lent.square j h))
-          (has c.union-priced.result) c.union-priced.ensures (at c.offer.new.via) (weight_at m c.offer.new.dist) c.offer.ensures.offered,
-      λ k h. c.offer.ensures.bound 0 k (subst (Within 0) (sym zero) (zeros_within 0 g.K.Cost.columns)) (omega arith) (λ _. c.loop-l.invariant.1 k h) (λ _. c.loop-l.invariant.1 k h),
+    let zero = ap m c.zero.ensures ∙ g.met.K.Cost.laws.zero_columns in (
+      cheapest_more n (holds rows) (cost_weight kind n costs) l (has c.loop-l.priced)
+          (at c.loop-l.row)
+          (weight_at kind c.loop-l.right) c.loop-l.invariant.0 (weight (m c.zero.result))
+          (ap weight zero ∙ weight_zeros g.K.Cost.columns)
+          (weight_at kind (take (l * n + n - l * n) (drop (l * n) costs))) (holds rows l)
+          (λ j. refl)
+          (λ j r. c.requires.lent.inside l j lies r)
+          (λ j h. ap weight (columns_at_lem m costs n l lies c.requires.lent.square j h))
+          (has c.union-priced.result) c.union-priced.ensures (at c.offer.new.via)
+          (weight_at kind c.offer.new.dist) c.offer.ensures.offered,
+      λ k h. c.offer.ensures.bound 0 k
+          (subst (Within 0) (sym zero) (zeros_within 0 g.K.Cost.columns)) (omega arith)
+          (λ _. c.loop-l.invariant.1 k h) (λ _. c.loop-l.invariant.1 k h),
     )

@@ -1,8 +1,11 @@
--- The rail is not reached, so the difference is that of the columns, and weighs the difference of the weights.
+-- The rail is not reached, so the difference is that of the columns, and weighs the difference of
+-- the weights.
 use Rattle.std.proofs.Common.{◌+◌, List, ℤ, sym, ap, ◌∙◌, subst, arith}
 use Rattle.cost.specs.Columns.{Within}
 use Rattle.cost.proofs.Exact.{exact, minus-within}
-use Rattle.cost.proofs.Weights.{weight, weight_minus}
+use Rattle.cost.specs.Weights.{weight}
+use Rattle.cost.proofs.Weights.{weight_minus}
+use Rattle.assign.specs.declared.limits.TheConstants.{HALF_RAIL}
 use Rattle.assign.proofs.sums.exact_difference.Goals as goal
 
 pub returns : goal.returns
@@ -12,7 +15,11 @@ returns g c =
     let b = m c.args.b in
     let e = c.take_away.ensures in
     record {
-      sum = ap weight e ∙ ap weight (exact 500000000000000 500000000000000 a b (omega arith) c.requires.first c.requires.second).1
-          ∙ weight_minus a b (g.met.K.Cost.sized c.args.a ∙ sym (g.met.K.Cost.sized c.args.b));
-      bound = λ x y h k l. subst (λ (z : List ℤ). Within (x + y) z) (sym (e ∙ (exact x y a b l h k).1)) (minus-within x y a b h k);
+      sum = ap weight e
+          ∙ ap weight (exact HALF_RAIL HALF_RAIL a b (omega arith) c.requires.first
+          c.requires.second).1
+          ∙ weight_minus a b (g.met.K.Cost.laws.column_count c.args.a
+          ∙ sym (g.met.K.Cost.laws.column_count c.args.b));
+      bound = λ x y h k l. subst (λ (z : List ℤ). Within (x + y) z)
+          (sym (e ∙ (exact x y a b l h k).1)) (minus-within x y a b h k);
     }

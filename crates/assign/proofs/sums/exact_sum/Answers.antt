@@ -2,7 +2,9 @@
 use Rattle.std.proofs.Common.{◌+◌, List, ℤ, sym, ap, ◌∙◌, subst, arith}
 use Rattle.cost.specs.Columns.{Within}
 use Rattle.cost.proofs.Exact.{exact, plus-within}
-use Rattle.cost.proofs.Weights.{weight, weight_plus}
+use Rattle.cost.specs.Weights.{weight}
+use Rattle.cost.proofs.Weights.{weight_plus}
+use Rattle.assign.specs.declared.limits.TheConstants.{HALF_RAIL}
 use Rattle.assign.proofs.sums.exact_sum.Goals as goal
 
 pub returns : goal.returns
@@ -12,7 +14,11 @@ returns g c =
     let b = m c.args.b in
     let e = c.add.ensures in
     record {
-      sum = ap weight e ∙ ap weight (exact 500000000000000 500000000000000 a b (omega arith) c.requires.first c.requires.second).0
-          ∙ weight_plus a b (g.met.K.Cost.sized c.args.a ∙ sym (g.met.K.Cost.sized c.args.b));
-      bound = λ x y h k l. subst (λ (z : List ℤ). Within (x + y) z) (sym (e ∙ (exact x y a b l h k).0)) (plus-within x y a b h k);
+      sum = ap weight e
+          ∙ ap weight (exact HALF_RAIL HALF_RAIL a b (omega arith) c.requires.first
+          c.requires.second).0
+          ∙ weight_plus a b (g.met.K.Cost.laws.column_count c.args.a
+          ∙ sym (g.met.K.Cost.laws.column_count c.args.b));
+      bound = λ x y h k l. subst (λ (z : List ℤ). Within (x + y) z)
+          (sym (e ∙ (exact x y a b l h k).0)) (plus-within x y a b h k);
     }

@@ -9,7 +9,8 @@ use Rattle.blockset.proofs.BlockSet.all.Goals as goal
 
 pub returns-then-n-lt64 : goal.returns-then-n-lt64
 unfolding has
-returns-then-n-lt64 c j = ap (λ m. ltb j 64 && bit (m - 1) j) (one_shl c.args.n 64 (omega arith)) ∙ ap (λ b. ltb j 64 && b) (bit_ones c.args.n j)
+returns-then-n-lt64 c j = ap (λ m. ltb j 64 && bit (m - 1) j) (one_shl c.args.n 64 (omega arith))
+    ∙ ap (λ b. ltb j 64 && b) (bit_ones c.args.n j)
 
 pub returns-else-n-lt64 : goal.returns-else-n-lt64
 unfolding has

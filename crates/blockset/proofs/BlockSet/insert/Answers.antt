@@ -1,4 +1,5 @@
--- The number's bits and the block's own bit; where there is no such bit, no block below 64 is the number.
+-- The number's bits and the block's own bit; where there is no such bit, no block below 64 is the
+-- number.
 use Rattle.std.proofs.Common.{◌^◌, ◌&&◌, ◌||◌, eqb, ltb, ap, ◌∙◌}
 use Rattle.std.proofs.Math.Bool.{or_comm, and-or_distrib_left}
 use lib.Bits.{bit_or}
@@ -14,5 +15,6 @@ returns-then-block-lt64 c j =
     let a = c.args.self.now.0 in
     let i = c.args.block in
     ap (λ m. ltb j 64 && bit (bit_or a m) j) (one_shl i 64 c.if-block-lt64.true)
-    ∙ ap (λ x. ltb j 64 && x) (bit-or a (2 ^ i) j ∙ ap (λ x. bit a j || x) (bit-pow i j) ∙ or_comm (bit a j) (eqb j i))
+    ∙ ap (λ x. ltb j 64 && x) (bit-or a (2 ^ i) j ∙ ap (λ x. bit a j || x) (bit-pow i j)
+    ∙ or_comm (bit a j) (eqb j i))
     ∙ and-or_distrib_left (ltb j 64) (eqb j i) (bit a j)

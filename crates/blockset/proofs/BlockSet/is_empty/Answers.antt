@@ -10,5 +10,6 @@ pub returns : goal.returns
 returns c =
     let s = c.args.self in (
       λ e j. has-bit s j (omega arith) ∙ ap (λ m. bit m j) (eqb-true s.0 0 e) ∙ bit-zero j,
-      λ f. eq-eqb s.0 0 (none_set 64 s.0 (omega arith) (λ j. sym (has-bit s j (omega arith)) ∙ f j)),
+      λ f. eq-eqb s.0 0
+          (none_set 64 s.0 (omega arith) (λ j. sym (has-bit s j (omega arith)) ∙ f j)),
     )

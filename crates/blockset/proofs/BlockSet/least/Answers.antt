@@ -11,6 +11,12 @@ pub returns-else-is_empty : goal.returns-else-is_empty
 returns-else-is_empty c =
     let s = c.args.self in
     let m = s.0 in
-    let some : m ≡ 0 → ⊥ = λ e. both_ways c.is_empty.result c.if-is_empty.false (c.is_empty.ensures.1 (λ j. has-bit s j (omega arith) ∙ ap (λ x. bit x j) e ∙ bit-zero j)) in
-    let low : count_trailing_zeros 64 m < 64 = lowest_lt 64 m (omega arith) some in
-    (low, has-bit s (count_trailing_zeros 64 m) (omega arith) ∙ lowest 64 m low, λ j h. has-bit s j (omega arith) ∙ below_lowest 64 m j h)
+    let some : m ≡ 0 → ⊥ = λ e. both_ways c.is_empty.result c.if-is_empty.false
+    (c.is_empty.ensures.1 (λ j. has-bit s j (omega arith) ∙ ap (λ x. bit x j) e ∙ bit-zero j))
+    in
+    let low : count_trailing_zeros 64 m < 64 = lowest_lt 64 m (omega arith) some in (
+      low,
+      has-bit s (count_trailing_zeros 64 m) (omega arith) ∙ lowest 64 m low,
+      λ j h. has-bit s j
+          (omega arith) ∙ below_lowest 64 m j h,
+    )

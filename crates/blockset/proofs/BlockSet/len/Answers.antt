@@ -10,4 +10,5 @@ use Rattle.blockset.proofs.BlockSet.len.Goals as goal
 pub returns : goal.returns
 returns c =
     let s = c.args.self in
-    ones_members 64 s.0 (omega arith) ∙ sym (members_like 64 (bit s.0) (has s) (λ j _. has-bit s j (omega arith)))
+    ones_members 64 s.0 (omega arith)
+    ∙ sym (members_like 64 (bit s.0) (has s) (λ j _. has-bit s j (omega arith)))

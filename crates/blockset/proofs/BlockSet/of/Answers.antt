@@ -8,4 +8,6 @@ use Rattle.blockset.proofs.BlockSet.of.Goals as goal
 
 pub returns-then-block-lt64 : goal.returns-then-block-lt64
 unfolding has
-returns-then-block-lt64 c j = ap (λ m. ltb j 64 && bit m j) (one_shl c.args.block 64 c.if-block-lt64.true) ∙ ap (λ b. ltb j 64 && b) (bit-pow c.args.block j)
+returns-then-block-lt64 c j = ap (λ m. ltb j 64 && bit m j)
+    (one_shl c.args.block 64 c.if-block-lt64.true) ∙ ap (λ b. ltb j 64 && b)
+    (bit-pow c.args.block j)

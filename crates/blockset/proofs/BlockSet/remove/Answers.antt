@@ -1,5 +1,7 @@
--- The number's bits without the block's own; where there is no such bit, the number is not in the set.
-use Rattle.std.proofs.Common.{◌≡◌, ℕ, ◌-◌, ◌^◌, ◌<◌, ◌≤◌, false, not, ◌&&◌, eqb, ltb, sym, ap, ◌∙◌, inl, inr, arith}
+-- The number's bits without the block's own; where there is no such bit, the number is not in the
+-- set.
+use Rattle.std.proofs.Common.{◌≡◌, ℕ, ◌-◌, ◌^◌, ◌<◌, ◌≤◌, false, not, ◌&&◌, eqb, ltb, sym, ap, ◌∙◌}
+use Rattle.std.proofs.Common.{inl, inr, arith}
 use Rattle.std.proofs.Math.Bool.{and_assoc}
 use lib.Bits.{bit_and}
 use lib.Pow.{pow-lt}
@@ -18,13 +20,16 @@ unfolding has
 returns-then-block-lt64 c j =
     let a = c.args.self.now.0 in
     let i = c.args.block in
-    ap (λ m. ltb j 64 && bit (bit_and a (18446744073709551615 - m)) j) (one_shl i 64 c.if-block-lt64.true)
-    ∙ bits_without a (2 ^ i) j (pow-lt c.if-block-lt64.true) ∙ ap (λ x. ltb j 64 && (bit a j && not x)) (bit-pow i j)
+    ap (λ m. ltb j 64 && bit (bit_and a (18446744073709551615 - m)) j)
+    (one_shl i 64 c.if-block-lt64.true)
+    ∙ bits_without a (2 ^ i) j (pow-lt c.if-block-lt64.true)
+    ∙ ap (λ x. ltb j 64 && (bit a j && not x)) (bit-pow i j)
     ∙ sym (and_assoc (ltb j 64) (bit a j) (not (eqb j i)))
 
 no_block : (s : BlockSet) (i j : ℕ) → 64 ≤ i → has s j ≡ (has s j && not (eqb j i))
 no_block s i j h = elim (cases_Bool (has s j)) [
-  | inl t ↦ let low : j < 64 = has_block s j t in let e : eqb j i ≡ false = grind (arith, nat_tests) in grind arith
+  | inl t ↦ let low : j < 64 = has_block s j t in let e : eqb j i ≡ false =
+      grind (arith, nat_tests) in grind arith
   | inr f ↦ grind arith
 ]
 

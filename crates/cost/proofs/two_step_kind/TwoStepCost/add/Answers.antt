@@ -1,7 +1,10 @@
 -- A sum of two steps is the two sums, one behind the other.
 use Rattle.std.proofs.Common.{sym}
-use Rattle.cost.specs.Append.{columnwise-append, same_length}
+use Rattle.cost.proofs.Append.{columnwise-append, same_length}
 use Rattle.cost.proofs.two_step_kind.TwoStepCost.add.Goals as goal
 
 pub returns : goal.returns
-returns g c = rw (c.add.ensures, c.add-2.ensures) (sym (columnwise-append _ _ _ _ _ (same_length g.A.Cost.columns g.A.Cost.meaning g.met.A.Cost.sized c.args.self.0 c.args.other.0)))
+returns g c = rw (c.add.ensures, c.add-2.ensures)
+    (sym (columnwise-append _ _ _ _ _
+    (same_length g.A.Cost.columns g.A.Cost.meaning g.met.A.Cost.laws.column_count c.args.self.0
+    c.args.other.0)))

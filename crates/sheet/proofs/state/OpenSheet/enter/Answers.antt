@@ -3,30 +3,59 @@ use Rattle.std.proofs.Common.{length, set, Err, ap, ◌∙◌}
 use Rattle.cost.specs.Columns.{within}
 use Rattle.std.proofs.lemmas.Result.{err_from_is_err_and}
 use Rattle.sheet.proofs.Refused.{refused, kept, accepted, renewed, from_err, from_ok}
-use Rattle.sheet.proofs.Pairs.{enter_misplaced, enter_goes_on, too_large}
+use Rattle.sheet.proofs.Pairs.{enter_placement, enter_goes_on, cost_checks_lem, placed}
+use Rattle.tables.proofs.Cells.{written}
 use Rattle.sheet.proofs.state.OpenSheet.enter.Goals as goal
 
-pub returns-in_err-at : goal.returns-in_err-at
-returns-in_err-at g c =
+pub returns-in_err-at-clause-call : goal.returns-in_err-at-clause-call
+returns-in_err-at-clause-call g c =
     let p = err_from_is_err_and c.from_residual.result c.from_residual.ensures.1 in
     let f = c.in_err-at.field-0.0 in
-    let e = enter_misplaced c.args.self.now (length c.args.costs.now) (length c.args.standing.now) c.args.left c.args.right
-    (within 1000000000 (g.K.Cost.meaning c.args.cost)) f (from_err _ _ f c.in_err-at.ensures.answers) in
-    record { answers = p.1 ∙ ap Err p.2 ∙ refused _ _ _ e; stores = kept _ _ _ _ e; raises = kept _ _ _ _ e }
+    let e = enter_placement c.args.self.now.size (length c.args.costs.now)
+    (length c.args.standing.now)
+    c.args.left c.args.right
+    (within 1000000000 (g.K.Cost.meaning c.args.cost)) f
+    (from_err _ _ f c.in_err-at.ensures.answers) in
+    record {
+      answers = p.1 ∙ ap Err p.2 ∙ refused _ _ _ e;
+      stores = kept _ _ _ _ e;
+      raises =
+          kept _ _ _ _ e;
+    }
 
-pub returns-then-not-within : goal.returns-then-not-within
-returns-then-not-within g c =
-    let e = enter_goes_on c.args.self.now (length c.args.costs.now) (length c.args.standing.now) c.args.left c.args.right
-    (within 1000000000 (g.K.Cost.meaning c.args.cost)) (from_ok _ _ _ c.in_ok-at.ensures.answers).0 ∙ too_large _ _ c.if-not-within.ensures in
-    record { answers = ap Err c.at.ensures ∙ refused _ _ _ e; stores = kept _ _ _ _ e; raises = kept _ _ _ _ e }
+pub returns-then-not-within-clause-call : goal.returns-then-not-within-clause-call
+returns-then-not-within-clause-call g c =
+    let e = enter_goes_on c.args.self.now.size (length c.args.costs.now)
+    (length c.args.standing.now)
+    c.args.left c.args.right
+    (within 1000000000 (g.K.Cost.meaning c.args.cost)) (from_ok _ _ _ c.in_ok-at.ensures.answers).0
+    ∙ cost_checks_lem _ _ c.if-not-within.ensures in
+    record {
+      answers = ap Err c.at.ensures ∙ refused _ _ _ e;
+      stores = kept _ _ _ _ e;
+      raises =
+          kept _ _ _ _ e;
+    }
 
-pub returns : goal.returns
-returns g c =
+pub returns-clause-call : goal.returns-clause-call
+returns-clause-call g c =
     let found = from_ok _ _ _ c.in_ok-at.ensures.answers in
-    let e = enter_goes_on c.args.self.now (length c.args.costs.now) (length c.args.standing.now) c.args.left c.args.right
-    (within 1000000000 (g.K.Cost.meaning c.args.cost)) found.0 ∙ too_large _ _ c.if-not-within.ensures in
+    let e = enter_goes_on c.args.self.now.size (length c.args.costs.now)
+    (length c.args.standing.now)
+    c.args.left c.args.right
+    (within 1000000000 (g.K.Cost.meaning c.args.cost)) found.0
+    ∙ cost_checks_lem _ _ c.if-not-within.ensures in
     record {
       answers = accepted _ _ e;
       stores = ap (λ p. set c.args.costs.now p c.args.cost) found.1 ∙ renewed _ _ _ e;
       raises = ap (λ p. set c.args.standing.now p 1) found.1 ∙ renewed _ _ _ e;
     }
+
+pub returns-clause-cells : goal.returns-clause-cells
+returns-clause-cells g c =
+    let found = from_ok _ _ _ c.in_ok-at.ensures.answers in
+    let here = placed c.args.self.now.size (length c.args.costs.now) (length c.args.standing.now)
+    c.args.left c.args.right found.0 in
+    written g.K.Cost.zero c.args.self.now.size c.args.costs.now c.args.standing.now c.args.left
+    c.args.right here.places here.left_below
+    here.right_below 1 c.args.cost _ found.1

@@ -1,0 +1,100 @@
+-- The first pairing over the tight rows is the first optimum pairing, and the greatest prices go
+-- with it too; so settled tables hold together.
+-- Idea: under the greatest prices the perfect pairings of tight pairs are the optimum pairings, and
+-- there is only one list of these in dictionary order. Valid prices that lie near make tables hold
+-- together, whichever optimum pairing they go with.
+use Rattle.std.proofs.Common.{◌≡◌, ℕ, true, ◌↔◌, List, [], ◌∷◌, length, sym, ◌∙◌, subst, inl, arith}
+use Rattle.blockset.specs.declared.BlockSet.{BlockSet}
+use Rattle.cost.specs.declared.Cost.{Ghosts}
+use Rattle.pairing.specs.Grid.{Sane, Optimum}
+use Rattle.pairing.specs.Optima.{optima}
+use Rattle.pairing.specs.Rows.{holds, Pairs, pairings}
+use Rattle.pairing.proofs.Duality.{valid_alike}
+use Rattle.pairing.proofs.Listing.{perfects_are, optima_are}
+use Rattle.matching.specs.Answers.{IsNth}
+use Rattle.matching.proofs.Nth.{contains_nth}
+use Rattle.tables.specs.Lent.{Lent, lent, grid, left_price, right_price, IsUsable}
+use Rattle.tables.specs.PairRows.{TightRows}
+use Rattle.tables.specs.Together.{Together}
+use Rattle.tables.proofs.Orderly.{sane_in_order}
+use Rattle.tables.proofs.Tightness.{pairs_optimum, pairings_are_optima}
+use Rattle.assign.specs.Answer.{Solved, Settled}
+
+-- writing to the partners and the prices leaves tables usable
+pub usable_still : {K : Type 0} (kind : Ghosts K) (n : ℕ) (costs : List K)
+    (standing p p' : List ℕ) (l l' r r' : List K) → IsUsable kind (lent n costs standing p l r)
+    → length p' ≡ length p → length l' ≡ length l → length r' ≡ length r
+    → IsUsable kind (lent n costs standing p' l' r')
+usable_still kind n costs standing p p' l l' r r' u ep el er = record {
+  few = u.few;
+  lengths = record {
+    room = record {
+      costs_long = u.lengths.room.costs_long;
+      standing_long = u.lengths.room.standing_long;
+      left_long = el ∙ u.lengths.room.left_long;
+      right_long = er ∙ u.lengths.room.right_long;
+    };
+    partners_long = ep ∙ u.lengths.partners_long;
+  };
+  in_order = u.in_order;
+}
+
+module _ {K : Type 0} (kind : Ghosts K) (wide : (x : K) → length (kind.meaning x) ≡ kind.columns)
+    (t : Lent K) (usable : IsUsable kind t) where
+  sane : Sane (grid kind t)
+  sane = sane_in_order kind.meaning kind.columns wide t.size t.costs t.standing usable.few
+      usable.lengths.room.costs_long usable.in_order
+
+  pub together : Settled kind t → Together kind t
+  together s = record {
+    pair_tables = record {
+      few = usable.few;
+      costs_long = usable.lengths.room.costs_long;
+      standing_long = usable.lengths.room.standing_long;
+      in_order = usable.in_order;
+    };
+    perfect = (((optima_are true (grid kind t)).list.are t.partners).0
+        (contains_nth (optima (grid kind t)) 0 t.partners s.first)).perfect;
+    left_prices = record { long = usable.lengths.room.left_long; near = s.prices.left_near };
+    right_prices = record { long = usable.lengths.room.right_long; near = s.prices.right_near };
+    valid = s.prices.greatest.valid;
+  }
+
+  -- over the tight rows of solved tables, the pairings are the optimum ones
+  module _ (solved : Solved kind t) (rows : List BlockSet) (sized : length rows ≡ t.size)
+      (made : TightRows (grid kind t) (left_price kind t) (right_price kind t) rows) where
+    are : (q : List ℕ) → Pairs rows q ↔ Optimum (grid kind t) q
+    are q = pairs_optimum (grid kind t) (left_price kind t) (right_price kind t) rows sane made
+        sized
+        t.partners q solved.optimum.perfect solved.prices.greatest.valid
+
+    pub paired : Pairs rows t.partners
+    paired = (are t.partners).1 solved.optimum
+
+    listed : pairings rows ≡ optima (grid kind t)
+    listed = pairings_are_optima (grid kind t) (left_price kind t) (right_price kind t) rows sane
+        made sized t.partners solved.optimum.perfect solved.prices.greatest.valid
+
+    pub settled : (q : List ℕ) → IsNth (pairings rows) 0 q
+        → Settled kind (record t { partners = q })
+    settled q h =
+        let o : Optimum (grid kind t) q =
+        (are q).0 (((perfects_are true (length rows) (holds rows)).list.are q).0
+        (contains_nth (pairings rows) 0 q h)) in
+        let p = solved.optimum.perfect in
+        let g = solved.prices.greatest in
+        record {
+          first = subst (λ ps. IsNth ps 0 q) listed h;
+          prices = record {
+            greatest = record {
+              valid = (valid_alike true (grid kind t) (left_price kind t) (right_price kind t)
+                  t.partners q sane p g.valid o.perfect).0.0 o;
+              low = g.low;
+              most = λ left' right' v. g.most left' right'
+                  ((valid_alike true (grid kind t) left' right' q t.partners sane o.perfect v
+                  p).0.0 solved.optimum);
+            };
+            left_near = solved.prices.left_near;
+            right_near = solved.prices.right_near;
+          };
+        }

@@ -1,0 +1,38 @@
+-- The cheapest pairs go with the cheapest prices, and none of these is farther than a cost.
+use Rattle.std.proofs.Common.{length, ◌∙◌, arith}
+use Rattle.cost.specs.declared.TheConstants.{COST_LIMIT}
+use Rattle.cost.proofs.Exact.{within_more}
+use Rattle.blockset.specs.Has.{has}
+use Rattle.pairing.specs.Grid.{at}
+use Rattle.pairing.specs.Rows.{holds}
+use Rattle.tables.specs.Said.{columns_at}
+use Rattle.assign.specs.declared.limits.TheConstants.{INNER_PRICE_LIMIT}
+use Rattle.assign.specs.Weighed.{weight_at, cost_weight}
+use Rattle.assign.proofs.Cheaply.{cheaply_kept}
+use Rattle.assign.proofs.solve.Goals as goal
+
+pub pair_rest-holders-requires : goal.pair_rest-holders-requires
+pair_rest-holders-requires g c =
+    let kind = g.K.Cost in
+    let n = length c.args.rows.now in
+    let cheapest = c.price_cheapest-cheapest in
+    let first = c.pair_cheapest-first in
+    let partnered = first.auto.partners ∙ c.requires.partnered in
+    record {
+      lent = c.requires.lent;
+      partnered = partnered;
+      lefts = c.requires.lefts;
+      rights = cheapest.auto.right ∙ c.requires.rights;
+      inside = first.ensures.inside;
+      possible = c.requires.possible;
+      paired = record {
+        kept = cheaply_kept n (holds c.args.rows.now) (cost_weight kind n c.args.costs.now)
+            (has cheapest.result.priced) (at cheapest.result.row)
+            (weight_at kind cheapest.new.right) cheapest.ensures.cheapest
+            (has first.result.out) first.new.partners first.result.holders partnered first.ensures;
+        priced = λ j h. within_more COST_LIMIT INNER_PRICE_LIMIT
+            (columns_at g.K.Cost.meaning cheapest.new.right j) (omega arith)
+            (cheapest.ensures.bound j h);
+        unsold = λ j h _. cheapest.ensures.bound j h;
+      };
+    }

@@ -1,6 +1,0 @@
--- The prices so far are within 10^12.
-use Rattle.tables.specs.Said.{Bounded}
-use Rattle.certificate.proofs.prices_within_limit.Given as goal
-
-abbrev pub invariant-loop-price : goal.invariant-loop-price
-invariant-loop-price g l = Bounded g.K.Cost.meaning 1000000000000 l.price-index l.prices

@@ -1,9 +1,0 @@
--- No standing pair before r costs less than its two prices.
-use Rattle.std.proofs.Common.{get_or}
-use Rattle.grid.specs.Tables.{says_stands}
-use Rattle.tables.specs.Said.{columns_at}
-use Rattle.certificate.specs.Together.{RowUnder}
-use Rattle.certificate.proofs.row_holds_prices.Given as goal
-
-abbrev pub invariant-loop-r : goal.invariant-loop-r
-invariant-loop-r g l = RowUnder l.r (λ r. says_stands (get_or l.standing r 0)) (g.K.Cost.meaning l.left) (columns_at g.K.Cost.meaning l.right) (columns_at g.K.Cost.meaning l.costs)

@@ -1,2 +1,0 @@
-pub mod Lengths
-pub mod Orderly

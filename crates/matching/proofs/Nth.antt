@@ -1,0 +1,13 @@
+-- What stands at some place of a list is in the list.
+-- Idea: at the first place it is the head; else it stands one place sooner in the tail.
+use Rattle.std.proofs.Common.{ℕ, zero, suc, List, [], ◌∷◌, Contains, sym, inl, inr, arith}
+use Rattle.pairing.proofs.Listing.{In, in_contains}
+use Rattle.matching.specs.Answers.{IsNth}
+
+nth_in : (ps : List (List ℕ)) (i : ℕ) (q : List ℕ) → IsNth ps i q → In q ps
+nth_in [] i q h = absurd (omega (arith, h.0))
+nth_in (p ∷ ps) zero q h = inl (sym h.1)
+nth_in (p ∷ ps) (suc i) q h = inr (nth_in ps i q (omega (arith, h.0), h.1))
+
+pub contains_nth : (ps : List (List ℕ)) (i : ℕ) (q : List ℕ) → IsNth ps i q → Contains ps q
+contains_nth ps i q h = in_contains ps q (nth_in ps i q h)

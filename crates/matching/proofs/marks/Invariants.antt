@@ -1,9 +1,0 @@
--- The rows before l are marked.
-use Rattle.std.proofs.Common.{◌≡◌, ℕ, ◌+◌, ◌*◌, ◌<◌, cond, length}
-use Rattle.pairing.specs.Grid.{at}
-use Rattle.pairing.specs.Optima.{has_pair}
-use Rattle.matching.specs.Rows.{pairings}
-use Rattle.matching.proofs.marks.Given as goal
-
-abbrev pub invariant-loop-l : goal.invariant-loop-l
-invariant-loop-l l = (m r : ℕ) → m < l.l → r < length l.rows → at l.table (m * length l.rows + r) ≡ cond (has_pair m r (pairings l.rows)) 1 0

@@ -1,6 +1,0 @@
--- The left blocks before l are settled.
-use Rattle.matching.proofs.Order.{Settling}
-use Rattle.matching.proofs.settle.Given as goal
-
-abbrev pub invariant-loop-l : goal.invariant-loop-l
-invariant-loop-l l = Settling l.rows l.low l.l l.initial.p l.p

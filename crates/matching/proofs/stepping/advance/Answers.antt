@@ -1,0 +1,55 @@
+-- Where a left block cannot have more, no pairing that agrees before it comes later; where it can,
+-- the next pairing is made. Both tell the place in the list.
+use Rattle.std.proofs.Common.{◌≡◌, ◌+◌, ◌-◌, sym, refl, ◌∙◌, subst, arith}
+use Rattle.pairing.specs.Optima.{Before}
+use Rattle.pairing.specs.Rows.{Pairs}
+use Rattle.matching.proofs.Order.{Next, Exhausted, exhausted_start, exhausted_more, next_is}
+use Rattle.matching.proofs.Places.{placed, next_place, last_place}
+use Rattle.matching.proofs.stepping.advance.Goals as goal
+
+pub loop-l-init : goal.loop-l-init
+loop-l-init c = (refl, exhausted_start c.args.rows.now c.args.p.now c.requires.pairs)
+
+pub returns-then-improve : goal.returns-then-improve
+returns-then-improve c =
+    let rows = c.args.rows.now in
+    let l = c.loop-l.l - 1 in
+    let p = c.loop-l.p in
+    let up : c.loop-l.l ≡ l + 1 = omega arith in
+    let pairs : Pairs rows p = subst (Pairs rows) (sym c.loop-l.invariant.0) c.requires.pairs in
+    let ended : Exhausted rows (l + 1) p = subst (λ m. Exhausted rows m p) up c.loop-l.invariant.1
+    in
+    let next : Next rows c.args.p.now c.make_first_from.new.p =
+    subst (λ x. Next rows x c.make_first_from.new.p) c.loop-l.invariant.0
+    (next_is rows l p pairs (omega arith) ended c.improve.new.p c.make_first_from.new.p
+    c.if-improve.ensures
+    c.make_first_from.ensures) in
+    let w = placed rows c.args.p.now c.requires.pairs in
+    (w.0, w.1, next_place rows w.0 c.args.p.now w.1 c.make_first_from.new.p next)
+
+pub loop-l-preserved : goal.loop-l-preserved
+loop-l-preserved c =
+    let rows = c.args.rows.now in
+    let l = c.loop-l.l - 1 in
+    let p = c.loop-l.p in
+    let up : c.loop-l.l ≡ l + 1 = omega arith in
+    let pairs : Pairs rows p = subst (Pairs rows) (sym c.loop-l.invariant.0) c.requires.pairs in
+    let ended : Exhausted rows (l + 1) p = subst (λ m. Exhausted rows m p) up c.loop-l.invariant.1
+    in
+    let stuck = c.if-improve.ensures in (
+      stuck.same ∙ c.loop-l.invariant.0,
+      subst (Exhausted rows l) (sym stuck.same)
+          (exhausted_more rows l p pairs (omega arith) ended c.improve.new.p stuck),
+    )
+
+pub returns : goal.returns
+returns c =
+    let rows = c.args.rows.now in
+    let p = c.args.p.now in
+    let w = placed rows p c.requires.pairs in (
+      w.0,
+      w.1,
+      last_place rows w.0 p w.1 (λ q g b. c.loop-l.invariant.1 q g (λ i h. absurd (omega arith))
+          (subst (λ x. Before x q) (sym c.loop-l.invariant.0) b)),
+      c.loop-l.invariant.0,
+    )

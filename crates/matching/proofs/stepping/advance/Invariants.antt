@@ -1,0 +1,7 @@
+-- Nothing has changed, and no pairing that agrees with p below l comes after it.
+use Rattle.std.proofs.Common.{◌≡◌}
+use Rattle.matching.proofs.Order.{Exhausted}
+use Rattle.matching.proofs.stepping.advance.Given as goal
+
+abbrev pub invariant-loop-l : goal.invariant-loop-l
+invariant-loop-l l = (l.p ≡ l.initial.p) × Exhausted l.rows l.l l.p

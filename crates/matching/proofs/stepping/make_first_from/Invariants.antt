@@ -1,0 +1,6 @@
+-- The left blocks before l are settled.
+use Rattle.matching.proofs.Order.{Settling}
+use Rattle.matching.proofs.stepping.make_first_from.Given as goal
+
+abbrev pub invariant-loop-l : goal.invariant-loop-l
+invariant-loop-l l = Settling l.rows l.low l.l l.initial.p l.p

@@ -1,0 +1,27 @@
+-- One step towards the first or the next pairing: what a pairing is made into.
+use Rattle.std.specs.Prelude.{◌≡◌, ℕ, ◌<◌, ◌≤◌, ◌⊎◌, List}
+use Rattle.blockset.specs.declared.BlockSet.{BlockSet}
+use Rattle.pairing.specs.Grid.{at}
+use Rattle.pairing.specs.Chains.{Agree}
+use Rattle.pairing.specs.Optima.{Before}
+use Rattle.pairing.specs.Rows.{Pairs}
+
+-- `after` is a pairing that agrees with `before` below l, and has the least right block from floor
+-- on that such a pairing can have at l
+pub record Improved (rows : List BlockSet) (l floor : ℕ) (before after : List ℕ) : Type 0 where
+  pub pairs : Pairs rows after
+  pub kept : Agree l before after
+  pub above : floor ≤ at after l
+  pub least : (q : List ℕ) → Pairs rows q → Agree l before q → floor ≤ at q l → at after l ≤ at q l
+
+-- no pairing that agrees with `before` below l has a right block from floor on at l; nothing is
+-- changed
+pub record Unimproved (rows : List BlockSet) (l floor : ℕ) (before after : List ℕ) : Type 0 where
+  pub same : after ≡ before
+  pub none : (q : List ℕ) → Pairs rows q → Agree l before q → at q l < floor
+
+-- `after` is the first of the pairings that agree with `before` below l
+pub record IsFirstFrom (rows : List BlockSet) (l : ℕ) (before after : List ℕ) : Type 0 where
+  pub pairs : Pairs rows after
+  pub kept : Agree l before after
+  pub first : (q : List ℕ) → Pairs rows q → Agree l before q → (q ≡ after) ⊎ Before after q

@@ -1,0 +1,171 @@
+//! Searching along alternating chains, and exchanging the pairs along one: from a left block to a
+//! right block of its row, on to the left block that has that right block, and so on.
+
+ghost use Rattle.std.specs.Prelude.{◌≡◌, ℕ, ◌<◌, ◌≤◌, true, false, ◌||◌, length, IfSome, IfNone};
+ghost use Rattle.std.specs.Prelude.{◌==◌};
+ghost use Rattle.std.specs.Prelude.{◌≢◌};
+ghost use Rattle.blockset.specs.declared.TheConstants.{MOST_BLOCKS};
+ghost use Rattle.blockset.specs.Has.{has};
+ghost use Rattle.pairing.specs.Grid.{at};
+ghost use Rattle.matching.specs.Exchange.{without, GivesDistinct, Holding, Ways, Exchanged};
+ghost use Rattle.matching.specs.Search.{along, ReachedBy, Ended};
+
+use blockset::BlockSet;
+
+/// Which right blocks are had by a left block, and by which.
+#[derive(Drop)]
+pub struct Holders {
+    pub held: BlockSet,
+    pub row: [u8; 64],
+}
+
+/// What a search may use: the left blocks that it starts from, the right blocks that these may
+/// take, those that any other left block may take, and those at which the search has found what it
+/// looks for.
+#[derive(Clone, Copy)]
+pub struct Bounds {
+    pub roots: BlockSet,
+    pub offer: BlockSet,
+    pub live: BlockSet,
+    pub goals: BlockSet,
+}
+
+/// The right blocks that a search reached: from which left block each, and how many others before
+/// it. The left block is a root, or has a right block that was reached before; so going back from
+/// block to block comes to a root.
+#[derive(Drop)]
+pub struct Reach {
+    pub reached: BlockSet,
+    pub from: [u8; 64],
+    pub rank: [u8; 64],
+    pub goal: Option<usize>,
+}
+
+/// The holders among the left blocks from `k` on, where those of `out` have nothing.
+pub fn find_holders(p: &[u16], k: usize, out: BlockSet) -> Holders
+    requires small { length p.now ≤ MOST_BLOCKS }
+    requires start { k ≤ length p.now }
+    requires below { (l : ℕ) → l < length p.now → has out l ≡ false → at p.now l < 64 }
+    ensures { Holding k (length p.now) p.now (has out) (has result.held) result.row }
+{
+    let mut held = BlockSet::empty();
+    let mut row = [0u8; 64];
+    for l in k..p.len() {
+        if !out.contains(l) {
+            let c = p[l] as usize;
+            held.insert(c);
+            row[c] = l as u8;
+        }
+    }
+    Holders { held, row }
+}
+
+/// A right block that left block `l` leads to and that is not reached yet: one of the goals, if
+/// there is any.
+fn fresh(rows: &[BlockSet], bounds: Bounds, reached: BlockSet, l: usize) -> Option<usize>
+    requires { l < length rows.now }
+    ensures none { IfNone result
+        ((c : ℕ) → along rows.now bounds l c ≡ true → has reached c ≡ true) }
+    ensures new { IfSome result
+        (λ c. (c < 64) × (along rows.now bounds l c ≡ true) × (has reached c ≡ false)) }
+    ensures goal { IfSome result (λ c. has bounds.goals c ≡ false → (d : ℕ)
+        → along rows.now bounds l d ≡ true → has reached d ≡ false → has bounds.goals d ≡ false) }
+{
+    let may = if bounds.roots.contains(l) {
+        bounds.offer
+    } else {
+        bounds.live
+    };
+    let new = rows[l].intersection(may).difference(reached);
+    match new.intersection(bounds.goals).least() {
+        Some(c) => Some(c),
+        None => new.least(),
+    }
+}
+
+/// Searches from the roots. Every step reaches a right block or is done with a left block, each of
+/// which happens at most once to each.
+pub fn search(rows: &[BlockSet], holders: &Holders, bounds: Bounds) -> Reach
+    requires small { length rows.now ≤ MOST_BLOCKS }
+    requires roots { (l : ℕ) → has bounds.roots l ≡ true → l < length rows.now }
+    requires inside { (l c : ℕ) → along rows.now bounds l c ≡ true → c < length rows.now }
+    requires held { (c : ℕ) → has holders.now.held c ≡ true
+        → at holders.now.row c < length rows.now }
+    ensures reached { ReachedBy (length rows.now) (along rows.now bounds) (has bounds.roots)
+        (has holders.now.held) holders.now.row (has result.reached) result.from result.rank }
+    ensures goal { Ended (along rows.now bounds) (has bounds.roots) (has holders.now.held)
+        (has bounds.goals) holders.now.row (has result.reached) result.goal }
+{
+    let mut reached = BlockSet::empty();
+    let mut from = [0u8; 64];
+    let mut rank = [0u8; 64];
+    let mut pending = bounds.roots;
+    while let Some(l) = pending.least() {
+        if let Some(c) = fresh(rows, bounds, reached, l) {
+            from[c] = l as u8;
+            rank[c] = reached.len() as u8;
+            reached.insert(c);
+            if bounds.goals.contains(c) {
+                return Reach {
+                    reached,
+                    from,
+                    rank,
+                    goal: Some(c),
+                };
+            }
+            if holders.held.contains(c) {
+                pending.insert(holders.row[c] as usize);
+            }
+        } else {
+            pending.remove(l);
+        }
+    }
+    Reach {
+        reached,
+        from,
+        rank,
+        goal: None,
+    }
+}
+
+/// Exchanges the pairs along the chain that a search came to the free right block `goal` by: the
+/// left block before it takes it and gives up the right block that it had, which the left block
+/// before takes, and so on back to a left block of `out`, the answer. The holders change with them.
+/// Ranks fall along the chain, so it has at most n steps.
+pub fn exchange(
+    p: &mut [u16],
+    holders: &mut Holders,
+    out: BlockSet,
+    reach: &Reach,
+    goal: usize,
+) -> usize
+    requires small { length p.old ≤ MOST_BLOCKS }
+    requires distinct { GivesDistinct (length p.old) p.old (has out) }
+    requires ways { Ways (length p.old) p.old (has out) (has reach.now.reached) reach.now.from
+        reach.now.rank }
+    requires reached { has reach.now.reached goal ≡ true }
+    requires free { (l : ℕ) → l < length p.old → has out l ≡ false → at p.old l ≢ goal }
+    ensures exchanged { Exchanged (length p.old) p.old p.new (has out) (has reach.now.reached)
+        reach.now.from result }
+
+    // One right block more is had.
+    ensures held { (c : ℕ) → has holders.new.held c ≡ (c == goal || has holders.old.held c) }
+
+    // Holders that told of the whole pairing do so still.
+    ensures told { Holding 0 (length p.old) p.old (has out) (has holders.old.held) holders.old.row
+        → Holding 0 (length p.old) p.new (without (has out) result) (has holders.new.held)
+        holders.new.row }
+{
+    holders.held.insert(goal);
+    let mut block = goal;
+    'chain: loop {
+        let l = reach.from[block] as usize;
+        let given_up = p[l] as usize;
+        p[l] = block as u16;
+        holders.row[block] = l as u8;
+        if out.contains(l) {
+            return l;
+        }
+        block = given_up;
+    }
+}

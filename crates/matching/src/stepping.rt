@@ -1,0 +1,135 @@
+//! Through the perfect pairings in dictionary order: to the first one, and from one to the next.
+
+ghost use Rattle.std.specs.Prelude.{◌≡◌, ◌<◌, ◌≤◌, ◌↔◌, length, MatchBool, IsOk, IfOk, IfErr, OnOk};
+ghost use Rattle.std.specs.Prelude.{OnErr};
+ghost use Rattle.blockset.specs.declared.TheConstants.{MOST_BLOCKS};
+ghost use Rattle.pairing.specs.Rows.{Pairs, pairings};
+ghost use Rattle.matching.specs.Fit.{Fits, Unfits};
+ghost use Rattle.matching.specs.Improving.{Improved, Unimproved, IsFirstFrom};
+ghost use Rattle.matching.specs.Answers.{IsNth, Follows};
+
+use crate::chains::{Bounds, exchange, find_holders, search};
+use crate::fitting::{Unfit, fit};
+use blockset::BlockSet;
+
+/// Where a step from a perfect pairing leads.
+#[derive(Clone, Copy, Debug, PartialEq, Eq)]
+pub enum Step {
+    /// To the next perfect pairing in dictionary order.
+    Next,
+    /// Nowhere: it was the last one.
+    End,
+}
+
+/// Sends left block `l` to the least right block from `floor` on that it can have while the left
+/// blocks before it keep theirs; false, and nothing changed, if there is none. A candidate can be
+/// had if a chain leads from it back to the right block that `l` has now. What a search for one
+/// candidate reached in vain is shut to the later searches, so that all of them together reach each
+/// right block at most once. They count as one search over the m left blocks from `l` on, of at
+/// most 3m steps: m right blocks that are reached, m left blocks that are done with, and `l` itself
+/// once for each candidate.
+fn improve(rows: &[BlockSet], p: &mut [u16], l: usize, floor: usize) -> bool
+    requires small { length rows.now ≤ MOST_BLOCKS }
+    requires pairs { Pairs rows.now p.old }
+    requires inside { l < length rows.now }
+    ensures { MatchBool result (Improved rows.now l floor p.old p.new)
+        (Unimproved rows.now l floor p.old p.new) }
+{
+    let own = p[l] as usize;
+    let alone = BlockSet::of(l);
+    let holders = find_holders(p, l, alone);
+    let goals = BlockSet::of(own);
+    let mut live = holders.held.union(goals);
+    let mut candidates = rows[l].intersection(live).difference(BlockSet::all(floor));
+    while let Some(r) = candidates.least() {
+        if r == own {
+            return true;
+        }
+        let bounds = Bounds {
+            roots: alone,
+            offer: BlockSet::of(r),
+            live,
+            goals,
+        };
+        let reach = search(rows, &holders, bounds);
+        if let Some(goal) = reach.goal {
+            // Nothing looks at the holders any more.
+            let mut holders = holders;
+            exchange(p, &mut holders, alone, &reach, goal);
+            return true;
+        }
+        live = live.difference(reach.reached);
+        candidates = candidates.intersection(live);
+    }
+    false
+}
+
+/// Makes `p` the first of the pairings that agree with it below `low`, by at most n searches: one
+/// for each left block from `low` on.
+fn make_first_from(rows: &[BlockSet], p: &mut [u16], low: usize)
+    requires small { length rows.now ≤ MOST_BLOCKS }
+    requires pairs { Pairs rows.now p.old }
+    requires inside { low ≤ length rows.now }
+    ensures { IsFirstFrom rows.now low p.old p.new }
+{
+    for l in low..rows.len() {
+        improve(rows, p, l, 0);
+    }
+}
+
+/// Makes `p`, which has to be a perfect pairing over the rows, the first one in dictionary order.
+/// This is for a caller that does not know; one that does calls `make_first`.
+pub fn first(rows: &[BlockSet], p: &mut [u16]) -> Result<(), Unfit>
+    ensures accepted { IsOk result ↔ Fits rows.now p.old }
+    ensures refused { IfErr result (Unfits rows.now p.old) }
+    ensures first { OnOk result (IsNth (pairings rows.now) 0 p.new) }
+    ensures kept { OnErr result (p.new ≡ p.old) }
+{
+    fit(rows, p)?;
+    make_first(rows, p);
+    Ok(())
+}
+
+/// What `first` does, for a caller that knows that `p` is a perfect pairing: nothing is tested.
+pub fn make_first(rows: &[BlockSet], p: &mut [u16])
+    requires small { length rows.now ≤ MOST_BLOCKS }
+    requires pairs { Pairs rows.now p.old }
+    ensures { IsNth (pairings rows.now) 0 p.new }
+{
+    make_first_from(rows, p, 0);
+}
+
+/// Makes `p`, which has to be a perfect pairing over the rows, the one that comes next in
+/// dictionary order; at the last one the answer is `End`, and `p` stays. This is for a caller that
+/// does not know; one that does calls `advance`.
+pub fn next(rows: &[BlockSet], p: &mut [u16]) -> Result<Step, Unfit>
+    ensures accepted { IsOk result ↔ Fits rows.now p.old }
+    ensures refused { IfErr result (Unfits rows.now p.old) }
+    ensures step { IfOk result (Follows (pairings rows.now) p.old p.new) }
+    ensures kept { OnErr result (p.new ≡ p.old) }
+{
+    fit(rows, p)?;
+    Ok(advance(rows, p))
+}
+
+/// What `next` does, for a caller that knows that `p` is a perfect pairing: nothing is tested.
+///
+/// The last left block that can have a greater right block, the ones before it keeping theirs, gets
+/// the least such one, and the ones after it the least that is left. Each left block is improved at
+/// most once on the way up, and each one after the last of these at most once on the way down. With
+/// 3m steps for the m-th one from the end, the two sums are together at most 3n²: the work of n
+/// searches over all n left blocks.
+pub fn advance(rows: &[BlockSet], p: &mut [u16]) -> Step
+    requires small { length rows.now ≤ MOST_BLOCKS }
+    requires pairs { Pairs rows.now p.old }
+    ensures { Follows (pairings rows.now) p.old p.new result }
+{
+    for l in (0..rows.len()).rev() {
+        let floor = p[l] as usize + 1;
+        if improve(rows, p, l, floor) {
+            make_first_from(rows, p, l + 1);
+            return Step::Next;
+        }
+    }
+    Step::End
+}

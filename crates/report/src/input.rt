@@ -1,0 +1,24 @@
+//! An input as text: what the order file that a reader gives states, or why it is refused.
+
+ghost use Rattle.std.specs.Prelude.{IfOk, IfSome, take, string_bytes};
+ghost use Rattle.report.specs.Describing.{Describes};
+
+use crate::describe;
+use std::alloc::Global;
+use std::io;
+use std::io::Read;
+
+/// An input is cut at this many bytes.
+pub const MOST_BYTES: u64 = 65_536;
+
+/// What an input states, as `describe` tells it of a file. An input of more than 65,536 bytes is
+/// judged by its first 65,536 bytes, as if the file ended there. An error is the reader's, or want
+/// of memory.
+pub fn describe_input<R: Read + Drop>(heap: Global, reader: R) -> io::Result<String>
+    ensures { IfOk result (λ text. IfSome (R.remaining reader)
+        (λ bytes. Describes (take MOST_BYTES bytes) (string_bytes text))) }
+{
+    let mut file = Vec::new(heap);
+    reader.take(MOST_BYTES).read_to_end(&mut file)?;
+    Ok(describe(heap, file.as_slice())?)
+}

@@ -1,0 +1,14 @@
+-- The rows before l hold what is tight.
+use Rattle.tables.specs.PairTables.{byte_of, says_stands}
+use Rattle.pairing.specs.Places.{place_of}
+use Rattle.tables.specs.Said.{columns_at}
+use Rattle.tables.specs.PairRows.{adds_up}
+use Rattle.tables.proofs.Filling.{Made}
+use Rattle.tables.proofs.rows.fill_tight_rows.Given as goal
+
+abbrev pub invariant-loop-l : goal.invariant-loop-l
+invariant-loop-l g l =
+    let meaning = g.K.Cost.meaning in
+    Made l.l l.n (λ k r. adds_up (says_stands (byte_of l.n l.standing k r))
+    (columns_at meaning l.left k) (columns_at meaning l.right r)
+    (columns_at meaning l.costs (place_of l.n k r))) l.rows

@@ -1,0 +1,87 @@
+-- The tables of a settled sheet as one value, and what they state at a cost kind.
+use Rattle.std.specs.Prelude.{◌≡◌, ℕ, ◌≤◌, List, length, ℤ, refl}
+use Rattle.std.specs.Coded.{Coded, code_by, coded×, coded_ℕ, coded_list}
+use Rattle.blockset.specs.declared.TheConstants.{MOST_BLOCKS}
+use Rattle.cost.specs.declared.Cost.{Ghosts}
+use Rattle.pairing.specs.Grid.{Grid}
+use Rattle.pairing.specs.Places.{places_of}
+use Rattle.tables.specs.Said.{columns_at, grid_of, IsInOrder}
+use Rattle.tables.specs.Flaws.{HasNoFlaw, IsFirstFlaw}
+use Rattle.tables.specs.declared.flaw.Flaw.{Flaw}
+
+-- the tables of n = `size` blocks a plane
+pub record Lent (K : Type 0) : Type 0 where
+  pub size : ℕ
+  pub costs : List K
+  pub standing : List ℕ
+  pub partners : List ℕ
+  pub left : List K
+  pub right : List K
+
+abbrev pub lent : {K : Type 0} → ℕ → List K → (standing partners : List ℕ) → (left right : List K)
+    → Lent K
+lent n costs standing partners left right = record {
+  size = n;
+  costs = costs;
+  standing = standing;
+  partners = partners;
+  left = left;
+  right = right;
+}
+
+-- tables are stored as the tuple of their parts
+abbrev pub lent_code : {K : Type 0} → Coded K → Coded (Lent K)
+lent_code {K} code =
+    code_by (ℕ × (List K × (List ℕ × (List ℕ × (List K × List K)))))
+    (coded× coded_ℕ
+    (coded× (coded_list code)
+    (coded× (coded_list coded_ℕ)
+    (coded× (coded_list coded_ℕ) (coded× (coded_list code) (coded_list code))))))
+    (λ t. (t.size, (t.costs, (t.standing, (t.partners, (t.left, t.right))))))
+    (λ p. lent p.0 p.1.0 p.1.1.0 p.1.1.1.0 p.1.1.1.1.0 p.1.1.1.1.1)
+    (λ _. refl)
+
+-- the tables but the partners have the lengths that n blocks a plane ask for
+pub record HasRoom (n costs standing left right : ℕ) : Type 0 where
+  pub costs_long : costs ≡ places_of n
+  pub standing_long : standing ≡ places_of n
+  pub left_long : left ≡ n
+  pub right_long : right ≡ n
+
+-- there are not too many blocks, and all tables but the partners have the lengths for them
+pub record IsReadable {K : Type 0} (t : Lent K) : Type 0 where
+  pub few : t.size ≤ MOST_BLOCKS
+  pub room : HasRoom t.size (length t.costs) (length t.standing) (length t.left) (length t.right)
+
+-- all tables have the lengths that their size asks for
+pub record HasLengths {K : Type 0} (t : Lent K) : Type 0 where
+  pub room : HasRoom t.size (length t.costs) (length t.standing) (length t.left) (length t.right)
+  pub partners_long : length t.partners ≡ t.size
+
+-- the grid that pair tables of n blocks a plane state
+abbrev pub grid_in : {K : Type 0} → Ghosts K → ℕ → List K → List ℕ → Grid
+grid_in kind n costs standing = grid_of kind.columns kind.meaning n costs standing
+
+module _ {K : Type 0} (kind : Ghosts K) (t : Lent K) where
+  -- the grid that the tables state
+  abbrev pub grid : Grid
+  grid = grid_in kind t.size t.costs t.standing
+
+  -- the columns of the price of a left block, and of a right block
+  abbrev pub left_price : ℕ → List ℤ
+  left_price = columns_at kind.meaning t.left
+
+  abbrev pub right_price : ℕ → List ℤ
+  right_price = columns_at kind.meaning t.right
+
+  -- the pair tables are in order
+  abbrev pub IsOrderly : Type 0
+  IsOrderly = IsInOrder kind.meaning (places_of t.size) t.costs t.standing
+
+  -- a call that pairs by cost can be made with them
+  abbrev pub IsUsable : Type 0
+  IsUsable = HasNoFlaw t.size (HasLengths t) IsOrderly
+
+  -- it cannot, and this is the first reason
+  abbrev pub IsUnusable : Flaw → Type 0
+  IsUnusable = IsFirstFlaw t.size (HasLengths t) IsOrderly

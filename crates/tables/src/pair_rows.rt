@@ -1,0 +1,76 @@
+//! Rows of block sets as one value: which right blocks each left block may be paired with.
+
+ghost use Rattle.std.specs.Prelude.{◌≡◌, ◌≤◌, length};
+ghost use Rattle.blockset.specs.declared.TheConstants.{MOST_BLOCKS};
+ghost use Rattle.pairing.specs.Places.{places_of};
+ghost use Rattle.tables.specs.PairTables.{byte_of, says_stands};
+ghost use Rattle.tables.specs.PairRows.{StandingRows, TightRows};
+ghost use Rattle.tables.specs.Lent.{IsReadable, grid, left_price, right_price};
+
+use crate::lent::Tables;
+use crate::rows::{fill_standing_rows, fill_tight_rows};
+use blockset::BlockSet;
+use cost::Cost;
+use std::marker::Model;
+
+/// At most 64 rows of right blocks. A contract sees the list of the rows.
+#[derive(Drop)]
+pub struct PairRows {
+    sets: [BlockSet; 64],
+    len: usize,
+}
+
+impl Model for PairRows {
+    ghost use Rattle.std.specs.Prelude.{◌≤◌, List, take};
+    ghost use Rattle.blockset.specs.declared.BlockSet.{BlockSet};
+    ghost use Rattle.blockset.specs.declared.TheConstants.{MOST_BLOCKS};
+
+    ghost Value = { List BlockSet };
+
+    ghost view = { λ rows. take rows.len rows.sets };
+
+    ghost invariant = { λ rows. rows.len ≤ MOST_BLOCKS };
+}
+
+impl PairRows {
+    /// The right blocks that stand with each of n left blocks.
+    pub fn standing(n: u16, standing: &[u8]) -> PairRows
+        requires few { n ≤ MOST_BLOCKS }
+        requires long { length standing.now ≡ places_of n }
+        ensures long { length result ≡ n }
+        ensures rows { StandingRows n (λ l r. says_stands (byte_of n standing.now l r)) result }
+    {
+        let len = n as usize;
+        let mut sets = [BlockSet::empty(); 64];
+        fill_standing_rows(standing, &mut sets[..len]);
+        PairRows { sets, len }
+    }
+
+    /// The right blocks that are tight with each left block.
+    pub fn tight<K: Cost>(tables: &Tables<'_, K>) -> PairRows
+        requires { IsReadable tables.now }
+        ensures long { length result ≡ tables.now.size }
+        ensures rows { TightRows (grid K.Cost tables.now) (left_price K.Cost tables.now)
+            (right_price K.Cost tables.now) result }
+    {
+        let len = tables.size as usize;
+        let mut sets = [BlockSet::empty(); 64];
+        let rows = &mut sets[..len];
+        fill_tight_rows(
+            tables.costs,
+            tables.standing,
+            tables.left,
+            tables.right,
+            rows,
+        );
+        PairRows { sets, len }
+    }
+
+    /// The rows, of which there are at most 64.
+    pub fn as_slice(&self) -> &[BlockSet]
+        ensures rows { result.now ≡ self.now }
+        ensures few { length self.now ≤ MOST_BLOCKS }
+    {
+        &self.sets[..self.len]
+    }
+}
