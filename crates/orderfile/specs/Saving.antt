@@ -4,7 +4,6 @@ use Rattle.std.specs.Prelude.{List, [], ◌∷◌, ◌++◌, length, take, drop,
 use Rattle.std.specs.Prelude.{Result, nat_lt, count_by, if◌then◌else◌, slice_index}
 use Rattle.std.specs.Prelude.{slice_index_or}
 use Rattle.std.specs.List.{AllByRecursion}
-use Rattle.cost.specs.Columns.{rail_of}
 use Rattle.cost.specs.declared.plain_kind.Plain.{Plain}
 use Rattle.tables.specs.PairTables.{HavePlaces, have_places, says_stands, byte_of}
 use Rattle.tables.specs.PairTables.{in_order}
@@ -14,7 +13,7 @@ use Rattle.sheet.specs.declared.fault.Cause.TheVariants.{TableLength, Inconsiste
 use Rattle.sheet.specs.declared.fault.Fault.{Fault}
 use Rattle.orderfile.specs.declared.record.StatedPair.{StatedPair}
 use Rattle.orderfile.specs.Format.{SoundPair, file_of}
-use Rattle.orderfile.specs.Loading.{plain, plain_cell, names_blocks, Loaded}
+use Rattle.orderfile.specs.Loading.{plain, plain_kind, plain_cell, names_blocks, Loaded}
 
 -- the length of a saved file: a size field, a field for each standing pair, an end field
 abbrev pub saved_length : List ℕ → ℕ
@@ -22,7 +21,7 @@ saved_length standing = 7 + 13 * count_by says_stands standing
 
 -- the tables are in order: no byte is above 1, and each standing cost is within 10^9
 abbrev pub plain_in_order : List Plain → List ℕ → Bool
-plain_in_order costs standing = in_order (λ p. rail_of p.0 ∷ []) costs standing
+plain_in_order costs standing = in_order plain_kind.meaning costs standing
 
 -- room is the length of the buffer
 unfoldable pub save_refusal : ℕ → List Plain → List ℕ → ℕ → Option Fault
