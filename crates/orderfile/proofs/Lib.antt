@@ -8,6 +8,7 @@ pub mod Fronts
 pub mod Grids
 pub mod Handed
 pub mod Listed
+pub mod LoadedGrid
 pub mod Reading
 pub mod Saves
 pub mod Verdicts
