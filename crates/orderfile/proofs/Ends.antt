@@ -9,6 +9,7 @@ use Rattle.cost.specs.declared.plain_kind.Plain.{Plain}
 use Rattle.sheet.specs.declared.fault.Cause.TheVariants.{TableLength}
 use Rattle.sheet.specs.declared.fault.Fault.{Fault}
 use Rattle.tables.specs.PairTables.{HavePlaces, costs_opened, standing_opened}
+use Rattle.tables.specs.Together.{ArePairTables}
 use Rattle.pairing.specs.Places.{places_of}
 use Rattle.sheet.specs.Opening.{open_refusal, Opened}
 use Rattle.sheet.specs.Size.{Sheet, sheet_of, size_of}
@@ -17,9 +18,10 @@ use Rattle.sheet.proofs.Opening.{open_accepts, open_misfits, open_places}
 use Rattle.sheet.proofs.Refused.{from_err, from_ok, kept, renewed}
 use Rattle.orderfile.specs.Format.{Order, Sound, States}
 use Rattle.orderfile.specs.Faults.{FirstFault}
-use Rattle.orderfile.specs.Loading.{plain, costs_after, standing_after, Shows, Checked}
-use Rattle.orderfile.specs.Loading.{Accepted, Loaded}
+use Rattle.orderfile.specs.Loading.{plain, plain_kind, costs_after, standing_after, Shows}
+use Rattle.orderfile.specs.Loading.{Checked, Accepted, Loaded}
 use Rattle.orderfile.proofs.Cells.{shows_order}
+use Rattle.orderfile.proofs.Grids.{same_grid, entered_tables}
 use Rattle.orderfile.proofs.Verdicts.{one_order, one_fault, not_both, verdict_order, verdict_fault}
 
 -- what an answer of `check` tells
@@ -77,15 +79,23 @@ module _ (file : List ℕ) (costs : List Plain) (standing : List ℕ) (r : Resul
       → standing' ≡ standing_after order.size order.pairs (standing_opened order.size)
       → Loaded file costs standing r costs' standing'
   loaded order s fit e ec eb =
+      let cs : List Plain =
+      costs_after order.size order.pairs (costs_opened (plain (pos 0)) order.size) in
+      let shown : Shows order costs' standing' =
+      subst (λ (xs : List Plain). Shows order xs standing') (sym ec)
+      (subst (λ (bs : List ℕ). Shows order cs bs) (sym eb)
+      (shows_order order s.sound.pairs_sound)) in
+      let tables : ArePairTables plain_kind order.size costs' standing' =
+      subst (λ (xs : List Plain). ArePairTables plain_kind order.size xs standing') (sym ec)
+      (subst (λ (bs : List ℕ). ArePairTables plain_kind order.size cs bs) (sym eb)
+      (entered_tables order s.sound)) in
       let here : Accepted order r costs' standing' = record {
         answers = e;
         enters_costs = ec;
         enters_standing = eb;
-        shows = subst (λ (cs : List Plain). Shows order cs standing') (sym ec)
-            (subst (λ (bs : List ℕ). Shows order
-            (costs_after order.size order.pairs
-            (costs_opened (plain (pos 0)) order.size))
-            bs) (sym eb) (shows_order order s.sound.pairs_sound));
+        shows = shown;
+        grid = same_grid order s.sound.pairs_sound costs' standing' tables.costs_long shown;
+        pair_tables = tables;
       } in
       record {
         verdict = verdict_order file order s;

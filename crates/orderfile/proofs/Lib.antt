@@ -5,8 +5,10 @@ pub mod Ends
 pub mod Entering
 pub mod Fields
 pub mod Fronts
+pub mod Grids
 pub mod Handed
 pub mod Listed
+pub mod LoadedGrid
 pub mod Reading
 pub mod Saves
 pub mod Verdicts

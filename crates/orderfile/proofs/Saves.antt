@@ -10,21 +10,25 @@ use Rattle.std.proofs.Common.{count_by, arith}
 use Rattle.std.proofs.ByRecursion.{All-weaker}
 use Rattle.std.proofs.lemmas.List.{length-append, take_at, drop-drop}
 use Rattle.std.proofs.lemmas.Bool.{cases_Bool, cond-true, cond-false, and_parts, eqb-true, lt-ltb}
-use Rattle.std.proofs.lemmas.Bool.{le-ltb}
+use Rattle.std.proofs.lemmas.Bool.{le-ltb, not-false}
 use Rattle.std.specs.Option.{option_map}
 use Rattle.std.specs.List.{flat_map, AllByRecursion}
 use Rattle.cost.specs.declared.plain_kind.Plain.{Plain}
+use Rattle.pairing.specs.Inside.{SameInside}
 use Rattle.pairing.specs.Places.{places_of}
-use Rattle.tables.specs.PairTables.{have_places, says_stands, byte_of}
+use Rattle.tables.specs.PairTables.{HavePlaces, have_places, says_stands, byte_of}
+use Rattle.tables.proofs.Lengths.{places_told}
 use Rattle.sheet.specs.declared.fault.Cause.TheVariants.{TableLength, Inconsistent, ShortBuffer}
 use Rattle.sheet.specs.declared.fault.Fault.{Fault}
 use Rattle.sheet.specs.Refusals.{fault}
-use Rattle.sheet.proofs.Refused.{refused, accepted}
+use Rattle.sheet.proofs.Refused.{refused, accepted, cleared}
 use Rattle.orderfile.specs.declared.record.StatedPair.{StatedPair}
 use Rattle.orderfile.specs.Format.{Order, SoundPair, States, pair_field, end_field, size_field}
 use Rattle.orderfile.specs.Format.{file_of}
-use Rattle.orderfile.specs.Loading.{plain, plain_cell, or_else, cost_stated}
+use Rattle.orderfile.specs.Loading.{plain, plain_cell, plain_grid, or_else, cost_stated}
+use Rattle.orderfile.specs.Loading.{grid_stated}
 use Rattle.orderfile.proofs.Buffer.{put_behind}
+use Rattle.orderfile.proofs.Grids.{same_grid}
 use Rattle.orderfile.proofs.Listed.{pairs_listed_count, times-cons}
 use Rattle.orderfile.specs.Saving.{saved_length, plain_in_order, save_refusal, pairs_listed, times}
 use Rattle.orderfile.specs.Saving.{Standing, Names, Written, Reloads, Saved}
@@ -86,53 +90,20 @@ file_length n ps =
     length-append (size_field n) (flat_map pair_field ps ++ end_field)
     ∙ omega (arith, tail, joined_length ps)
 
-module _ (n : ℕ) (some : 1 ≤ n) (few : n ≤ 64) (costs : List Plain) (standing out : List ℕ) where
-  reloads : (out' : List ℕ) → Written n costs standing out out' → Reloads n costs standing
-      (take (saved_length standing) out')
-  reloads out' w costs₀ standing₀ r costs' standing' fit h =
-      let order : Order = record { size = n; pairs = w.pairs } in
-      let states : States (take (saved_length standing) out') order = record {
-        is_file = ap (take (saved_length standing)) w.file ∙ take_at (file_of order)
-            (drop (saved_length standing) out) (saved_length standing) w.long;
-        sound = record {
-          some = some;
-          few = few;
-          pairs_sound =
-              All-weaker (Standing n costs standing) (SoundPair n) (λ p s. s.sound) w.pairs
-              w.names.only;
-        };
-      } in
-      let accepts = h.loads order states fit in (
-        accepts.answers,
-        λ l m hl hm. accepts.shows l m hl hm ∙ names_stated n costs standing w.pairs
-            w.names l m hl hm,
-      )
-
-  pub saved : (r : Result ℕ Fault) (out' : List ℕ) → save_refusal n costs standing
-      (length out) ≡ None → r ≡ Ok (saved_length standing) → Written n costs standing out out'
-      → Saved n costs standing out r out'
-  saved r out' e er w = record {
-    answers = er ∙ accepted _ _ e;
-    stays = λ f s. let z : ◌≡◌ {A = ℕ} 0 1 = cc in absurd (omega arith);
-    writes = λ _. w;
-    reloads = λ _. reloads out' w;
-  }
-
-  pub not_saved : (f : Fault) (r : Result ℕ Fault) (out' : List ℕ) → save_refusal n costs standing
-      (length out) ≡ Some f → r ≡ Err f → out' ≡ out → Saved n costs standing out r out'
-  not_saved f r out' e er same = record {
-    answers = er ∙ refused _ _ _ e;
-    stays = λ g s. same;
-    writes = λ s. let z : ◌≡◌ {A = ℕ} 0 1 = cc in absurd (omega arith);
-    reloads = λ s. let z : ◌≡◌ {A = ℕ} 0 1 = cc in absurd (omega arith);
-  }
-
 -- when saving is refused
 module _ (n : ℕ) (costs : List Plain) (standing : List ℕ) (room : ℕ) where
   pub save_misfits : have_places n (length costs) (length standing) ≡ false
       → save_refusal n costs standing room ≡ Some (fault TableLength 0)
   unfolding save_refusal
   save_misfits wrong = cond-true _ _ _ (ap not wrong)
+
+  save_places : save_refusal n costs standing room ≡ None
+      → HavePlaces n (length costs) (length standing)
+  unfolding save_refusal
+  save_places e =
+      places_told n (length costs) (length standing)
+      (not-false (have_places n (length costs) (length standing))
+      (cleared (not (have_places n (length costs) (length standing))) (fault TableLength 0) _ e).0)
 
   module _ (fit : have_places n (length costs) (length standing) ≡ true) where
     pub save_disturbed : plain_in_order costs standing ≡ false
@@ -151,6 +122,63 @@ module _ (n : ℕ) (costs : List Plain) (standing : List ℕ) (room : ℕ) where
     unfolding save_refusal
     save_accepts e h = cond-false _ _ _ (ap not fit) ∙ cond-false _ _ _ (ap not e)
         ∙ cond-false _ _ _ (le-ltb room (saved_length standing) h)
+
+-- two grids of tables that are each the same inside as a third
+same_as_third : (n : ℕ) (costs costs' : List Plain) (standing standing' : List ℕ) (order : Order)
+    → SameInside (plain_grid n costs standing) (grid_stated order)
+    → SameInside (plain_grid n costs' standing') (grid_stated order)
+    → SameInside (plain_grid n costs' standing') (plain_grid n costs standing)
+same_as_third n costs costs' standing standing' order a b = record {
+  size = refl;
+  columns = refl;
+  stands = λ l r i j. b.stands l r i j ∙ sym (a.stands l r i j);
+  cost = λ l r i j k. b.cost l r i j k
+      ∙ sym (a.cost l r i j (a.stands l r i j ∙ sym (b.stands l r i j) ∙ k));
+}
+
+module _ (n : ℕ) (some : 1 ≤ n) (few : n ≤ 64) (costs : List Plain) (standing out : List ℕ) where
+  reloads : (out' : List ℕ) → length costs ≡ places_of n → Written n costs standing out out'
+      → Reloads n costs standing (take (saved_length standing) out')
+  reloads out' long w costs₀ standing₀ r costs' standing' fit h =
+      let order : Order = record { size = n; pairs = w.pairs } in
+      let states : States (take (saved_length standing) out') order = record {
+        is_file = ap (take (saved_length standing)) w.file ∙ take_at (file_of order)
+            (drop (saved_length standing) out) (saved_length standing) w.long;
+        sound = record {
+          some = some;
+          few = few;
+          pairs_sound =
+              All-weaker (Standing n costs standing) (SoundPair n) (λ p s. s.sound) w.pairs
+              w.names.only;
+        };
+      } in
+      let accepts = h.loads order states fit in
+      let named = names_stated n costs standing w.pairs w.names in (
+        accepts.answers,
+        λ l m hl hm. accepts.shows l m hl hm ∙ named l m hl hm,
+        same_as_third n costs costs' standing standing' order
+            (same_grid order states.sound.pairs_sound costs standing long
+            (λ l m hl hm. sym (named l m hl hm))) accepts.grid,
+      )
+
+  pub saved : (r : Result ℕ Fault) (out' : List ℕ) → save_refusal n costs standing
+      (length out) ≡ None → r ≡ Ok (saved_length standing) → Written n costs standing out out'
+      → Saved n costs standing out r out'
+  saved r out' e er w = record {
+    answers = er ∙ accepted _ _ e;
+    stays = λ f s. let z : ◌≡◌ {A = ℕ} 0 1 = cc in absurd (omega arith);
+    writes = λ _. w;
+    reloads = λ _. reloads out' (save_places n costs standing (length out) e).costs w;
+  }
+
+  pub not_saved : (f : Fault) (r : Result ℕ Fault) (out' : List ℕ) → save_refusal n costs standing
+      (length out) ≡ Some f → r ≡ Err f → out' ≡ out → Saved n costs standing out r out'
+  not_saved f r out' e er same = record {
+    answers = er ∙ refused _ _ _ e;
+    stays = λ g s. same;
+    writes = λ s. let z : ◌≡◌ {A = ℕ} 0 1 = cc in absurd (omega arith);
+    reloads = λ s. let z : ◌≡◌ {A = ℕ} 0 1 = cc in absurd (omega arith);
+  }
 
 -- the bytes of the listed pairs, by their number
 pub pairs_listed-length : (n : ℕ) → 1 ≤ n → (costs : List Plain) (standing : List ℕ)

@@ -1,10 +1,16 @@
 -- What `check` and `load` answer for a file, and what `load` leaves in the tables, at every input.
 use Rattle.std.specs.Prelude.{◌≡◌, ℕ, ◌<◌, Bool, ◌&&◌, ◌⊎◌, List, [], ◌∷◌, length, ℤ, pos}
 use Rattle.std.specs.Prelude.{Some, None, Ok, Err, Option, Result, ◌==◌, if◌then◌else◌}
-use Rattle.std.specs.Option.{option_map}
+use Rattle.std.specs.Option.{option_map, is_some}
+use Rattle.cost.specs.Columns.{rail_of}
+use Rattle.cost.specs.declared.Cost.{Ghosts}
 use Rattle.cost.specs.declared.plain_kind.Plain.{Plain}
+use Rattle.pairing.specs.Grid.{Grid}
+use Rattle.pairing.specs.Inside.{SameInside}
 use Rattle.tables.specs.PairTables.{HavePlaces, cell, costs_opened, standing_opened, costs_entered}
 use Rattle.tables.specs.PairTables.{standing_entered}
+use Rattle.tables.specs.Lent.{grid_in}
+use Rattle.tables.specs.Together.{ArePairTables}
 use Rattle.sheet.specs.Size.{Sheet, sheet_of}
 use Rattle.sheet.specs.Refusals.{fault}
 use Rattle.sheet.specs.declared.fault.Cause.TheVariants.{TableLength}
@@ -30,9 +36,18 @@ pub record Checked (file : List ℕ) (r : Result ℕ Fault) : Type 0 where
 abbrev pub plain : ℤ → Plain
 plain z = record { 0 = z }
 
+-- the plain kind as contracts see a kind; a clause of a function also calls it
+-- `⟦<Plain as Cost>⟧`
+abbrev pub plain_kind : Ghosts Plain
+plain_kind = record { columns = 1; meaning = λ p. rail_of p.0 ∷ []; zero = plain (pos 0) }
+
 -- the cell of a pair in tables of plain costs
 abbrev pub plain_cell : ℕ → List Plain → List ℕ → ℕ → ℕ → Option Plain
 plain_cell n costs standing = cell (plain (pos 0)) n costs standing
+
+-- the grid that tables of plain costs state
+abbrev pub plain_grid : ℕ → List Plain → List ℕ → Grid
+plain_grid n costs standing = grid_in plain_kind n costs standing
 
 -- the tables of a sheet of n blocks after pairs were entered in turn
 abbrev pub costs_after : ℕ → List StatedPair → List Plain → List Plain
@@ -59,6 +74,20 @@ cost_stated [] l r = None
 cost_stated (p ∷ ps) l r =
     or_else (cost_stated ps l r) (if names_blocks l r p then Some p.cost else None)
 
+-- the columns of a stated cost: itself as the only one
+abbrev pub stated_columns : Option ℤ → List ℤ
+stated_columns None = []
+stated_columns (Some cost) = cost ∷ []
+
+-- the grid that an order states: a pair stands if a cost is stated for it, and has that cost
+abbrev pub grid_stated : Order → Grid
+grid_stated order = record {
+  size = order.size;
+  columns = 1;
+  stands = λ l r. is_some (cost_stated order.pairs l r);
+  cost = λ l r. stated_columns (cost_stated order.pairs l r);
+}
+
 -- the tables say of each pair what the order states
 abbrev pub Shows : Order → List Plain → List ℕ → Type 0
 Shows order costs standing = (l r : ℕ) → l < order.size → r < order.size
@@ -80,6 +109,10 @@ pub record Accepted (order : Order) (r : Result Sheet Fault) (costs' : List Plai
       (standing_opened order.size)
   -- which is the sheet that the file states
   pub shows : Shows order costs' standing'
+  -- so all that is told of the grid in them is told of the grid that the file states
+  pub grid : SameInside (plain_grid order.size costs' standing') (grid_stated order)
+  -- and they are pair tables in order, at which no call on a sheet takes offence
+  pub pair_tables : ArePairTables plain_kind order.size costs' standing'
 
 -- loading: the first fault of the file, else tables of the wrong length, else the sheet that the
 -- file states

@@ -4,8 +4,8 @@ use Rattle.std.specs.Prelude.{List, [], ◌∷◌, ◌++◌, length, take, drop,
 use Rattle.std.specs.Prelude.{Result, nat_lt, count_by, if◌then◌else◌, slice_index}
 use Rattle.std.specs.Prelude.{slice_index_or}
 use Rattle.std.specs.List.{AllByRecursion}
-use Rattle.cost.specs.Columns.{rail_of}
 use Rattle.cost.specs.declared.plain_kind.Plain.{Plain}
+use Rattle.pairing.specs.Inside.{SameInside}
 use Rattle.tables.specs.PairTables.{HavePlaces, have_places, says_stands, byte_of}
 use Rattle.tables.specs.PairTables.{in_order}
 use Rattle.sheet.specs.Size.{Sheet, sheet_of}
@@ -14,7 +14,8 @@ use Rattle.sheet.specs.declared.fault.Cause.TheVariants.{TableLength, Inconsiste
 use Rattle.sheet.specs.declared.fault.Fault.{Fault}
 use Rattle.orderfile.specs.declared.record.StatedPair.{StatedPair}
 use Rattle.orderfile.specs.Format.{SoundPair, file_of}
-use Rattle.orderfile.specs.Loading.{plain, plain_cell, names_blocks, Loaded}
+use Rattle.orderfile.specs.Loading.{plain, plain_kind, plain_cell, plain_grid, names_blocks}
+use Rattle.orderfile.specs.Loading.{Loaded}
 
 -- the length of a saved file: a size field, a field for each standing pair, an end field
 abbrev pub saved_length : List ℕ → ℕ
@@ -22,7 +23,7 @@ saved_length standing = 7 + 13 * count_by says_stands standing
 
 -- the tables are in order: no byte is above 1, and each standing cost is within 10^9
 abbrev pub plain_in_order : List Plain → List ℕ → Bool
-plain_in_order costs standing = in_order (λ p. rail_of p.0 ∷ []) costs standing
+plain_in_order costs standing = in_order plain_kind.meaning costs standing
 
 -- room is the length of the buffer
 unfoldable pub save_refusal : ℕ → List Plain → List ℕ → ℕ → Option Fault
@@ -55,7 +56,7 @@ pub record Written (n : ℕ) (costs : List Plain) (standing out out' : List ℕ)
   pub file : out' ≡ file_of (record { size = n; pairs = pairs }) ++ drop (saved_length standing) out
 
 -- whatever tables of the right lengths the file is loaded into, the sheet there is the same one:
--- its size, its standing pairs and their costs
+-- its size, its standing pairs and their costs, and so all that is told of its grid
 abbrev pub Reloads : ℕ → List Plain → List ℕ → List ℕ → Type 0
 Reloads n costs standing file =
     (costs₀ : List Plain) (standing₀ : List ℕ) (r : Result Sheet Fault) (costs' : List Plain)
@@ -65,6 +66,7 @@ Reloads n costs standing file =
     → (r ≡ Ok (sheet_of n))
     × ((l r : ℕ) → l < n → r < n
     → plain_cell n costs' standing' l r ≡ plain_cell n costs standing l r)
+    × SameInside (plain_grid n costs' standing') (plain_grid n costs standing)
 
 pub record Saved (n : ℕ) (costs : List Plain) (standing out : List ℕ) (r : Result ℕ Fault)
     (out' : List ℕ) : Type 0 where

@@ -1,0 +1,184 @@
+-- The grid of the tables that a file was loaded into is the grid that its order states, and the
+-- tables are in order.
+-- Idea: a cell tells both whether its pair stands and at what cost. A stated cost is within the
+-- limit, so as a plain cost it means itself. Blank tables are in order, and entering a pair of a
+-- sound order keeps them so, since it writes one byte 1 beside one small cost.
+use Rattle.std.proofs.Common.{◌≡◌, ℕ, ◌<◌, ◌≤◌, Bool, true, false, cond, ◌⊎◌, List, []}
+use Rattle.std.proofs.Common.{◌∷◌, length, get_or, set, replicate, ℤ, pos, nat_abs, Some, None}
+use Rattle.std.proofs.Common.{Option, sym, refl, ap, ◌∙◌, subst, inl, inr, ⊎_elim, arith}
+use Rattle.std.proofs.lemmas.List.{length-set, length-replicate, get_or-map, get_or-replicate}
+use Rattle.std.proofs.lemmas.List.{get_or-set_other}
+use Rattle.std.proofs.lemmas.Grind.{get_or-set_at}
+use Rattle.std.proofs.lemmas.Bool.{cases_eq}
+use Rattle.std.specs.Option.{option_map, is_some}
+use Rattle.std.specs.List.{AllByRecursion}
+use Rattle.cost.specs.Columns.{rail_of, Within}
+use Rattle.cost.specs.declared.plain_kind.Plain.{Plain}
+use Rattle.cost.proofs.Exact.{rail_of_same}
+use Rattle.pairing.specs.Inside.{SameInside}
+use Rattle.pairing.specs.Places.{place_of, places_of}
+use Rattle.tables.specs.PairTables.{says_stands, says_disturbed, byte_of}
+use Rattle.tables.specs.Said.{columns_at, IsInOrder}
+use Rattle.tables.specs.Together.{ArePairTables}
+use Rattle.tables.proofs.Cells.{place_below}
+use Rattle.orderfile.specs.declared.record.StatedPair.{StatedPair}
+use Rattle.orderfile.specs.Format.{Order, Sound, SoundPair}
+use Rattle.orderfile.specs.Loading.{plain, plain_kind, plain_grid, costs_after, standing_after}
+use Rattle.orderfile.specs.Loading.{or_else, names_blocks, cost_stated, stated_columns, grid_stated}
+use Rattle.orderfile.specs.Loading.{Shows}
+
+-- ---- The costs that an order states
+
+or_else_some : (a b : Option ℤ) (z : ℤ) → or_else a b ≡ Some z → (a ≡ Some z) ⊎ (b ≡ Some z)
+or_else_some (Some x) b z e = inl e
+or_else_some None b z e = inr e
+
+cond_some : (b : Bool) (x z : ℤ) → cond b (Some x) None ≡ Some z → x ≡ z
+cond_some true x z e = cc
+cond_some false x z e = let z : ◌≡◌ {A = ℕ} 0 1 = cc in absurd (omega arith)
+
+-- they are within the limit
+stated_small : (n : ℕ) (ps : List StatedPair) → AllByRecursion (SoundPair n) ps → (l r : ℕ) (z : ℤ)
+    → cost_stated ps l r ≡ Some z → nat_abs z ≤ 1000000000
+stated_small n [] s l r z e = let z : ◌≡◌ {A = ℕ} 0 1 = cc in absurd (omega arith)
+stated_small n (p ∷ ps) s l r z e =
+    ⊎_elim (λ later. stated_small n ps s.1 l r z later)
+    (λ here. subst (λ x. nat_abs x ≤ 1000000000)
+    (cond_some (names_blocks l r p) p.cost z here) s.0.cost_within)
+    (or_else_some (cost_stated ps l r) (cond (names_blocks l r p) (Some p.cost) None) z e)
+
+-- ---- What a cell tells
+
+cell_stands : (b : Bool) (x : Plain) (o : Option ℤ) → cond b (Some x) None ≡ option_map plain o
+    → b ≡ is_some o
+cell_stands true x (Some z) e = refl
+cell_stands true x None e = let z : ◌≡◌ {A = ℕ} 0 1 = cc in absurd (omega arith)
+cell_stands false x (Some z) e = let z : ◌≡◌ {A = ℕ} 0 1 = cc in absurd (omega arith)
+cell_stands false x None e = refl
+
+cell_cost : (b : Bool) (x : Plain) (o : Option ℤ) → cond b (Some x) None ≡ option_map plain o
+    → b ≡ true → (z : ℤ) × (o ≡ Some z) × (x ≡ plain z)
+cell_cost true x (Some z) e h = (z, refl, cc)
+cell_cost true x None e h = let z : ◌≡◌ {A = ℕ} 0 1 = cc in absurd (omega arith)
+cell_cost false x o e h = let z : ◌≡◌ {A = ℕ} 0 1 = cc in absurd (omega arith)
+
+module _ (order : Order) (sound : AllByRecursion (SoundPair order.size) order.pairs)
+    (costs : List Plain) (standing : List ℕ) (long : length costs ≡ places_of order.size)
+    (shows : Shows order costs standing) where
+  byte_says : ℕ → ℕ → Bool
+  byte_says l r = says_stands (byte_of order.size standing l r)
+
+  cost_shown : (l r : ℕ) → l < order.size → r < order.size → byte_says l r ≡ true
+      → columns_at plain_kind.meaning costs (place_of order.size l r)
+      ≡ stated_columns (cost_stated order.pairs l r)
+  unfolding byte_says
+  cost_shown l r hl hr h =
+      let at = place_of order.size l r in
+      let x = get_or costs at (plain (pos 0)) in
+      let stated = cost_stated order.pairs l r in
+      let told = cell_cost (byte_says l r) x stated (shows l r hl hr) h in
+      let z = told.0 in
+      let same : rail_of z ≡ z = rail_of_same z
+      (omega (arith, stated_small order.size order.pairs sound l r z told.1)) in
+      get_or-map plain_kind.meaning costs at (plain (pos 0)) []
+      (omega (arith, place_below order.size l r hl hr))
+      ∙ ap plain_kind.meaning told.2 ∙ ap (λ t. t ∷ []) same ∙ ap stated_columns (sym told.1)
+
+  pub same_grid : SameInside (plain_grid order.size costs standing) (grid_stated order)
+  unfolding byte_says
+  same_grid = record {
+    size = refl;
+    columns = refl;
+    stands = λ l r hl hr. cell_stands (byte_says l r)
+        (get_or costs (place_of order.size l r) (plain (pos 0))) (cost_stated order.pairs l r)
+        (shows l r hl hr);
+    cost = cost_shown;
+  }
+
+-- ---- Order
+
+-- a stated cost and the byte beside it, written at one place of tables that are in order
+module _ (places : ℕ) (costs : List Plain) (standing : List ℕ) (costs_long : length costs ≡ places)
+    (standing_long : length standing ≡ places) (at : ℕ) (z : ℤ) (small : nat_abs z ≤ 1000000000)
+    (o : IsInOrder plain_kind.meaning places costs standing) where
+  costs' : List Plain
+  costs' = set costs at (plain z)
+
+  standing' : List ℕ
+  standing' = set standing at 1
+
+  -- what is read at a place afterwards
+  read_here : (k : ℕ) → k < places → k ≡ at
+      → (columns_at plain_kind.meaning costs' k ≡ rail_of z ∷ []) × (get_or standing' k 0 ≡ 1)
+  unfolding costs' standing'
+  read_here k h e = (
+    get_or-map plain_kind.meaning (set costs at (plain z)) k (plain (pos 0)) []
+        (omega (arith, length-set costs at (plain z)))
+        ∙ ap plain_kind.meaning (get_or-set_at costs at k (plain z) (plain (pos 0)) e
+        (omega arith)),
+    get_or-set_at standing at k 1 0 e (omega arith),
+  )
+
+  read_elsewhere : (k : ℕ) → k < places → (k ≡ at → ⊥)
+      → (columns_at plain_kind.meaning costs' k ≡ columns_at plain_kind.meaning costs k)
+      × (get_or standing' k 0 ≡ get_or standing k 0)
+  unfolding costs' standing'
+  read_elsewhere k h differ = (
+    get_or-map plain_kind.meaning (set costs at (plain z)) k (plain (pos 0)) []
+        (omega (arith, length-set costs at (plain z)))
+        ∙ ap plain_kind.meaning (get_or-set_other costs at k (plain z) (plain (pos 0)) differ)
+        ∙ sym (get_or-map plain_kind.meaning costs k (plain (pos 0)) [] (omega arith)),
+    get_or-set_other standing at k 1 0 differ,
+  )
+
+  means_small : Within 1000000000 (rail_of z ∷ [])
+  means_small =
+      (subst (λ x. nat_abs x ≤ 1000000000) (sym (rail_of_same z (omega arith))) small, tt)
+
+  wrote_in_order : IsInOrder plain_kind.meaning places costs' standing'
+  wrote_in_order = record {
+    bytes = λ k h. ⊎_elim
+        (λ here. ap says_disturbed (read_here k h here).1)
+        (λ there. ap says_disturbed (read_elsewhere k h there).1 ∙ o.bytes k h) (cases_eq k at);
+    small = λ k h stands. ⊎_elim
+        (λ here. subst (Within 1000000000) (sym (read_here k h here).0) means_small)
+        (λ there. subst (Within 1000000000) (sym (read_elsewhere k h there).0)
+        (o.small k h (ap says_stands (sym (read_elsewhere k h there).1) ∙ stands)))
+        (cases_eq k at);
+  }
+
+after_in_order : (n : ℕ) (ps : List StatedPair) (costs : List Plain) (standing : List ℕ)
+    → AllByRecursion (SoundPair n) ps → length costs ≡ places_of n → length standing ≡ places_of n
+    → IsInOrder plain_kind.meaning (places_of n) costs standing
+    → (length (costs_after n ps costs) ≡ places_of n)
+    × (length (standing_after n ps standing) ≡ places_of n)
+    × IsInOrder plain_kind.meaning (places_of n) (costs_after n ps costs)
+    (standing_after n ps standing)
+unfolding costs' standing'
+after_in_order n [] costs standing s ec eb o = (ec, eb, o)
+after_in_order n (p ∷ ps) costs standing s ec eb o =
+    let at = place_of n p.left p.right in
+    after_in_order n ps (set costs at (plain p.cost)) (set standing at 1) s.1
+    (length-set costs at (plain p.cost) ∙ ec) (length-set standing at 1 ∙ eb)
+    (wrote_in_order (places_of n) costs standing ec eb at p.cost s.0.cost_within o)
+
+blank_in_order : (places : ℕ) → IsInOrder plain_kind.meaning places
+    (replicate places (plain (pos 0))) (replicate places 0)
+blank_in_order places = record {
+  bytes = λ k h. ap says_disturbed (get_or-replicate places k 0 0 h);
+  small = λ k h stands.
+      let z : ◌≡◌ {A = Bool} false true =
+      sym (ap says_stands (get_or-replicate places k 0 0 h)) ∙ stands in
+      let one : ◌≡◌ {A = ℕ} 0 1 = cc in
+      absurd (omega arith);
+}
+
+pub entered_tables : (order : Order) → Sound order → ArePairTables plain_kind order.size
+    (costs_after order.size order.pairs (replicate (places_of order.size) (plain (pos 0))))
+    (standing_after order.size order.pairs (replicate (places_of order.size) 0))
+entered_tables order s =
+    let places = places_of order.size in
+    let after = after_in_order order.size order.pairs (replicate places (plain (pos 0)))
+    (replicate places 0) s.pairs_sound (length-replicate places (plain (pos 0)))
+    (length-replicate places 0) (blank_in_order places) in
+    record { few = s.few; costs_long = after.0; standing_long = after.1; in_order = after.2 }
