@@ -9,10 +9,12 @@ ghost use Rattle.report.specs.Describing.{Describes};
 ghost use Rattle.report.specs.Text.{pair_line, cost_in, row_lines, all_lines, sheet_text, refusal};
 
 mod input;
+mod pairing_lines;
 
 use cost::Plain;
 pub use input::{MOST_BYTES, describe_input};
 use orderfile::loading::{check, load};
+pub use pairing_lines::{MOST_PAIRINGS, cause_line, push_pairing_line, push_total_line};
 use sheet::fault::Fault;
 use sheet::state::OpenSheet;
 use std::alloc::{AllocError, Global};
