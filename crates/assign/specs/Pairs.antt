@@ -39,7 +39,7 @@ pub record Chosen (n : ℕ) (priced : ℕ → Bool) (row : ℕ → ℕ) (out : �
 
 -- a pairing with prices that go with it; the price of a right block that was never taken is still a
 -- cost, and no price is far
-pub record Paired {K : Type 0} (kind : Ghosts K) (rows : List BlockSet) (costs : List K)
+pub record PricedPairing {K : Type 0} (kind : Ghosts K) (rows : List BlockSet) (costs : List K)
     (out : ℕ → Bool) (partners : List ℕ) (holders : Holders) (right : List K) : Type 0 where
   pub kept : Kept (length rows) (holds rows) (cost_weight kind (length rows) costs) out partners
       holders (weight_at kind right)

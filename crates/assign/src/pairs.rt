@@ -7,7 +7,7 @@ ghost use Rattle.pairing.specs.Grid.{at, Perfect};
 ghost use Rattle.pairing.specs.Rows.{holds};
 ghost use Rattle.assign.specs.Weighed.{Lent};
 ghost use Rattle.matching.specs.Exchange.{without};
-ghost use Rattle.assign.specs.Pairs.{Chosen, Paired};
+ghost use Rattle.assign.specs.Pairs.{Chosen, PricedPairing};
 
 use crate::prices::lower;
 use crate::search::grow_from;
@@ -62,9 +62,9 @@ pub fn pair_row<K: Cost>(
     requires room { k < length rows.now }
     requires unpaired { has out k ≡ true }
     requires possible { (q : List ℕ) × Perfect (length rows.now) (holds rows.now) q }
-    requires paired { Paired K.Cost rows.now costs.now (has out) partners.old
+    requires paired { PricedPairing K.Cost rows.now costs.now (has out) partners.old
         holders.old right.old }
-    ensures { Paired K.Cost rows.now costs.now (without (has out) k) partners.new
+    ensures { PricedPairing K.Cost rows.now costs.now (without (has out) k) partners.new
         holders.new right.new }
 {
     let tree = grow_from(k, costs, rows, holders, right, left);
@@ -89,9 +89,9 @@ pub fn pair_rest<K: Cost>(
     requires rights { length right.old ≡ length rows.now }
     requires inside { (l : ℕ) → has first.out l ≡ true → l < length rows.now }
     requires possible { (q : List ℕ) × Perfect (length rows.now) (holds rows.now) q }
-    requires paired { Paired K.Cost rows.now costs.now (has first.out) partners.old first.holders
-        right.old }
-    ensures { Paired K.Cost rows.now costs.now (λ _. false) partners.new result right.new }
+    requires paired { PricedPairing K.Cost rows.now costs.now (has first.out) partners.old
+        first.holders right.old }
+    ensures { PricedPairing K.Cost rows.now costs.now (λ _. false) partners.new result right.new }
 {
     let FirstPairs {
         mut out,

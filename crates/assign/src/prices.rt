@@ -11,7 +11,7 @@ ghost use Rattle.tables.specs.Said.{Bounded, columns_at};
 ghost use Rattle.assign.specs.declared.limits.TheConstants.{DISTANCE_LIMIT, LEFT_PRICE_LIMIT};
 ghost use Rattle.assign.specs.declared.limits.TheConstants.{INNER_PRICE_LIMIT};
 ghost use Rattle.assign.specs.Weighed.{weight_at, cost_weight, BoundedOn, Lent};
-ghost use Rattle.assign.specs.Pairs.{CheapestOf, Paired};
+ghost use Rattle.assign.specs.Pairs.{CheapestOf, PricedPairing};
 ghost use Rattle.assign.specs.Prices.{Topmost};
 
 use crate::search::{grow, offer};
@@ -120,7 +120,7 @@ pub fn price_greatest<K: Cost>(
     requires partnered { length partners.now ≡ length rows.now }
     requires lefts { length left.old ≡ length rows.now }
     requires rights { length right.old ≡ length rows.now }
-    requires paired { Paired K.Cost rows.now costs.now (λ _. false) partners.now
+    requires paired { PricedPairing K.Cost rows.now costs.now (λ _. false) partners.now
         holders.now right.old }
     ensures topmost { Topmost K.Cost rows.now costs.now partners.now holders.now
         (weight_at K.Cost right.old) left.new right.new }

@@ -3,3 +3,4 @@ pub mod Exchange
 pub mod Search
 pub mod Improving
 pub mod Answers
+pub mod Numbers

@@ -7,18 +7,29 @@ ghost use Rattle.pairing.specs.Rows.{Pairs, pairings};
 ghost use Rattle.matching.specs.Fit.{Fits, Unfits};
 ghost use Rattle.matching.specs.Improving.{Improved, Unimproved, IsFirstFrom};
 ghost use Rattle.matching.specs.Answers.{IsNth, Follows};
+ghost use Rattle.matching.specs.Numbers.{step_number};
 
 use crate::chains::{Bounds, exchange, find_holders, search};
 use crate::fitting::{Unfit, fit};
 use blockset::BlockSet;
 
-/// Where a step from a perfect pairing leads.
+/// Where a step from a perfect pairing leads. The numbers are part of the interface and never move:
+/// a host in C sees them.
 #[derive(Clone, Copy, Debug, PartialEq, Eq)]
 pub enum Step {
     /// To the next perfect pairing in dictionary order.
-    Next,
+    Next = 0,
     /// Nowhere: it was the last one.
-    End,
+    End = 100,
+}
+
+impl Step {
+    /// The number that stands for the step in calls from C: 0 for `Next`, 100 for `End`.
+    pub fn number(self) -> u8
+        ensures { result ≡ step_number self }
+    {
+        self as u8
+    }
 }
 
 /// Sends left block `l` to the least right block from `floor` on that it can have while the left

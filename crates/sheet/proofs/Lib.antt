@@ -1,3 +1,5 @@
 pub mod Opening
 pub mod Pairs
 pub mod Refused
+pub mod Quoting
+pub mod Totals

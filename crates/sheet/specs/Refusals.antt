@@ -1,13 +1,22 @@
 -- Refusals: the checks of a call in their order, and what a refused call answers and leaves.
 use Rattle.std.specs.Prelude.{ℕ, Bool, not, List, [], ◌∷◌, ◌++◌, codes, decimal, Some, None}
 use Rattle.std.specs.Prelude.{Ok, Err, Option, Result, ◌==◌, if◌then◌else◌}
+use Rattle.tables.specs.declared.flaw.Flaw.{Flaw}
+use Rattle.tables.specs.declared.flaw.Flaw.TheVariants.{Size as TooMany, Length, Order}
 use Rattle.sheet.specs.declared.fault.Cause.{Cause}
+use Rattle.sheet.specs.declared.fault.Cause.TheVariants.{Size, TableLength, Inconsistent}
 use Rattle.sheet.specs.declared.fault.Fault.{Fault}
 use Rattle.sheet.specs.Numbers.{cause_number, layer_number, layer_of}
 
 -- the refusal for a cause at a place; the cause tells the layer
 abbrev pub fault : Cause → ℕ → Fault
 fault cause place = record { cause = cause; place = place; layer = layer_of cause }
+
+-- the cause that a flaw of lent tables stands for
+abbrev pub flaw_cause : Flaw → Cause
+flaw_cause TooMany = Size
+flaw_cause Length = TableLength
+flaw_cause Order = Inconsistent
 
 -- what tells a refusal: `refused NUMBER at PLACE layer LAYER`
 abbrev pub refusal_text : Fault → List ℕ

@@ -1,11 +1,16 @@
-//! Refusals: why a call was turned down, where, and in which layer.
+//! Refusals: why a call was turned down, where, and in which layer; and the one place where the
+//! causes of the inner layers turn into numbers.
 
 ghost use Rattle.std.specs.Prelude.{◌≡◌, Some};
 ghost use Rattle.sheet.specs.Numbers.{cause_number, layer_number, layer_of};
-ghost use Rattle.sheet.specs.Refusals.{fault, refusal_text};
+ghost use Rattle.sheet.specs.Refusals.{fault, flaw_cause, refusal_text};
+ghost use Rattle.sheet.specs.declared.fault.Cause.TheVariants.{Inconsistent};
 
+use matching::Shortfall;
 use std::error::Error;
 use std::fmt;
+use tables::Flaw;
+use walk::Apart;
 
 /// Why a call was refused. The numbers are part of the interface and never move.
 #[derive(Clone, Copy, PartialEq, Eq, Debug)]
@@ -104,5 +109,57 @@ impl Layer {
         ensures { result ≡ layer_number self }
     {
         self as u8
+    }
+}
+
+/// The refusal of a call that takes a state: the state comes back in it, as it was.
+#[derive(Drop, Debug)]
+pub struct Refusal<S> {
+    pub fault: Fault,
+    pub state: S,
+    /// Where no pairing is perfect, the crowd set and its shortage; else nothing.
+    pub shortfall: Option<Shortfall>,
+}
+
+// as its fault does
+impl<S> fmt::Display for Refusal<S> {
+    ghost output = { λ refusal. Some (refusal_text refusal.fault) };
+
+    fn fmt<W: fmt::Write>(&self, f: &mut fmt::Formatter<W>) -> fmt::Result {
+        fmt::Display::fmt(&self.fault, f)
+    }
+}
+
+impl<S: fmt::Debug> Error for Refusal<S> {}
+
+// The state is let go.
+impl<S: Drop> From<Refusal<S>> for Fault {
+    ghost from_gives = { λ refusal f. f ≡ refusal.fault };
+
+    fn from(refusal: Refusal<S>) -> Fault {
+        refusal.fault
+    }
+}
+
+// ---- The causes of the inner layers
+
+impl From<Flaw> for Fault {
+    ghost from_gives = { λ flaw f. f ≡ fault (flaw_cause flaw) 0 };
+
+    fn from(flaw: Flaw) -> Fault {
+        match flaw {
+            Flaw::Size => Cause::Size,
+            Flaw::Length => Cause::TableLength,
+            Flaw::Order => Cause::Inconsistent,
+        }
+        .at(0)
+    }
+}
+
+impl From<Apart> for Fault {
+    ghost from_gives = { λ _ f. f ≡ fault Inconsistent 0 };
+
+    fn from(_: Apart) -> Fault {
+        Cause::Inconsistent.at(0)
     }
 }

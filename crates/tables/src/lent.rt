@@ -1,7 +1,7 @@
 //! The tables of a settled sheet as one value.
 
-ghost use Rattle.std.specs.Prelude.{IfErr, OnOk};
-ghost use Rattle.tables.specs.Lent.{IsUsable, IsUnusable};
+ghost use Rattle.std.specs.Prelude.{IsTrue, ◌↔◌, IfErr, OnOk};
+ghost use Rattle.tables.specs.Lent.{HasLengths, IsUsable, IsUnusable};
 
 use crate::flaw::Flaw;
 use crate::pair_tables::{have_places, in_order};
@@ -31,21 +31,29 @@ impl<'a, K> Model for Tables<'a, K> {
         lent t.size t.costs.now t.standing.now t.partners.now t.left.now t.right.now };
 }
 
+impl<K> Tables<'_, K> {
+    /// Whether all tables have the lengths that their size asks for.
+    pub fn fit(&self) -> bool
+        ensures { IsTrue result ↔ HasLengths self.now }
+    {
+        let n = self.size as usize;
+        have_places(self.size, self.costs.len(), self.standing.len())
+            && self.partners.len() == n
+            && self.left.len() == n
+            && self.right.len() == n
+    }
+}
+
 /// Tests whether a call that pairs by cost can be made with the tables, and names their first flaw
 /// if it cannot: too many blocks, a table of the wrong length, pair tables that are not in order.
 pub fn check_usable<K: Cost>(tables: &Tables<'_, K>) -> Result<(), Flaw>
     ensures usable { OnOk result (IsUsable K.Cost tables.now) }
     ensures unusable { IfErr result (IsUnusable K.Cost tables.now) }
 {
-    let n = tables.size as usize;
     if tables.size > MOST_BLOCKS {
         return Err(Flaw::Size);
     }
-    if !have_places(tables.size, tables.costs.len(), tables.standing.len())
-        || tables.partners.len() != n
-        || tables.left.len() != n
-        || tables.right.len() != n
-    {
+    if !tables.fit() {
         return Err(Flaw::Length);
     }
     if !in_order(tables.costs, tables.standing) {

@@ -1,4 +1,4 @@
-//! The calls on an open sheet: open one, then enter, strike and read pairs.
+//! The calls on an open sheet: open one, then enter, strike and read pairs, and settle.
 
 ghost use Rattle.std.specs.Prelude.{◌≡◌, ◌<◌, length, IfOk, OnOk, OnErr, Some, None};
 ghost use Rattle.cost.specs.Columns.{within};
@@ -8,10 +8,13 @@ ghost use Rattle.sheet.specs.Opening.{Opened};
 ghost use Rattle.sheet.specs.Pairs.{placement_checks, strike_refusal};
 ghost use Rattle.sheet.specs.Pairs.{Entered, Struck, Reads};
 ghost use Rattle.sheet.specs.Refusals.{first_of, answer};
+ghost use Rattle.sheet.specs.Settling.{Settles};
 ghost use Rattle.sheet.specs.Size.{IsSize, size_of};
+ghost use Rattle.tables.specs.Lent.{lent};
 
-use super::OpenSheet;
-use crate::fault::{Cause, Fault};
+use super::{OpenSheet, SettledSheet};
+use crate::fault::{Cause, Fault, Refusal};
+use assign::{Outcome, settle};
 use cost::Cost;
 use tables::{COST_LIMIT, MOST_BLOCKS, disturbed, fill, have_places, place, stands};
 
@@ -111,6 +114,41 @@ impl OpenSheet {
     {
         let at = self.find(costs, standing, left, right)?;
         Ok(costs[at])
+    }
+
+    /// Settles the sheet: writes the optimum pairing that is first in dictionary order to
+    /// `partners`, and the greatest valid prices with no right price above zero to `left` and
+    /// `right`, which have n places each.
+    ///
+    /// Refused, in this order: a table of the wrong length; a standing byte above 1, or a standing
+    /// pair's cost that is not within 10^9; no perfect pairing, with the crowd set and its shortage.
+    /// The open sheet then comes back, and all tables are as they were.
+    pub fn settle<K: Cost>(
+        self,
+        costs: &[K],
+        standing: &[u8],
+        partners: &mut [u16],
+        left: &mut [K],
+        right: &mut [K],
+    ) -> Result<SettledSheet, Refusal<OpenSheet>>
+        ensures { let n = size_of self in
+            let old = lent n costs.now standing.now partners.old left.old right.old in
+            let new = lent n costs.now standing.now partners.new left.new right.new in
+            Settles K.Cost self old new result }
+    {
+        match settle(self.n, costs, standing, partners, left, right) {
+            Ok(Outcome::Optimal) => Ok(SettledSheet::of(self)),
+            Ok(Outcome::Unmatched(shortfall)) => Err(Refusal {
+                fault: Cause::NoPerfectPairing.at(0),
+                state: self,
+                shortfall: Some(shortfall),
+            }),
+            Err(flaw) => Err(Refusal {
+                fault: Fault::from(flaw),
+                state: self,
+                shortfall: None,
+            }),
+        }
     }
 
     // Refuses tables of the wrong length and blocks that do not exist, and else gives the pair's

@@ -2,7 +2,7 @@
 use Rattle.std.proofs.Common.{false, sym, subst}
 use mathlib.Core.Path.{fun_ext}
 use Rattle.blockset.specs.Has.{has}
-use Rattle.assign.specs.Pairs.{Paired}
+use Rattle.assign.specs.Pairs.{PricedPairing}
 use Rattle.blockset.proofs.Removing.{still_in, fewer}
 use Rattle.assign.proofs.pairs.pair_rest.Goals as goal
 
@@ -12,7 +12,7 @@ loop-k-smaller g c = fewer (has c.loop-k.out) (has c.remove.new.self) c.in-Some.
 
 pub loop-k-preserved : goal.loop-k-preserved
 loop-k-preserved g c = (
-  subst (λ out. Paired g.K.Cost c.args.rows.now c.args.costs.now out c.pair_row.new.partners
+  subst (λ out. PricedPairing g.K.Cost c.args.rows.now c.args.costs.now out c.pair_row.new.partners
       c.pair_row.new.holders c.pair_row.new.right) (sym (fun_ext c.remove.ensures))
       c.pair_row.ensures,
   λ j t. c.loop-k.invariant.1 j
@@ -21,6 +21,6 @@ loop-k-preserved g c = (
 
 pub returns : goal.returns
 returns g c =
-    subst (λ out. Paired g.K.Cost c.args.rows.now c.args.costs.now out c.loop-k.partners
+    subst (λ out. PricedPairing g.K.Cost c.args.rows.now c.args.costs.now out c.loop-k.partners
     c.loop-k.holders c.loop-k.right)
     (fun_ext {f = has c.loop-k.out} {g = λ _. false} c.in_default.ensures) c.loop-k.invariant.0

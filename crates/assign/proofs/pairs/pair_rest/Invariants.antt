@@ -2,12 +2,12 @@
 use Rattle.std.proofs.Common.{◌≡◌, ℕ, ◌<◌, true, length}
 use Rattle.blockset.specs.Has.{has}
 use Rattle.blockset.specs.Sets.{members}
-use Rattle.assign.specs.Pairs.{Paired}
+use Rattle.assign.specs.Pairs.{PricedPairing}
 use Rattle.assign.proofs.pairs.pair_rest.Given as goal
 
 abbrev pub invariant-loop-k : goal.invariant-loop-k
 invariant-loop-k g l =
-    Paired g.K.Cost l.rows l.costs (has l.out) l.partners l.holders l.right
+    PricedPairing g.K.Cost l.rows l.costs (has l.out) l.partners l.holders l.right
     × ((j : ℕ) → has l.out j ≡ true → j < length l.rows)
 
 abbrev pub decreases-loop-k : goal.decreases-loop-k

@@ -1,0 +1,21 @@
+-- The step over the tables is accepted exactly where they hold together with the list.
+use Rattle.std.proofs.Common.{◌≡◌, length, ℕ, refl, ◌∙◌, subst}
+use Rattle.tables.specs.Lent.{lent, grid}
+use Rattle.pairing.specs.Grid.{Optimum}
+use Rattle.tables.specs.Together.{Together}
+use Rattle.sheet.specs.Walking.{next_needs, IsStep}
+use Rattle.sheet.specs.Needs.{AreMet}
+use Rattle.sheet.proofs.state.Walk.next.Goals as goal
+
+pub returns : goal.returns
+returns g c =
+    let t = λ (n : ℕ). lent n c.args.costs.now c.args.standing.now c.args.partners.now
+    c.args.left.now c.args.right.now in
+    let n = c.size-n.result in
+    let known : Together g.K.Cost (t n) × Optimum (grid g.K.Cost (t n)) c.args.list.now = c.in_ok-next.ensures.accepted.0 refl in
+    let same : length c.next.new.walk ≡ length c.args.list.now = c.next.auto.walk in
+    subst (λ n. AreMet (next_needs g.K.Cost (t n) c.args.list.now)
+    × IsStep g.K.Cost (t n) c.args.list.now c.next.new.walk c.in_ok-next.field-0) c.size-n.ensures.value (
+      ((c.fit.ensures.0 c.if-not-fit.false, known.1.perfect.len), (known, tt)),
+      record { long = same ∙ known.1.perfect.len; follows = c.in_ok-next.ensures.steps },
+    )
