@@ -2,70 +2,58 @@
 -- promise asks about.
 -- Idea: loading into tables that fit answers a sheet exactly if the file states an order, and its
 -- cells are what the order states.
-use Rattle.std.proofs.Common.{◌≡◌, ℕ, List, length, ◌++◌, ℤ, IfOk, Some, None, Ok, Err, codes}
+use Rattle.std.proofs.Common.{◌≡◌, ℕ, List, length, ◌++◌, ℤ, IfOk, Some, None, Err, codes}
 use Rattle.std.proofs.Common.{decimal}
-use Rattle.std.proofs.Common.{Option, Result, refl, ap, ◌∙◌, subst, ⊎_elim, arith}
+use Rattle.std.proofs.Common.{Option, Result, refl, ap, ◌∙◌, ⊎_elim}
 use Rattle.std.proofs.lemmas.Result.{IfOk-weaker}
 use Rattle.std.specs.Option.{option_map}
 use Rattle.cost.specs.declared.plain_kind.Plain.{Plain}
 use Rattle.sheet.specs.declared.fault.Fault.{Fault}
 use Rattle.tables.specs.PairTables.{HavePlaces}
-use Rattle.sheet.specs.Size.{Sheet}
 use Rattle.orderfile.specs.Format.{Order, States}
 use Rattle.orderfile.specs.Faults.{FirstFault}
-use Rattle.orderfile.specs.Loading.{plain, cost_stated, Shows, Accepted, Loaded}
+use Rattle.orderfile.specs.Loading.{plain, cost_stated, Shows, Loaded}
+use Rattle.orderfile.proofs.LoadedGrid.{loaded_err}
 use Rattle.orderfile.proofs.Verdicts.{one_order, one_fault, not_both, verdict_order, verdict_fault}
-use Rattle.report.specs.Describing.{Describes}
+use Rattle.report.specs.Describing.{Tells}
 use Rattle.report.specs.Text.{up_to, pair_line, cost_in, row_lines, all_lines, sheet_text}
-use Rattle.report.specs.Text.{statement, refusal}
+use Rattle.report.specs.Text.{statement}
 use Rattle.report.proofs.Lines.{up_same}
 
-module _ (file text : List ℕ) where
-  pub describes_order : (order : Order) → States file order → text ≡ statement order
-      → Describes file text
-  describes_order order s e = record {
+module _ (of_order : Order → List ℕ) (of_fault : Fault → List ℕ) (file : List ℕ) where
+  pub tells_order : (text : List ℕ) (order : Order) → States file order → text ≡ of_order order
+      → Tells of_order of_fault file text
+  tells_order text order s e = record {
     verdict = verdict_order file order s;
-    states = λ o t. e ∙ ap statement (one_order file order o s t);
+    states = λ o t. e ∙ ap of_order (one_order file order o s t);
     faulty = λ f t. absurd (not_both file order f s t);
   }
 
-  pub describes_fault : (f : Fault) → FirstFault file f → text ≡ refusal f → Describes file text
-  describes_fault f s e = record {
+  pub tells_fault : (text : List ℕ) (f : Fault) → FirstFault file f → text ≡ of_fault f
+      → Tells of_order of_fault file text
+  tells_fault text f s e = record {
     verdict = verdict_fault file f s;
     states = λ o t. absurd (not_both file o f t s);
-    faulty = λ g t. e ∙ ap refusal (one_fault file f g s t);
+    faulty = λ g t. e ∙ ap of_fault (one_fault file f g s t);
   }
 
--- the line of a fault describes the file that has it first, if there was memory for the line
-pub line_describes : {X Y : Type 0} (bytes : X → List ℕ) (line : Result X Y) (file : List ℕ)
-    (f : Fault) → FirstFault file f → IfOk line (λ text. bytes text ≡ refusal f)
-    → IfOk line (λ text. Describes file (bytes text))
-line_describes bytes line file f s h = IfOk-weaker line (λ text. bytes text ≡ refusal f)
-    (λ text. Describes file (bytes text)) (λ text e. describes_fault file (bytes text) f s e) h
+  -- the line of a fault tells of the file that has it first, if there was memory for the line
+  pub line_tells : {X Y : Type 0} (bytes : X → List ℕ) (line : Result X Y) (f : Fault)
+      → FirstFault file f → IfOk line (λ text. bytes text ≡ of_fault f)
+      → IfOk line (λ text. Tells of_order of_fault file (bytes text))
+  line_tells bytes line f s h = IfOk-weaker line (λ text. bytes text ≡ of_fault f)
+      (λ text. Tells of_order of_fault file (bytes text))
+      (λ text e. tells_fault (bytes text) f s e) h
 
--- what loading into tables that fit tells
-module _ (file : List ℕ) (costs : List Plain) (standing : List ℕ)
-    (fits : (order : Order) → States file order → HavePlaces order.size (length costs)
-    (length standing))
-    (costs' : List Plain) (standing' : List ℕ) where
-  pub loads_order : (sheet : Sheet) → Loaded file costs standing (Ok sheet) costs' standing'
-      → (order : Order) × States file order × Accepted order (Ok sheet) costs' standing'
-  loads_order sheet h =
-      ⊎_elim
-      (λ o. (o.0, o.1, h.loads o.0 o.1 (fits o.0 o.1)))
-      (λ f. let e = (h.faulty f.0 f.1).answers in let z : ◌≡◌ {A = ℕ} 0 1 = cc in
-      absurd (omega arith))
-      h.verdict.some
-
-  pub loads_fault : (f : Fault) → Loaded file costs standing (Err f) costs' standing'
-      → FirstFault file f
-  loads_fault f h =
-      ⊎_elim
-      (λ o. let e = (h.loads o.0 o.1 (fits o.0 o.1)).answers in let z : ◌≡◌ {A = ℕ} 0 1 = cc in
-      absurd (omega arith))
-      (λ g. let e = (h.faulty g.0 g.1).answers in let same : g.0 ≡ f = cc in
-      subst (λ (x : Fault). FirstFault file x) same g.1)
-      h.verdict.some
+-- a refusal of tables that fit is the file's first fault
+pub loads_fault : (file : List ℕ) (costs : List Plain) (standing : List ℕ)
+    → ((order : Order) → States file order
+    → HavePlaces order.size (length costs) (length standing))
+    → (costs' : List Plain) (standing' : List ℕ) (f : Fault)
+    → Loaded file costs standing (Err f) costs' standing' → FirstFault file f
+loads_fault file costs standing fits costs' standing' f h =
+    ⊎_elim (λ fault. fault) (λ misfit. absurd (misfit.2 (fits misfit.0 misfit.1)))
+    (loaded_err file costs standing costs' standing' f h).0
 
 mapped_back : (o : Option ℤ) → option_map (λ p. p.0) (option_map plain o) ≡ o
 mapped_back (Some z) = refl

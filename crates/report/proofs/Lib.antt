@@ -1,3 +1,4 @@
 pub mod Cutting
 pub mod Described
 pub mod Lines
+pub mod Listed

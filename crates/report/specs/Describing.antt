@@ -1,4 +1,4 @@
--- What describing a file answers.
+-- What telling a file answers, and what describing it does.
 use Rattle.std.specs.Prelude.{◌≡◌, ℕ, List}
 use Rattle.sheet.specs.declared.fault.Fault.{Fault}
 use Rattle.orderfile.specs.Format.{Order, States}
@@ -6,9 +6,14 @@ use Rattle.orderfile.specs.Faults.{FirstFault}
 use Rattle.orderfile.specs.Loading.{HasOneVerdict}
 use Rattle.report.specs.Text.{statement, refusal}
 
--- the text tells what the file states, or its first fault; every file has one of the two, and never
--- both
-pub record Describes (file text : List ℕ) : Type 0 where
+-- the text is what is told of the order that the file states, or of its first fault; every file has
+-- one of the two, and never both
+pub record Tells (of_order : Order → List ℕ) (of_fault : Fault → List ℕ) (file text : List ℕ)
+    : Type 0 where
   pub verdict : HasOneVerdict file
-  pub states : (order : Order) → States file order → text ≡ statement order
-  pub faulty : (f : Fault) → FirstFault file f → text ≡ refusal f
+  pub states : (order : Order) → States file order → text ≡ of_order order
+  pub faulty : (f : Fault) → FirstFault file f → text ≡ of_fault f
+
+-- the text tells what the file states, or its first fault
+abbrev pub Describes : (file text : List ℕ) → Type 0
+Describes = Tells statement refusal

@@ -1,2 +1,5 @@
 pub mod Text
 pub mod Describing
+pub mod Listing
+pub mod Mapping
+pub mod Words

@@ -8,15 +8,22 @@ ghost use Rattle.tables.specs.PairTables.{HavePlaces};
 ghost use Rattle.report.specs.Describing.{Describes};
 ghost use Rattle.report.specs.Text.{pair_line, cost_in, row_lines, all_lines, sheet_text, refusal};
 
+mod aligned;
 mod input;
+mod pairing_lines;
+mod sheet_map;
+mod words;
 
 use cost::Plain;
 pub use input::{MOST_BYTES, describe_input};
 use orderfile::loading::{check, load};
+pub use pairing_lines::{MOST_PAIRINGS, cause_line, push_pairing_line, push_total_line};
 use sheet::fault::Fault;
 use sheet::state::OpenSheet;
+pub use sheet_map::Drawing;
 use std::alloc::{AllocError, Global};
 use tables::places;
+pub use words::{explain, meaning, remedy};
 
 /// The line that tells a refusal: `refused NUMBER at PLACE layer LAYER`.
 pub fn refusal_line(heap: Global, fault: Fault) -> Result<String, AllocError>

@@ -1,0 +1,93 @@
+-- A walk through a list of pairings writes its listing.
+-- Idea: no two pairings of the list are equal, so a pairing tells its place in it, and a step from
+-- place k leads to place k + 1 or says that k was the last. Each step adds the line of one more.
+use Rattle.std.proofs.Common.{◌≡◌, ℕ, ◌+◌, ◌<◌, ◌≤◌, true, ◌≢◌, List, [], ◌∷◌, ◌++◌}
+use Rattle.std.proofs.Common.{length, take, ltb, codes, sym, ap, ap₂, ◌∙◌, subst, ⊎_elim}
+use Rattle.std.proofs.Common.{append_assoc, arith}
+use Rattle.std.specs.List.{AllPairs}
+use Rattle.std.proofs.lemmas.List.{take_more, take_all, flat_map_more}
+use Rattle.std.proofs.lemmas.Bool.{cases_lt, cond-true, cond-false, lt-ltb, le-ltb}
+use Rattle.pairing.specs.Grid.{Grid, total}
+use Rattle.pairing.specs.Optima.{optima}
+use Rattle.pairing.proofs.Listing.{optima_are}
+use Rattle.matching.specs.Answers.{IsNth, Follows}
+use Rattle.matching.specs.declared.stepping.Step.TheVariants.{Next, End}
+use Rattle.sheet.specs.declared.fault.Cause.TheVariants.{NoPerfectPairing}
+use Rattle.report.specs.Listing.{pairing_line, pairing_lines, total_line, cause_line}
+use Rattle.report.specs.Listing.{listed, listing_over, listing_text}
+
+-- ---- Places
+
+module _ (ps : List (List ℕ)) (distinct : AllPairs ◌≢◌ ps) where
+  -- a pairing stands at one place
+  pub one_place : (i j : ℕ) (p : List ℕ) → IsNth ps i p → IsNth ps j p → i ≡ j
+  one_place i j p a b = ⊎_elim
+      (λ less. absurd (distinct i j [] less b.0 (a.1 ∙ sym b.1)))
+      (λ least. ⊎_elim
+      (λ less. absurd (distinct j i [] less a.0 (b.1 ∙ sym a.1)))
+      (λ least'. omega arith)
+      (cases_lt j i))
+      (cases_lt i j)
+
+  pub place_next : (k : ℕ) (before after : List ℕ) → IsNth ps k before
+      → Follows ps before after Next → IsNth ps (k + 1) after
+  place_next k before after here f = subst (λ i. IsNth ps (i + 1) after)
+      (one_place f.0 k before f.1 here) f.2
+
+  pub place_last : (k : ℕ) (before after : List ℕ) → IsNth ps k before
+      → Follows ps before after End → k + 1 ≡ length ps
+  place_last k before after here f = ap (λ i. i + 1) (sym (one_place f.0 k before f.1 here)) ∙ f.2
+
+-- ---- Lines
+
+module _ (ps : List (List ℕ)) (start text text' : List ℕ) where
+  -- the lines of the first k pairings, and then that of the one at place k
+  pub line_more : (k : ℕ) (p : List ℕ) → IsNth ps k p
+      → text ≡ start ++ pairing_lines (take k ps) → text' ≡ text ++ pairing_line p
+      → text' ≡ start ++ pairing_lines (take (k + 1) ps)
+  line_more k p here e e' =
+      e' ∙ ap (λ t. t ++ pairing_line p) e
+      ∙ flat_map_more pairing_line start (take k ps) p
+      ∙ ap (λ qs. start ++ pairing_lines qs)
+      (ap (λ q. take k ps ++ q ∷ []) (sym here.1) ∙ sym (take_more ps k [] here.0))
+
+  -- the lines of all pairings, and then the last line
+  pub listed_whole : length ps ≤ 1000 → (k : ℕ) → k ≡ length ps
+      → text ≡ start ++ pairing_lines (take k ps) → text' ≡ text ++ codes "end\n"
+      → text' ≡ start ++ listed ps
+  listed_whole few k all e e' =
+      e' ∙ ap (λ t. t ++ codes "end\n") e
+      ∙ append_assoc start (pairing_lines (take k ps)) (codes "end\n")
+      ∙ ap (λ t. start ++ t) (ap₂ (λ qs t. pairing_lines qs ++ t)
+      (take_all k ps (omega arith) ∙ sym (take_all 1000 ps few))
+      (sym (cond-false (ltb 1000 (length ps)) (codes "more\n") (codes "end\n")
+      (le-ltb 1000 (length ps) few))))
+
+  -- the lines of as many pairings as a listing has, where others remain, and then the last line
+  pub listed_part : 1000 < length ps → text ≡ start ++ pairing_lines (take 1000 ps)
+      → text' ≡ text ++ codes "more\n" → text' ≡ start ++ listed ps
+  listed_part many e e' =
+      e' ∙ ap (λ t. t ++ codes "more\n") e
+      ∙ append_assoc start (pairing_lines (take 1000 ps)) (codes "more\n")
+      ∙ ap (λ t. start ++ (pairing_lines (take 1000 ps) ++ t))
+      (sym (cond-true (ltb 1000 (length ps)) (codes "more\n") (codes "end\n")
+      (lt-ltb 1000 (length ps) many)))
+
+-- ---- Listings
+
+module _ (g : Grid) where
+  over_first : (ps : List (List ℕ)) (p text : List ℕ) → IsNth ps 0 p
+      → text ≡ total_line (total g p) ++ listed ps → text ≡ listing_over g ps
+  over_first [] p text first e = absurd (omega (arith, first.0))
+  over_first (q ∷ qs) p text first e =
+      e ∙ ap (λ x. total_line (total g x) ++ listed (q ∷ qs)) (sym first.1)
+
+  pub optima_distinct : AllPairs ◌≢◌ (optima g)
+  optima_distinct = (optima_are true g).list.distinct
+
+  pub listing_first : (p text : List ℕ) → IsNth (optima g) 0 p
+      → text ≡ total_line (total g p) ++ listed (optima g) → text ≡ listing_text g
+  listing_first p text first e = over_first (optima g) p text first e
+
+  pub listing_none : optima g ≡ [] → listing_text g ≡ cause_line NoPerfectPairing
+  listing_none none = ap (listing_over g) none

@@ -1,0 +1,9 @@
+-- The row has the cells up to here.
+use Rattle.std.proofs.Common.{◌≡◌, ◌++◌, string_bytes, codes}
+use Rattle.report.specs.Text.{up_to}
+use Rattle.report.specs.Mapping.{view_of, cell_of, right_in}
+use Rattle.report.proofs.sheet_map.Drawing.push_row.Given as goal
+
+abbrev pub invariant-loop-right : goal.invariant-loop-right
+invariant-loop-right l = string_bytes l.text ≡ string_bytes l.initial.text
+    ++ up_to l.right (λ r. codes " " ++ right_in l.width (cell_of (view_of l.self) l.left r))
