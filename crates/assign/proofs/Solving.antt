@@ -33,7 +33,7 @@ module _ {K : Type 0} (kind : Ghosts K)
   near_value n table long near k h =
       record {
         sized = columns_sized kind.meaning kind.columns sized table k (omega arith);
-        railed =
+        on_rail =
             within_more 1000000000000 1000000000000000 (columns_at kind.meaning table k)
             (omega arith)
             (near k h);

@@ -17,7 +17,7 @@ ghost use Rattle.assign.specs.Prices.{Topmost};
 use crate::search::{grow, offer};
 use crate::sums::exact_difference;
 use crate::tree::Cheapest;
-use blockset::BlockSet;
+use blockset::{BlockSet, SET_WIDTH};
 use cost::Cost;
 use matching::Holders;
 use tables::fill;
@@ -41,7 +41,7 @@ pub fn price_cheapest<K: Cost>(costs: &[K], rows: &[BlockSet], right: &mut [K]) 
     clear(right);
     let n = rows.len();
     let mut priced = BlockSet::empty();
-    let mut row = [0u8; 64];
+    let mut row = [0u8; SET_WIDTH];
     for l in 0..n {
         let to = rows[l];
         offer(
@@ -135,7 +135,7 @@ pub fn price_greatest<K: Cost>(
         holders,
         right,
         BlockSet::all(n),
-        [0u8; 64],
+        [0u8; SET_WIDTH],
         left,
     );
     right.copy_from_slice(left);

@@ -21,7 +21,7 @@ ghost use Rattle.assign.specs.Trees.{Grows, GrowsFrom};
 
 use crate::sums::{exact_difference, exact_sum, is_less};
 use crate::tree::Tree;
-use blockset::BlockSet;
+use blockset::{BlockSet, SET_WIDTH};
 use cost::Cost;
 use matching::{Holders, Reach};
 
@@ -34,7 +34,7 @@ pub fn offer<K: Cost>(
     from: usize,
     to: BlockSet,
     reached: BlockSet,
-    via: &mut [u8; 64],
+    via: &mut [u8; SET_WIDTH],
     dist: &mut [K],
 )
     requires few { length costs.now ≤ MOST_BLOCKS }
@@ -90,7 +90,7 @@ pub fn grow<K: Cost>(
     holders: &Holders,
     right: &[K],
     start: BlockSet,
-    via: [u8; 64],
+    via: [u8; SET_WIDTH],
     dist: &mut [K],
 ) -> Tree
     requires lent { Lent K.Cost rows.now costs.now }
@@ -113,7 +113,7 @@ pub fn grow<K: Cost>(
     let mut taken = Reach {
         reached: BlockSet::empty(),
         from: via,
-        rank: [0u8; 64],
+        rank: [0u8; SET_WIDTH],
         goal: None,
     };
     for t in 0..n {
@@ -162,7 +162,7 @@ pub fn grow_from<K: Cost>(
     let n = rows.len();
     let to = rows[k];
     let row = &costs[k * n..k * n + n];
-    let mut via = [0u8; 64];
+    let mut via = [0u8; SET_WIDTH];
     offer(row, K::zero(), k, to, BlockSet::empty(), &mut via, dist);
     grow(costs, rows, holders, right, to, via, dist)
 }

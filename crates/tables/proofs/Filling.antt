@@ -16,10 +16,10 @@ use Rattle.blockset.specs.declared.BlockSet.{BlockSet}
 use Rattle.blockset.specs.Has.{has}
 use Rattle.pairing.specs.Rows.{holds}
 use Rattle.tables.specs.Said.{columns_at}
-use Rattle.tables.specs.PairRows.{Passing}
+use Rattle.tables.specs.PairRows.{HoldsPassing}
 
-module _ (row : BlockSet) (k : ℕ) (test : ℕ → Bool) (filled : Passing k test row) where
-  pub left_out : test k ≡ false → Passing (k + 1) test row
+module _ (row : BlockSet) (k : ℕ) (test : ℕ → Bool) (filled : HoldsPassing k test row) where
+  pub left_out : test k ≡ false → HoldsPassing (k + 1) test row
   left_out fails j = filled j ∙ step
     where
       step : (ltb j 64 && (ltb j k && test j)) ≡ (ltb j 64 && (ltb j (k + 1) && test j))
@@ -46,7 +46,7 @@ agree_below n r a b e = elim (cases_lt r n) [
 -- one row more, filled by a test over its own part of the tables
 pub row_made : (n l : ℕ) (test : ℕ → ℕ → Bool) (own : ℕ → Bool) (rows : List BlockSet)
     (row : BlockSet) → n ≤ 64 → l < length rows
-    → Made l n test rows → Passing n own row → ((r : ℕ) → r < n → own r ≡ test l r)
+    → Made l n test rows → HoldsPassing n own row → ((r : ℕ) → r < n → own r ≡ test l r)
     → Made (l + 1) n test (set rows l row)
 row_made n l test own rows row small inside made filled same m r below = elim (cases_eq m l) [
   | inl e ↦

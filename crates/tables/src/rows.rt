@@ -8,18 +8,18 @@ ghost use Rattle.tables.specs.PairTables.{byte_of, says_stands};
 ghost use Rattle.tables.specs.Said.{columns_at, grid_of};
 ghost use Rattle.tables.specs.Flaws.{HasNoFlaw, IsFirstFlaw};
 ghost use Rattle.tables.specs.Lent.{HasRoom, grid_in};
-ghost use Rattle.tables.specs.PairRows.{Passing, StandingRows, adds_up, TightRows};
+ghost use Rattle.tables.specs.PairRows.{HoldsPassing, StandingRows, adds_up, TightRows};
 
 use crate::flaw::Flaw;
 use crate::pair_tables::{have_places, stands};
-use blockset::BlockSet;
+use blockset::{BlockSet, MOST_BLOCKS};
 use cost::Cost;
 
 // ---- The pairs that stand
 
 /// The right blocks that stand with one left block, whose standing bytes these are.
 fn standing_row(bytes: &[u8]) -> BlockSet
-    ensures { Passing (length bytes.now) (λ r. says_stands (slice_index bytes.now r)) result }
+    ensures { HoldsPassing (length bytes.now) (λ r. says_stands (slice_index bytes.now r)) result }
 {
     let mut row = BlockSet::empty();
     for (r, byte) in bytes.iter().enumerate() {
@@ -42,7 +42,7 @@ pub fn standing_rows(standing: &[u8], rows: &mut [BlockSet]) -> Result<(), Flaw>
     ensures kept { OnErr result (rows.new ≡ rows.old) }
 {
     let n = rows.len();
-    if n > 64 {
+    if n > MOST_BLOCKS as usize {
         return Err(Flaw::Size);
     }
     if standing.len() != n * n {
@@ -80,9 +80,9 @@ fn tight<K: Cost>(byte: u8, left: K, right: K, cost: K) -> bool
 fn tight_row<K: Cost>(costs: &[K], standing: &[u8], left: K, right: &[K]) -> BlockSet
     requires priced { length costs.now ≡ length right.now }
     requires told { length standing.now ≡ length right.now }
-    ensures { Passing (length right.now) (λ r. adds_up (says_stands (slice_index standing.now r))
-        (K.meaning left) (columns_at K.meaning right.now r) (columns_at K.meaning costs.now r))
-        result }
+    ensures { HoldsPassing (length right.now)
+        (λ r. adds_up (says_stands (slice_index standing.now r)) (K.meaning left)
+        (columns_at K.meaning right.now r) (columns_at K.meaning costs.now r)) result }
 {
     let mut row = BlockSet::empty();
     for (r, price) in right.iter().enumerate() {
@@ -115,7 +115,7 @@ pub fn tight_rows<K: Cost>(
     ensures kept { OnErr result (rows.new ≡ rows.old) }
 {
     let n = rows.len();
-    if n > 64 {
+    if n > MOST_BLOCKS as usize {
         return Err(Flaw::Size);
     }
     if !have_places(n as u16, costs.len(), standing.len()) || left.len() != n || right.len() != n {

@@ -164,7 +164,7 @@ module _ {K : Type 0} (kind : Ghosts K) (wide : (x : K) → length (kind.meaning
       → Value kind.columns (columns_at kind.meaning table k)
   value table p k h = record {
     sized = columns_sized kind.meaning kind.columns wide table k (omega (arith, p.long));
-    railed = within_more 1000000000000 1000000000000000 (columns_at kind.meaning table k)
+    on_rail = within_more 1000000000000 1000000000000000 (columns_at kind.meaning table k)
         (omega arith) (p.near k h);
   }
 

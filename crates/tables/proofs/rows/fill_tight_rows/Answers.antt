@@ -4,7 +4,7 @@ use Rattle.std.proofs.Common.{subst, ap₂, arith}
 use Rattle.tables.specs.PairTables.{byte_of, says_stands}
 use Rattle.pairing.specs.Places.{place_of}
 use Rattle.tables.specs.Said.{columns_at, grid_of}
-use Rattle.tables.specs.PairRows.{Passing, adds_up}
+use Rattle.tables.specs.PairRows.{HoldsPassing, adds_up}
 use Rattle.tables.proofs.Filling.{row_made, row_at, columns_at_lem, value_at}
 use Rattle.tables.proofs.Orderly.{columns_sized}
 use Rattle.tables.proofs.Tightness.{tight_told}
@@ -29,7 +29,7 @@ loop-l-preserved g c =
     row_made n l (λ k r. adds_up (says_stands (byte_of n bytes k r)) (columns_at meaning left k)
     (columns_at meaning right r) (columns_at meaning costs (place_of n k r))) own
     c.loop-l.rows c.tight_row.result c.requires.few (omega arith) c.loop-l.invariant
-    (subst (λ k. Passing k own c.tight_row.result) fit.right_long c.tight_row.ensures)
+    (subst (λ k. HoldsPassing k own c.tight_row.result) fit.right_long c.tight_row.ensures)
     (λ r below.
     ap (λ b. adds_up (says_stands b) (meaning c.index-left-l.result) (columns_at meaning right r)
     (columns_at meaning part-costs r)) (row_at bytes n l inside fit.standing_long r 0 below)
