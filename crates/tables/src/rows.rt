@@ -7,7 +7,7 @@ ghost use Rattle.pairing.specs.Places.{places_of};
 ghost use Rattle.tables.specs.PairTables.{byte_of, says_stands};
 ghost use Rattle.tables.specs.Said.{columns_at, grid_of};
 ghost use Rattle.tables.specs.Flaws.{HasNoFlaw, IsFirstFlaw};
-ghost use Rattle.tables.specs.Lent.{HasRoom, grid_in};
+ghost use Rattle.tables.specs.Lent.{HasRoom};
 ghost use Rattle.tables.specs.PairRows.{HoldsPassing, StandingRows, adds_up, TightRows};
 
 use crate::flaw::Flaw;
@@ -82,7 +82,7 @@ fn tight_row<K: Cost>(costs: &[K], standing: &[u8], left: K, right: &[K]) -> Blo
     requires told { length standing.now ≡ length right.now }
     ensures { HoldsPassing (length right.now)
         (λ r. adds_up (says_stands (slice_index standing.now r)) (K.meaning left)
-        (columns_at K.meaning right.now r) (columns_at K.meaning costs.now r)) result }
+        (columns_at K.Cost right.now r) (columns_at K.Cost costs.now r)) result }
 {
     let mut row = BlockSet::empty();
     for (r, price) in right.iter().enumerate() {
@@ -110,8 +110,8 @@ pub fn tight_rows<K: Cost>(
         (HasRoom n (length costs.now) (length standing.now) (length left.now) (length right.now))
         ⊤) }
     ensures rows { OnOk result
-        (TightRows (grid_in K.Cost (length rows.old) costs.now standing.now)
-        (columns_at K.meaning left.now) (columns_at K.meaning right.now) rows.new) }
+        (TightRows (grid_of K.Cost (length rows.old) costs.now standing.now)
+        (columns_at K.Cost left.now) (columns_at K.Cost right.now) rows.new) }
     ensures kept { OnErr result (rows.new ≡ rows.old) }
 {
     let n = rows.len();
@@ -136,8 +136,8 @@ pub fn fill_tight_rows<K: Cost>(
     requires few { length rows.old ≤ MOST_BLOCKS }
     requires room { HasRoom (length rows.old) (length costs.now) (length standing.now)
         (length left.now) (length right.now) }
-    ensures { TightRows (grid_in K.Cost (length rows.old) costs.now standing.now)
-        (columns_at K.meaning left.now) (columns_at K.meaning right.now) rows.new }
+    ensures { TightRows (grid_of K.Cost (length rows.old) costs.now standing.now)
+        (columns_at K.Cost left.now) (columns_at K.Cost right.now) rows.new }
 {
     let n = rows.len();
     for (l, row) in rows.iter_mut().enumerate() {

@@ -7,6 +7,6 @@ use Rattle.tables.proofs.rows.tight_row.Given as goal
 
 abbrev pub invariant-loop-r : goal.invariant-loop-r
 invariant-loop-r g l =
-    let meaning = g.K.Cost.meaning in
-    HoldsPassing l.r (λ j. adds_up (says_stands (get_or l.standing j 0)) (meaning l.left)
-    (columns_at meaning l.right j) (columns_at meaning l.costs j)) l.row
+    let kind = g.K.Cost in
+    HoldsPassing l.r (λ j. adds_up (says_stands (get_or l.standing j 0)) (kind.meaning l.left)
+    (columns_at kind l.right j) (columns_at kind l.costs j)) l.row
