@@ -1,7 +1,6 @@
 -- What a search along alternating chains finds: which right blocks it reaches, and from where.
 use Rattle.std.specs.Prelude.{◌≡◌, ℕ, ◌<◌, Bool, true, false, if◌then◌else◌, ◌&&◌, ◌⊎◌, List}
-use Rattle.std.specs.Prelude.{length}
-use Rattle.std.specs.Prelude.{Some, None, IsTrue, ◌↔◌, Option}
+use Rattle.std.specs.Prelude.{length, Some, None, IsTrue, ◌↔◌, Option}
 use Rattle.blockset.specs.declared.TheConstants.{SET_WIDTH}
 use Rattle.blockset.specs.declared.BlockSet.{BlockSet}
 use Rattle.blockset.specs.Has.{has}

@@ -2,8 +2,7 @@
 //! right block of its row, on to the left block that has that right block, and so on.
 
 ghost use Rattle.std.specs.Prelude.{◌≡◌, ℕ, ◌<◌, ◌≤◌, true, false, ◌||◌, length, IfSome, IfNone};
-ghost use Rattle.std.specs.Prelude.{◌==◌};
-ghost use Rattle.std.specs.Prelude.{◌≢◌};
+ghost use Rattle.std.specs.Prelude.{◌==◌, ◌≢◌};
 ghost use Rattle.blockset.specs.declared.TheConstants.{MOST_BLOCKS, SET_WIDTH};
 ghost use Rattle.blockset.specs.Has.{has};
 ghost use Rattle.pairing.specs.Grid.{at};

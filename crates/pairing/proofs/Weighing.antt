@@ -10,8 +10,7 @@ use Rattle.std.proofs.lemmas.List.{length-replicate}
 use Rattle.cost.specs.Columns.{Within, zeros, plus}
 use Rattle.cost.proofs.Exact.{plus-within, zeros_within, within_more, length-columnwise}
 use Rattle.cost.specs.Weights.{weight, Light}
-use Rattle.cost.proofs.Weights.{upto_is, upto_from, same_from, weight_plus}
-use Rattle.cost.proofs.Weights.{weight_zeros}
+use Rattle.cost.proofs.Weights.{upto_is, upto_from, same_from, weight_plus, weight_zeros}
 use Rattle.pairing.specs.Grid.{Grid, Sane, at, PerfectIn, total_of, total, Upto}
 use Rattle.pairing.specs.Prices.{Value, TightPair}
 use Rattle.pairing.proofs.Sums.{sum_z}

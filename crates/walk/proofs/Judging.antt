@@ -3,8 +3,7 @@
 -- add up without the rail, so that the kind's own sums decide about the exact ones.
 use Rattle.std.proofs.Common.{◌≡◌, ℕ, ◌+◌, ◌-◌, ◌*◌, ◌<◌, ◌≤◌, Bool, true, false, ◌&&◌, ◌↔◌, List}
 use Rattle.std.proofs.Common.{length, get_or, take, drop, ℤ, Decides, Ordering, Less, Equal}
-use Rattle.std.proofs.Common.{Greater, sym, refl, ap, ◌∙◌, subst, ap₂, arith, below_more}
-use Rattle.std.proofs.Common.{Contains}
+use Rattle.std.proofs.Common.{Greater, sym, refl, ap, ◌∙◌, subst, ap₂, arith, below_more, Contains}
 use Rattle.std.specs.Ordering.{is_gt}
 use Rattle.std.proofs.lemmas.Bool.{and_parts, and_from, both_ways, false≢true}
 use Rattle.std.proofs.lemmas.Bool.Decides.{Decides-like}
