@@ -85,8 +85,8 @@ fn tight_row<K: Cost>(costs: &[K], standing: &[u8], left: K, right: &[K]) -> Blo
         (columns_at K.Cost right.now r) (columns_at K.Cost costs.now r)) result }
 {
     let mut row = BlockSet::empty();
-    for (r, price) in right.iter().enumerate() {
-        if tight(standing[r], left, *price, costs[r]) {
+    for (r, byte) in standing.iter().enumerate() {
+        if tight(*byte, left, right[r], costs[r]) {
             row.insert(r);
         }
     }
