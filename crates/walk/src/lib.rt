@@ -30,6 +30,7 @@ use tables::{Tables, places};
 #[derive(Clone, Copy, Debug, PartialEq, Eq)]
 pub struct Apart;
 
+// `thiserror` would write this impl without the ghost member, so that nothing pinned the text.
 impl fmt::Display for Apart {
     ghost output = { λ _. Some (codes "the tables do not hold together") };
 
