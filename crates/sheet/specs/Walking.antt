@@ -58,11 +58,11 @@ module _ {K : Type 0} (kind : Ghosts K) (t : Lent K) where
       (need (Together kind t) Inconsistent nothing)
 
   -- the settled sheet became a walk of the same size, and the list is the first of all optimum
-  -- pairings
+  -- pairings: it has a place for each left block, and a step of the walk accepts it
   pub record IsStarted (sheet walk : Sheet) (list list' : List ℕ) : Type 0 where
     pub same : walk ≡ sheet
     pub met : AreMet (start_needs (length list))
-    pub long : length list' ≡ t.size
+    pub optimum : Optimum (grid kind t) list'
     pub first : IsNth (optima (grid kind t)) 0 list'
 
   -- the settled sheet came back, and the list is as it was
@@ -83,7 +83,7 @@ module _ {K : Type 0} (kind : Ghosts K) (t : Lent K) where
       (need (Together kind t × Optimum (grid kind t) list) Inconsistent nothing)
 
   -- the list is the optimum pairing that comes next in dictionary order; at the last one the step
-  -- is the end, and the list stays
+  -- is the end, and the list stays. It has a place for each left block, and the next step accepts it
   pub record IsStep (list list' : List ℕ) (step : Step) : Type 0 where
-    pub long : length list' ≡ t.size
+    pub optimum : Optimum (grid kind t) list'
     pub follows : Follows (optima (grid kind t)) list list' step

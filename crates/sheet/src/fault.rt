@@ -130,7 +130,7 @@ impl<S> fmt::Display for Refusal<S> {
     }
 }
 
-impl<S: fmt::Debug> Error for Refusal<S> {}
+impl<S: fmt::Debug + Drop> Error for Refusal<S> {}
 
 // The state is let go.
 impl<S: Drop> From<Refusal<S>> for Fault {

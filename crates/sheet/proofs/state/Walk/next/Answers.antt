@@ -13,9 +13,8 @@ returns g c =
     c.args.left.now c.args.right.now in
     let n = c.size-n.result in
     let known : Together g.K.Cost (t n) × Optimum (grid g.K.Cost (t n)) c.args.list.now = c.in_ok-next.ensures.accepted.0 refl in
-    let same : length c.next.new.walk ≡ length c.args.list.now = c.next.auto.walk in
     subst (λ n. AreMet (next_needs g.K.Cost (t n) c.args.list.now)
     × IsStep g.K.Cost (t n) c.args.list.now c.next.new.walk c.in_ok-next.field-0) c.size-n.ensures.value (
       ((c.fit.ensures.0 c.if-not-fit.false, known.1.perfect.len), (known, tt)),
-      record { long = same ∙ known.1.perfect.len; follows = c.in_ok-next.ensures.steps },
+      record { optimum = c.in_ok-next.ensures.optimum; follows = c.in_ok-next.ensures.steps },
     )
