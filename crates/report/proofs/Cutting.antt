@@ -1,25 +1,29 @@
--- What a reader that is cut gives, told as text.
+-- What a reader that is cut gives.
 -- Idea: the bytes that the cut reader has left are the first ones of those that the reader has.
 use Rattle.std.proofs.Common.{◌≡◌, ℕ, List, [], ◌++◌, take, Option, Some, None, IfSome, subst}
 use Rattle.std.specs.Option.{option_map}
 use Rattle.std.specs.Io.Take.{take_remaining, take_limit, take_inner}
 use Rattle.std.specs.declared.io.traits.Take.{Take}
-use Rattle.report.specs.Describing.{Describes}
 
-first_described : (known : Option (List ℕ)) (most : ℕ) (file text : List ℕ)
-    → IfSome (option_map (take most) known) (λ bytes. file ≡ [] ++ bytes) → Describes file text
-    → IfSome known (λ bytes. Describes (take most bytes) text)
-first_described None most file text gives described = tt
-first_described (Some bytes) most file text gives described =
-    let P : List ℕ → Type 0 = λ f. Describes f text in subst P gives described
+first_bytes : (known : Option (List ℕ)) (most : ℕ) (file : List ℕ)
+    → IfSome (option_map (take most) known) (λ bytes. file ≡ [] ++ bytes)
+    → IfSome known (λ bytes. file ≡ take most bytes)
+first_bytes None most file gives = tt
+first_bytes (Some bytes) most file gives = gives
 
-pub cut_described : {R : Type 0} (remaining : R → Option (List ℕ)) (reader : R) (most : ℕ)
-    (cut : Take R) (file text : List ℕ) → take_limit cut ≡ most → take_inner cut ≡ reader
-    → IfSome (take_remaining remaining cut) (λ bytes. file ≡ [] ++ bytes) → Describes file text
-    → IfSome (remaining reader) (λ bytes. Describes (take most bytes) text)
-cut_described {R = R} remaining reader most cut file text limit inner gives described =
-    let P : ℕ → Type 0 = λ m. IfSome (remaining reader) (λ bytes. Describes (take m bytes) text) in
+pub cut_bytes : {R : Type 0} (remaining : R → Option (List ℕ)) (reader : R) (most : ℕ)
+    (cut : Take R) (file : List ℕ) → take_limit cut ≡ most → take_inner cut ≡ reader
+    → IfSome (take_remaining remaining cut) (λ bytes. file ≡ [] ++ bytes)
+    → IfSome (remaining reader) (λ bytes. file ≡ take most bytes)
+cut_bytes {R = R} remaining reader most cut file limit inner gives =
+    let P : ℕ → Type 0 = λ m. IfSome (remaining reader) (λ bytes. file ≡ take m bytes) in
     let Q : R → Type 0 = λ r. IfSome (remaining r)
-    (λ bytes. Describes (take (take_limit cut) bytes) text) in
-    subst P limit (subst Q inner
-    (first_described (remaining (take_inner cut)) (take_limit cut) file text gives described))
+    (λ bytes. file ≡ take (take_limit cut) bytes) in
+    subst P limit (subst Q inner (first_bytes (remaining (take_inner cut)) (take_limit cut) file gives))
+
+-- what is told of a file is told of the bytes that it has
+pub told_of_input : (known : Option (List ℕ)) (file : List ℕ) (cut : List ℕ → List ℕ)
+    (Told : List ℕ → Type 0) → IfSome known (λ bytes. file ≡ cut bytes) → Told file
+    → IfSome known (λ bytes. Told (cut bytes))
+told_of_input None file cut Told gives told = tt
+told_of_input (Some bytes) file cut Told gives told = subst Told gives told

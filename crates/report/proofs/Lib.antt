@@ -2,3 +2,4 @@ pub mod Cutting
 pub mod Described
 pub mod Lines
 pub mod Listed
+pub mod Accepting

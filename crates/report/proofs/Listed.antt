@@ -2,15 +2,17 @@
 -- Idea: no two pairings of the list are equal, so a pairing tells its place in it, and a step from
 -- place k leads to place k + 1 or says that k was the last. Each step adds the line of one more.
 use Rattle.std.proofs.Common.{◌≡◌, ℕ, ◌+◌, ◌<◌, ◌≤◌, true, ◌≢◌, List, [], ◌∷◌, ◌++◌}
-use Rattle.std.proofs.Common.{length, take, ltb, codes, sym, ap, ap₂, ◌∙◌, subst, ⊎_elim}
+use Rattle.std.proofs.Common.{length, take, ltb, codes, sym, refl, ap, ap₂, ◌∙◌, subst, ⊎_elim}
 use Rattle.std.proofs.Common.{append_assoc, arith}
 use Rattle.std.specs.List.{AllPairs}
 use Rattle.std.proofs.lemmas.List.{take_more, take_all, flat_map_more}
 use Rattle.std.proofs.lemmas.Bool.{cases_lt, cond-true, cond-false, lt-ltb, le-ltb}
-use Rattle.pairing.specs.Grid.{Grid, total}
+use Rattle.pairing.specs.Grid.{Grid, total, Optimum}
 use Rattle.pairing.specs.Optima.{optima}
+use Rattle.pairing.specs.Theorems.{AlikeInside}
 use Rattle.pairing.proofs.Listing.{optima_are}
 use Rattle.matching.specs.Answers.{IsNth, Follows}
+use Rattle.matching.proofs.Nth.{contains_nth}
 use Rattle.matching.specs.declared.stepping.Step.TheVariants.{Next, End}
 use Rattle.sheet.specs.declared.fault.Cause.TheVariants.{NoPerfectPairing}
 use Rattle.report.specs.Listing.{pairing_line, pairing_lines, total_line, cause_line}
@@ -85,9 +87,25 @@ module _ (g : Grid) where
   pub optima_distinct : AllPairs ◌≢◌ (optima g)
   optima_distinct = (optima_are true g).list.distinct
 
+  pub nth_optimum : (k : ℕ) (p : List ℕ) → IsNth (optima g) k p → Optimum g p
+  nth_optimum k p h = ((optima_are true g).list.are p).0 (contains_nth (optima g) k p h)
+
   pub listing_first : (p text : List ℕ) → IsNth (optima g) 0 p
       → text ≡ total_line (total g p) ++ listed (optima g) → text ≡ listing_text g
   listing_first p text first e = over_first (optima g) p text first e
 
   pub listing_none : optima g ≡ [] → listing_text g ≡ cause_line NoPerfectPairing
   listing_none none = ap (listing_over g) none
+
+-- grids of which the same is told have the same listing
+module _ (g h : Grid) where
+  over_same : (ps : List (List ℕ)) → ((p : List ℕ) → IsNth ps 0 p → total g p ≡ total h p)
+      → listing_over g ps ≡ listing_over h ps
+  over_same [] same = refl
+  over_same (p ∷ ps) same =
+      ap (λ t. total_line t ++ listed (p ∷ ps)) (same p (omega arith, refl))
+
+  pub listing_same : AlikeInside true true g h → listing_text g ≡ listing_text h
+  listing_same alike =
+      over_same (optima g) (λ p i. alike.totals p (nth_optimum g 0 p i).perfect)
+      ∙ ap (listing_over h) alike.optima

@@ -10,12 +10,14 @@ ghost use Rattle.report.specs.Text.{pair_line, cost_in, row_lines, all_lines, sh
 
 mod aligned;
 mod input;
+mod list_file;
 mod pairing_lines;
 mod sheet_map;
 mod words;
 
 use cost::Plain;
-pub use input::{MOST_BYTES, describe_input};
+pub use input::{MOST_BYTES, describe_input, list_input};
+pub use list_file::list;
 use orderfile::loading::{check, load};
 pub use pairing_lines::{MOST_PAIRINGS, cause_line, push_pairing_line, push_total_line};
 use sheet::fault::Fault;

@@ -1,0 +1,169 @@
+//! Order files as listings: all optimum pairings of what a file states, or why it is refused.
+
+ghost use Rattle.std.specs.Prelude.{◌≡◌, ◌++◌, IfOk, OnOk, length, string_bytes};
+ghost use Rattle.pairing.specs.Grid.{Optimum};
+ghost use Rattle.pairing.specs.Optima.{optima};
+ghost use Rattle.matching.specs.Answers.{IsNth, Follows};
+ghost use Rattle.tables.specs.Lent.{grid};
+ghost use Rattle.tables.specs.PairTables.{HavePlaces};
+ghost use Rattle.tables.specs.Together.{Together, ArePairTables};
+ghost use Rattle.assign.specs.Answer.{Settled};
+ghost use Rattle.sheet.specs.Size.{size_of};
+ghost use Rattle.orderfile.specs.Format.{Order, States};
+ghost use Rattle.orderfile.specs.Loading.{plain_kind, plain_grid};
+ghost use Rattle.report.specs.Listing.{listed, listing_text, Lists};
+
+use crate::pairing_lines::{MOST_PAIRINGS, cause_line, push_pairing_line, push_total_line};
+use cost::Plain;
+use matching::Step;
+use orderfile::loading::{check, load};
+use sheet::state::{OpenSheet, SettledSheet, Walk};
+use std::alloc::{AllocError, Global};
+use tables::{Tables, places};
+
+// Goes on to the next pairing of a walk over tables that hold together.
+fn step(walk: &Walk, tables: &Tables<'_, Plain>, list: &mut [u16]) -> Step
+    requires size { size_of walk.now ≡ tables.now.size }
+    requires together { Together plain_kind tables.now }
+    requires optimum { Optimum (grid plain_kind tables.now) list.old }
+    ensures { Follows (optima (grid plain_kind tables.now)) list.old list.new result }
+{
+    let Tables {
+        costs,
+        standing,
+        partners,
+        left,
+        right,
+        ..
+    } = *tables;
+    let Ok(step) = walk.next(costs, standing, partners, left, right, list) else {
+        unreachable!();
+    };
+    step
+}
+
+// Appends the lines of the pairings from the first one on, as far as a listing goes, and the last
+// line.
+fn push_pairings(
+    text: &mut String,
+    walk: &Walk,
+    tables: &Tables<'_, Plain>,
+    list: &mut [u16],
+) -> Result<(), AllocError>
+    requires size { size_of walk.now ≡ tables.now.size }
+    requires together { Together plain_kind tables.now }
+    requires first { IsNth (optima (grid plain_kind tables.now)) 0 list.old }
+    ensures { OnOk result (string_bytes text.new
+        ≡ string_bytes text.old ++ listed (optima (grid plain_kind tables.now))) }
+{
+    for _ in 0..MOST_PAIRINGS {
+        push_pairing_line(text, list)?;
+        if let Step::End = step(walk, tables, list) {
+            return text.push_str("end\n");
+        }
+    }
+    text.push_str("more\n")
+}
+
+// The listing of a sheet that was just settled.
+fn list_settled(
+    heap: Global,
+    sheet: SettledSheet,
+    tables: &Tables<'_, Plain>,
+) -> Result<String, AllocError>
+    requires size { size_of sheet ≡ tables.now.size }
+    requires together { Together plain_kind tables.now }
+    requires settled { Settled plain_kind tables.now }
+    ensures { IfOk result
+        (λ text. string_bytes text ≡ listing_text (grid plain_kind tables.now)) }
+{
+    let Tables {
+        costs,
+        standing,
+        partners,
+        left,
+        right,
+        ..
+    } = *tables;
+    let Ok(total) = sheet.total(costs, standing, partners, left, right) else {
+        unreachable!();
+    };
+    let mut text = String::new(heap);
+    push_total_line(&mut text, total)?;
+    let mut list = vec![in heap; 0u16; tables.size as usize]?;
+    let first = list.as_mut_slice();
+    let Ok(walk) = sheet.start(costs, standing, partners, left, right, first) else {
+        unreachable!();
+    };
+    push_pairings(&mut text, &walk, tables, first)?;
+    Ok(text)
+}
+
+// The listing of a sheet: it is settled, or no pairing is perfect.
+fn list_sheet(
+    heap: Global,
+    sheet: OpenSheet,
+    costs: &[Plain],
+    standing: &[u8],
+) -> Result<String, AllocError>
+    requires { ArePairTables plain_kind (size_of sheet) costs.now standing.now }
+    ensures { IfOk result (λ text. string_bytes text
+        ≡ listing_text (plain_grid (size_of sheet) costs.now standing.now)) }
+{
+    let size = sheet.size();
+    let mut partners = vec![in heap; 0u16; size as usize]?;
+    let mut left = vec![in heap; Plain(0); size as usize]?;
+    let mut right = vec![in heap; Plain(0); size as usize]?;
+    let (mates, lefts, rights) = (
+        partners.as_mut_slice(),
+        left.as_mut_slice(),
+        right.as_mut_slice(),
+    );
+    match sheet.settle(costs, standing, mates, lefts, rights) {
+        Ok(settled) => {
+            let tables = Tables {
+                size,
+                costs,
+                standing,
+                partners: partners.as_slice(),
+                left: left.as_slice(),
+                right: right.as_slice(),
+            };
+            list_settled(heap, settled, &tables)
+        }
+        Err(refusal) => cause_line(heap, refusal.fault.cause),
+    }
+}
+
+// Loads a file into tables of the right lengths, and lists the sheet or tells the refusal.
+fn load_and_list(
+    heap: Global,
+    file: &[u8],
+    costs: &mut [Plain],
+    standing: &mut [u8],
+) -> Result<String, AllocError>
+    requires { (order : Order) → States file.now order
+        → HavePlaces order.size (length costs.old) (length standing.old) }
+    ensures { IfOk result (λ text. Lists file.now (string_bytes text)) }
+{
+    match load(file, costs, standing) {
+        Ok(sheet) => list_sheet(heap, sheet, costs, standing),
+        Err(fault) => cause_line(heap, fault.cause),
+    }
+}
+
+/// The listing of an order file: `total T`, then up to 1,000 lines `pairing R0 R1 ..`, the optimum
+/// pairings of what the file states in dictionary order, then `end`, or `more` where others
+/// remain; or else `refused N`, with 6 where no pairing is perfect.
+pub fn list(heap: Global, file: &[u8]) -> Result<String, AllocError>
+    ensures { IfOk result (λ text. Lists file.now (string_bytes text)) }
+{
+    match check(file) {
+        Ok(n) => {
+            let mut costs = vec![in heap; Plain(0); places(n)]?;
+            let mut standing = vec![in heap; 0u8; places(n)]?;
+            load_and_list(heap, file, costs.as_mut_slice(), standing.as_mut_slice())
+        }
+        Err(fault) => cause_line(heap, fault.cause),
+    }
+}
