@@ -1,14 +1,13 @@
 -- From what the parts of the tables are found to be to what is said of them.
 -- Idea: each test decides its fact, and a fact that fails at one place fails. Prices within 10^12
 -- add up without the rail, so that the kind's own sums decide about the exact ones.
-use Rattle.std.proofs.Common.{◌≡◌, ℕ, ◌+◌, ◌-◌, ◌*◌, ◌<◌, ◌≤◌, Bool, true, false, ◌&&◌, ◌↔◌, List}
-use Rattle.std.proofs.Common.{length, get_or, take, drop, ℤ, Decides, Ordering, Less, Equal}
-use Rattle.std.proofs.Common.{Greater, sym, refl, ap, ◌∙◌, subst, ap₂, arith, below_more, Contains}
-use Rattle.std.specs.Ordering.{is_gt}
-use Rattle.std.proofs.lemmas.Bool.{and_parts, and_from, both_ways, false≢true}
+use Rattle.std.proofs.Common.{◌≡◌, ℕ, ◌+◌, ◌-◌, ◌*◌, ◌<◌, ◌≤◌, Bool, true, false, ◌↔◌, List}
+use Rattle.std.proofs.Common.{length, get_or, take, drop, ℤ, Decides}
+use Rattle.std.proofs.Common.{sym, ap, ◌∙◌, subst, arith, below_more, Contains}
+use Rattle.std.proofs.lemmas.Bool.{both_ways, false≢true}
 use Rattle.std.proofs.lemmas.Bool.Decides.{Decides-like}
 use Rattle.cost.specs.declared.Cost.{Ghosts}
-use Rattle.cost.specs.Columns.{Within, within, sums, plus, lex}
+use Rattle.cost.specs.Columns.{Within, within, sums, plus}
 use Rattle.cost.proofs.Exact.{within_tells, within_more, exact}
 use Rattle.tables.specs.PairTables.{byte_of, says_stands, in_order}
 use Rattle.pairing.specs.Places.{place_of}
@@ -60,53 +59,6 @@ module _ {K : Type 0} (kind : Ghosts K) (limit : ℕ) (table : List K) (k : ℕ)
       (subst (Within limit) (sym (value_at kind table k x inside read)) (h k inside)))
 
 -- ---- Prices against costs
-
-greater : (o : Ordering) → is_gt o ≡ true → o ≡ Greater
-greater Less e = absurd (false≢true e)
-greater Equal e = absurd (false≢true e)
-greater Greater e = refl
-
--- one pair
-module _ (stands : Bool) (sum cost : List ℤ) where
-  held : (stands && is_gt (lex sum cost)) ≡ false → stands ≡ true → Upto sum cost
-  held e t o = both_ways (stands && is_gt (lex sum cost)) e
-      (and_from stands (is_gt (lex sum cost)) t (ap is_gt o))
-
-  not_held : (stands && is_gt (lex sum cost)) ≡ true → (stands ≡ true → Upto sum cost) → ⊥
-  not_held e h = let both = and_parts stands (is_gt (lex sum cost)) e in
-      h both.0 (greater (lex sum cost) both.1)
-
--- one pair more of a row, whose price and cost were read from their tables
-module _ {K : Type 0} (kind : Ghosts K) (costs : List K) (bytes : List ℕ) (left : List ℤ)
-    (right : List K) (r : ℕ) (price cost : K)
-    (in_right : r < length right) (read_right : price ≡ get_or right r price)
-    (in-costs : r < length costs) (read-cost : cost ≡ get_or costs r cost) where
-  read : (says_stands (get_or bytes r 0) && is_gt
-      (lex (sums left (kind.meaning price)) (kind.meaning cost)))
-      ≡ (says_stands (get_or bytes r 0) && is_gt
-      (lex (sums left (columns_at kind right r)) (columns_at kind costs r)))
-  read = ap₂ (λ x y. says_stands (get_or bytes r 0) && is_gt (lex (sums left x) y))
-      (value_at kind right r price in_right read_right)
-      (value_at kind costs r cost in-costs read-cost)
-
-  pub row_more : (says_stands (get_or bytes r 0) && is_gt
-      (lex (sums left (kind.meaning price)) (kind.meaning cost))) ≡ false
-      → RowUnder r (λ j. says_stands (get_or bytes j 0)) left (columns_at kind right)
-      (columns_at kind costs)
-      → RowUnder (r + 1) (λ j. says_stands (get_or bytes j 0)) left (columns_at kind right)
-      (columns_at kind costs)
-  row_more e h =
-      below_more (λ j. says_stands (get_or bytes j 0) ≡ true
-      → Upto (sums left (columns_at kind right j)) (columns_at kind costs j)) r h
-      (held (says_stands (get_or bytes r 0)) (sums left (columns_at kind right r))
-      (columns_at kind costs r) (sym read ∙ e))
-
-  pub row_not : (says_stands (get_or bytes r 0) && is_gt
-      (lex (sums left (kind.meaning price)) (kind.meaning cost))) ≡ true
-      → RowUnder (length right) (λ j. says_stands (get_or bytes j 0)) left
-      (columns_at kind right) (columns_at kind costs) → ⊥
-  row_not e h = not_held (says_stands (get_or bytes r 0)) (sums left (columns_at kind right r))
-      (columns_at kind costs r) (sym read ∙ e) (h r in_right)
 
 -- a row by its parts of the tables
 module _ {K : Type 0} (kind : Ghosts K) (n l : ℕ) (costs : List K) (standing : List ℕ)

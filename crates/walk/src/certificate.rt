@@ -78,8 +78,8 @@ fn row_under<K: Cost>(costs: &[K], standing: &[u8], left: K, right: &[K]) -> boo
         (λ r. says_stands (slice_index standing.now r)) (K.meaning left)
         (columns_at K.Cost right.now) (columns_at K.Cost costs.now) }
 {
-    for (r, price) in right.iter().enumerate() {
-        if undercuts(standing[r], left, *price, costs[r]) {
+    for (r, byte) in standing.iter().enumerate() {
+        if undercuts(*byte, left, right[r], costs[r]) {
             return false;
         }
     }
