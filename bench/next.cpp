@@ -1,5 +1,6 @@
-// Times `next` over 64 rows that hold every right block, and a plain shortest-augmenting-path assignment of 64 x 64 random
-// costs as a yardstick on the same machine, and prints both and their ratio.
+// Times `next` over 64 rows that hold every right block, and a plain shortest-augmenting-path
+// assignment of 64 x 64 random costs as a yardstick on the same machine, and prints both and their
+// ratio.
 #include "yardstick.hpp"
 #include <cstdio>
 
@@ -29,7 +30,8 @@ int main() {
     int64_t sum;
     double yard = timed(random_sheets(), sum, assign), step = walk();
     if (step < 0) { std::puts("a call was refused"); return 1; }
-    std::printf("assignment of 64 x 64 random costs in C++: %.2f us (totals %lld)\n", yard, static_cast<long long>(sum));
+    std::printf("assignment of 64 x 64 random costs in C++: %.2f us (totals %lld)\n", yard,
+                static_cast<long long>(sum));
     std::printf("next over 64 full rows, the first %d pairings: %.3f us\n", STEPS, step);
     std::printf("ratio: %.2f %% (wanted: at most 4 %%)\n", 100 * step / yard);
     return 100 * step / yard <= 4 ? 0 : 1;

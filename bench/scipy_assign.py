@@ -1,5 +1,6 @@
 #!/usr/bin/env python3
-"""Times scipy's linear_sum_assignment on the sheets that bench/settle wrote to the file of the first argument, and compares the sum of the totals."""
+"""Times scipy's linear_sum_assignment on the sheets that bench/settle.cpp wrote to the file of the
+first argument, and compares the sum of the totals."""
 import struct
 import sys
 import time

@@ -1,4 +1,5 @@
-// The yardstick of the benchmarks: a plain shortest-augmenting-path assignment of 64 x 64 random costs, which tells how fast the machine is.
+// The yardstick of the benchmarks: a plain shortest-augmenting-path assignment of 64 x 64 costs,
+// which tells how fast the machine is.
 #pragma once
 #include <algorithm>
 #include <chrono>
@@ -21,15 +22,16 @@ inline double now() {
 }
 
 // Full sheets of costs within 10^9.
-inline std::vector<Sheet> random_sheets() {
+inline std::vector<Sheet> random_sheets(int count = SHEETS) {
     std::mt19937_64 random(1);
-    std::vector<Sheet> sheets(SHEETS, Sheet(N * N));
+    std::vector<Sheet> sheets(count, Sheet(N * N));
     for (auto &sheet : sheets)
         for (auto &c : sheet) c = static_cast<int64_t>(random() % 2000000001) - 1000000000;
     return sheets;
 }
 
-// The least total of an assignment, by rows added one at a time along shortest augmenting paths, with potentials.
+// The least total of an assignment, by rows added one at a time along shortest augmenting paths,
+// with potentials.
 inline int64_t assign(const Sheet &cost) {
     const int64_t far = std::numeric_limits<int64_t>::max() / 4;
     std::vector<int64_t> u(N + 1), v(N + 1), least(N + 1);
@@ -61,11 +63,17 @@ inline int64_t assign(const Sheet &cost) {
 }
 
 // How long `solve` takes for a sheet, on average over all of them; it adds the totals up in `sum`.
-template <class Solve> double timed(const std::vector<Sheet> &sheets, int64_t &sum, Solve solve) {
+template <class Solve>
+double timed(const std::vector<Sheet> &sheets, int64_t &sum, Solve solve) {
     sum = 0;
     double start = now();
     for (const auto &sheet : sheets) sum += solve(sheet);
     return (now() - start) / static_cast<double>(sheets.size());
+}
+
+inline double median(std::vector<double> values) {
+    std::sort(values.begin(), values.end());
+    return values[values.size() / 2];
 }
 
 } // namespace yardstick

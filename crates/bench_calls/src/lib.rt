@@ -1,16 +1,19 @@
 //! Calls for C, for the benchmarks in bench/: the walk through the perfect pairings, where a row is
-//! a 64-bit number, bit r for right block r, and what settling a sheet of plain costs does, with as
-//! many blocks a plane as there are places for partners.
+//! a 64-bit number, bit r for right block r; what settling a sheet of plain costs does, and the walk
+//! through its optimum pairings, with as many blocks a plane as there are places for partners.
 #![tactic(auto)]
 
 ghost use Rattle.std.specs.Prelude.{◌≡◌, ◌⊎◌, length, Result};
+ghost use Rattle.pairing.specs.Grid.{Optimum};
+ghost use Rattle.pairing.specs.Optima.{optima};
 ghost use Rattle.pairing.specs.Rows.{pairings};
 ghost use Rattle.matching.specs.declared.stepping.Step.{Step};
 ghost use Rattle.matching.specs.declared.fitting.Unfit.{Unfit};
 ghost use Rattle.matching.specs.Fit.{Fits, Unfits};
 ghost use Rattle.matching.specs.Answers.{IsNth, Follows};
 ghost use Rattle.tables.specs.declared.flaw.Flaw.{Flaw};
-ghost use Rattle.tables.specs.Lent.{lent};
+ghost use Rattle.tables.specs.Lent.{lent, grid};
+ghost use Rattle.tables.specs.Together.{Together};
 ghost use Rattle.assign.specs.declared.Outcome.{Outcome};
 ghost use Rattle.assign.specs.Answer.{Answers, Settled, Solved};
 ghost use Rattle.bench_calls.specs.Codes.{step_code, outcome_code};
@@ -33,6 +36,16 @@ pub extern "C" fn bench_first(rows: &[BlockSet], p: &mut [u16]) -> u32
     }
 }
 
+/// The number for an answer of either `next`.
+fn step_number(step: Step) -> u32
+    ensures { result ≡ step_code step }
+{
+    match step {
+        Step::Next => 0,
+        Step::End => 100,
+    }
+}
+
 /// 0 where `p` is now the next perfect pairing, 100 at the last one, and 1 where the tables were
 /// refused.
 #[unsafe(no_mangle)]
@@ -42,8 +55,7 @@ pub extern "C" fn bench_next(rows: &[BlockSet], p: &mut [u16]) -> u32
         ⊎ ((result ≡ 1) × ((e : Unfit) × Unfits rows.now p.old e) × (p.new ≡ p.old)) }
 {
     match matching::next(rows, p) {
-        Ok(Step::Next) => 0,
-        Ok(Step::End) => 100,
+        Ok(step) => step_number(step),
         Err(_) => 1,
     }
 }
@@ -105,4 +117,32 @@ pub extern "C" fn bench_settle(
     }
     let n = partners.len() as u16;
     code(settle(n, costs, standing, partners, left, right))
+}
+
+/// 0 where `walk` is now the optimum pairing that comes after the one that it held, 100 where that
+/// was the last one, and 1 where the tables were refused: in both it is as it was.
+#[unsafe(no_mangle)]
+pub extern "C" fn bench_cost_next(
+    costs: &[Plain],
+    standing: &[u8],
+    partners: &[u16],
+    left: &[Plain],
+    right: &[Plain],
+    walk: &mut [u16],
+) -> u32
+    ensures { let kind = ⟦<Plain as Cost>⟧ in let n = length partners.now in
+        let t = lent n costs.now standing.now partners.now left.now right.now in
+        ((s : Step) × (result ≡ step_code s) × Together kind t × Optimum (grid kind t) walk.old
+        × Follows (optima (grid kind t)) walk.old walk.new s)
+        ⊎ ((result ≡ 1) × (Together kind t × Optimum (grid kind t) walk.old → ⊥)
+        × (walk.new ≡ walk.old)) }
+{
+    if partners.len() > 64 {
+        return 1;
+    }
+    let n = partners.len() as u16;
+    match walk::next(n, costs, standing, partners, left, right, walk) {
+        Ok(step) => step_number(step),
+        Err(_) => 1,
+    }
 }
