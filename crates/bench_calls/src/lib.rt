@@ -1,6 +1,6 @@
 //! Calls for C, for the benchmarks in bench/: the walk through the perfect pairings, where a row is
-//! a 64-bit number, bit r for right block r; what settling a sheet of plain costs does, and the walk
-//! through its optimum pairings, with as many blocks a plane as there are places for partners.
+//! a 64-bit number, bit r for right block r; what settling a sheet of plain costs does, and the
+//! walk through its optimum pairings, with as many blocks a plane as there are places for partners.
 #![tactic(auto)]
 
 ghost use Rattle.std.specs.Prelude.{◌≡◌, ◌⊎◌, length, Result};

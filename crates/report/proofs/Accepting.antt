@@ -68,5 +68,6 @@ module _ (t : Lent Plain) (tables : ArePairTables plain_kind t.size t.costs t.st
   pub unsettled_listing : listing_text (grid plain_kind t) ≡ cause_line f.cause
   unsettled_listing =
       let g = grid plain_kind t in
-      listing_none g (((optima_are true g).none (tables_sane t tables)).1 (λ p h. unpaired.0 (p, h)))
+      listing_none g (((optima_are true g).none (tables_sane t tables)).1
+      (λ p h. unpaired.0 (p, h)))
       ∙ ap (λ x. cause_line x.cause) (sym unpaired.1)
