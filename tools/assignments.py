@@ -1,13 +1,16 @@
 #!/usr/bin/env python3
 """Solves the sheets of crates/assign_trial on its own, to compare with.
 
-    tools/assignments.py < LINES             prints what has to be printed of the sheets that the lines name
-    tools/assignments.py --random COUNT SEED prints lines that name random sheets
-    tools/assignments.py --lines             prints the lines of crates/assign_trial/stdin
+    tools/assignments.py < LINES              prints what has to be printed of the sheets that the
+                                              lines name
+    tools/assignments.py --random COUNT SEED  prints lines that name random sheets
+    tools/assignments.py --lines              prints the lines of crates/assign_trial/stdin
 
-It shares nothing with the crates, which add one row at a time along cheapest chains. Here a pairing of any cost is made better by exchanges along negative cycles, until a
-Bellman-Ford pass over all pairs finds none; the distances are then the greatest prices. A crowd set is made of the left blocks without which the largest pairings stay as
-large, one by one. A cost of several columns is one exact number, in which each column has 80 binary digits.
+It shares nothing with the crates, which add one row at a time along cheapest chains. Here a pairing
+of any cost is made better by exchanges along negative cycles, until a Bellman-Ford pass over all
+pairs finds none; the distances are then the greatest prices. A crowd set is made of the left blocks
+without which the largest pairings stay as large, one by one. A cost of several columns is one exact
+number, in which each column has 80 binary digits.
 
 A line is `KIND N SEED COSTS PAIRS`; crates/assign_trial/src/line.rt tells the words.
 """
@@ -18,8 +21,14 @@ from operator import add
 MOST = 10 ** 9
 MASK = 2 ** 64 - 1
 DIGITS = 80
-COLUMNS = {"plain": 1, "free": 0, "two": 2, "two-free": 2, "three-left": 3, "three-right": 3, "four-even": 4, "four-right": 4}
-COSTS = ("wide", "small", "bits", "mixed", "equal", "high", "low", "checks", "by-left", "by-right", "corner", "signs", "edge", "products", "steep", "apart")
+COLUMNS = {
+    "plain": 1, "free": 0, "two": 2, "two-free": 2, "three-left": 3, "three-right": 3,
+    "four-even": 4, "four-right": 4,
+}
+COSTS = (
+    "wide", "small", "bits", "mixed", "equal", "high", "low", "checks", "by-left", "by-right",
+    "corner", "signs", "edge", "products", "steep", "apart",
+)
 PAIRS = ("full", "chain", "band", "crowded")
 
 
@@ -117,20 +126,22 @@ def augmented(l, rows, owner, seen):
 
 
 def largest(rows, n, without=None):
-    """The left block that each right block has in a largest pairing, and how many pairs that has."""
+    """The left block of each right block in a largest pairing, and how many pairs that has."""
     owner = [None] * n
     pairs = sum(l != without and augmented(l, rows, owner, set()) for l in range(n))
     return owner, pairs
 
 
 def crowd_of(rows, n, pairs):
-    """The left blocks that some largest pairing leaves out, and of how many right blocks they are short."""
+    """The left blocks that some largest pairing leaves out, and of how many right blocks they are
+    short."""
     crowd = [l for l in range(n) if largest(rows, n, l)[1] == pairs]
     return crowd, len(crowd) - len(set().union(*(rows[l] for l in crowd)))
 
 
 def first_pairing(rows, n):
-    """The first perfect pairing in dictionary order, over rows that have one: each left block in turn takes the least right block with which the later ones can still be paired."""
+    """The first perfect pairing in dictionary order, over rows that have one: each left block in
+    turn takes the least right block with which the later ones can still be paired."""
     owner, _ = largest(rows, n)
     taken = set()
     for l in range(n):
@@ -150,7 +161,8 @@ def first_pairing(rows, n):
 
 
 def negative_cycles(via, partners, sheet, n):
-    """Cycles of right blocks, each reached from the one before by the left block that has that one, along which an exchange makes the pairing cheaper."""
+    """Cycles of right blocks, each reached from the one before by the left block that has that one,
+    along which an exchange makes the pairing cheaper."""
     owner = {r: l for l, r in enumerate(partners)}
     colour, cycles = [0] * n, []
     for start in range(n):
@@ -168,7 +180,8 @@ def negative_cycles(via, partners, sheet, n):
 
 
 def passed(dist, via, partners, sheet, ways):
-    """One pass of Bellman and Ford: the distance of each right block over one more pair; None where all stay."""
+    """One pass of Bellman and Ford: the distance of each right block over one more pair; None where
+    all stay."""
     base = [dist[r] - sheet[l][r] for l, r in enumerate(partners)]
     closer = [min(map(add, base, way)) for way in ways]
     changed = False
@@ -180,7 +193,8 @@ def passed(dist, via, partners, sheet, ways):
 
 
 def optimum(sheet, n, partners, far):
-    """An optimum pairing and the greatest right prices, none above zero: from a pairing, exchanges along negative cycles until there is none."""
+    """An optimum pairing and the greatest right prices, none above zero: from a pairing, exchanges
+    along negative cycles until there is none."""
     ways = [[far if sheet[l][r] is None else sheet[l][r] for l in range(n)] for r in range(n)]
     dist, via, passes = [0] * n, [None] * n, 0
     while True:
@@ -205,7 +219,8 @@ def greedy(sheet, rows):
 def checked(sheet, n, partners, left, right):
     """That the prices are valid and prove the pairing an optimum one."""
     assert sorted(partners) == list(range(n)) and all(price <= 0 for price in right)
-    assert all(sheet[l][r] is None or left[l] + right[r] <= sheet[l][r] for l in range(n) for r in range(n))
+    standing = [(l, r) for l in range(n) for r in range(n) if sheet[l][r] is not None]
+    assert all(left[l] + right[r] <= sheet[l][r] for l, r in standing)
     assert all(left[l] + right[r] == sheet[l][r] for l, r in enumerate(partners))
 
 
@@ -234,16 +249,23 @@ def solved(n, seed, columns, costs, pairs):
 # ---- The lines
 
 
+def drawn_line(source, n, pairs):
+    kind, seed = source.choice(list(COLUMNS)), source.randrange(2 ** 64)
+    return "%s %d %d %s %s" % (kind, n, seed, source.choice(COSTS), pairs)
+
+
 def random_lines(count, seed):
     source = random.Random(seed)
+    rules = ("full", "chain", "band", "crowded", "3", "10", "20", "40", "70", "95")
+    sizes = (1, 2, 3, 4, 5, 6, 8, 12, 16, 24, 32, 63, 64)
     for _ in range(count):
-        pairs = source.choice(("full", "chain", "band", "crowded", "3", "10", "20", "40", "70", "95"))
-        n = source.choice((1, 2, 3, 4, 5, 6, 8, 12, 16, 24, 32, 63, 64))
-        yield "%s %d %d %s %s" % (source.choice(list(COLUMNS)), n, source.randrange(2 ** 64), source.choice(COSTS), pairs)
+        pairs = source.choice(rules)
+        yield drawn_line(source, source.choice(sizes), pairs)
 
 
 def trial_lines():
-    """Every rule of costs at 64 blocks, every kind with full, sparse and structured pairs, and random ones."""
+    """Every rule of costs at 64 blocks, every kind with full, sparse and structured pairs, and
+    random ones."""
     for rule in COSTS:
         yield "plain 64 1 %s full" % rule
     for rule in ("wide", "mixed", "signs", "edge"):
@@ -264,9 +286,10 @@ def trial_lines():
         yield "two 9 9 %s full" % rule
         yield "three-right 12 10 %s 45" % rule
     source = random.Random(20261118)
+    rules = ("full", "chain", "band", "crowded", "15", "30", "50", "80")
     for _ in range(60):
-        n, pairs = source.randrange(1, 31), source.choice(("full", "chain", "band", "crowded", "15", "30", "50", "80"))
-        yield "%s %d %d %s %s" % (source.choice(list(COLUMNS)), n, source.randrange(2 ** 64), source.choice(COSTS), pairs)
+        n, pairs = source.randrange(1, 31), source.choice(rules)
+        yield drawn_line(source, n, pairs)
 
 
 def main(words):
@@ -281,4 +304,5 @@ def main(words):
             sys.stdout.write(solved(int(n), int(seed), COLUMNS[kind], costs, pairs))
 
 
-main(sys.argv[1:])
+if __name__ == "__main__":
+    main(sys.argv[1:])

@@ -1,9 +1,9 @@
 #!/usr/bin/env python3
-"""Makes the files of crates/orderfile_trial, order files, sound and damaged, and what each one states, and the input of
-crates/inspect_trial, which is longer than what is read of it.
+"""Makes the files of crates/orderfile_trial, order files, sound and damaged, and what each one
+states, and the input of crates/inspect_trial, which is longer than what is read of it.
 
-Run in the repository's root. It is written from docs/order-files.md alone and shares nothing with the crates, so the
-comparison in the gate is one of two independent readers.
+Run in the repository's root. It is written from docs/order-files.md alone and shares nothing with
+the crates, so the comparison in the gate is one of two independent readers.
 """
 import random
 import struct
@@ -29,7 +29,8 @@ END = field(3, b"")
 
 
 def first_fault(data):
-    """The first fault of a file as (number, place, layer), or the order that it states as (n, pairs)."""
+    """The first fault of a file as (number, place, layer), or the order that it states as (n,
+    pairs)."""
     at, n, ended, pairs = 0, None, False, []
     while True:
         if ended:
@@ -96,7 +97,8 @@ def damaged():
     for n in (1, 3, 64):
         for left, right in ((n - 1, n - 1), (n, 0), (0, n), (n, n), (255, 0), (0, 255)):
             yield size(n) + pair(left, right, 1) + END
-    for cost in (0, 1, -1, LIMIT, -LIMIT, LIMIT + 1, -LIMIT - 1, 2 ** 63 - 1, -2 ** 63, 2 ** 32, -2 ** 32):
+    within = (0, 1, -1, LIMIT, -LIMIT)
+    for cost in within + (LIMIT + 1, -LIMIT - 1, 2 ** 63 - 1, -2 ** 63, 2 ** 32, -2 ** 32):
         yield size(2) + pair(1, 0, cost) + END
     # several faults in one field: the first in the order of the checks counts
     yield size(3) + field(9, b"\0" * 5)[:6]
@@ -115,15 +117,19 @@ def random_files(count):
         data = size(n)
         for _ in range(source.randrange(12)):
             wide = source.random() < 0.1
-            data += pair(source.randrange(n + wide), source.randrange(n), source.choice((0, 7, -LIMIT, LIMIT, source.randrange(-LIMIT, LIMIT + 1 + wide))))
+            left, right = source.randrange(n + wide), source.randrange(n)
+            costs = (0, 7, -LIMIT, LIMIT, source.randrange(-LIMIT, LIMIT + 1 + wide))
+            data += pair(left, right, source.choice(costs))
         data += END
         if source.random() < 0.5:
             data = bytearray(data)
             for _ in range(source.randrange(1, 4)):
-                data[source.randrange(len(data))] = source.choice((0, 1, 2, 3, 10, 255, source.randrange(256)))
+                byte = source.choice((0, 1, 2, 3, 10, 255, source.randrange(256)))
+                data[source.randrange(len(data))] = byte
             data = bytes(data)[:source.choice((len(data), source.randrange(len(data) + 1)))]
         yield data
-    full = size(64) + b"".join(pair(l, r, (l * 64 + r) * 1000 - 5) for l in range(64) for r in range(64)) + END
+    every = (pair(k // 64, k % 64, k * 1000 - 5) for k in range(64 * 64))
+    full = size(64) + b"".join(every) + END
     yield full
     yield full[:-1]
 
