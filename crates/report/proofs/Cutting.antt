@@ -19,7 +19,8 @@ cut_bytes {R = R} remaining reader most cut file limit inner gives =
     let P : ℕ → Type 0 = λ m. IfSome (remaining reader) (λ bytes. file ≡ take m bytes) in
     let Q : R → Type 0 = λ r. IfSome (remaining r)
     (λ bytes. file ≡ take (take_limit cut) bytes) in
-    subst P limit (subst Q inner (first_bytes (remaining (take_inner cut)) (take_limit cut) file gives))
+    subst P limit (subst Q inner
+    (first_bytes (remaining (take_inner cut)) (take_limit cut) file gives))
 
 -- what is told of a file is told of the bytes that it has
 pub told_of_input : (known : Option (List ℕ)) (file : List ℕ) (cut : List ℕ → List ℕ)
