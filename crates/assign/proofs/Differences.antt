@@ -3,6 +3,7 @@
 -- it weighs and are within what it is within; and each value that was read has the columns of its
 -- place.
 use Rattle.std.proofs.Common.{◌≡◌, ℕ, ◌<◌, List, length, set, ℤ, ◌-ℤ◌, sym, ap, ◌∙◌, subst, ap₂}
+use Rattle.cost.specs.declared.Cost.{Ghosts}
 use Rattle.cost.specs.Columns.{Within}
 use Rattle.cost.specs.Weights.{weight}
 use Rattle.tables.specs.Said.{columns_at}
@@ -13,13 +14,13 @@ pub difference_weighs : (x : ℤ) (p p' q q' : List ℤ) → x ≡ weight p -ℤ
     → x ≡ weight p' -ℤ weight q'
 difference_weighs x p p' q q' e f g = e ∙ ap₂ (λ (y z : List ℤ). weight y -ℤ weight z) f g
 
-module _ {K : Type 0} (meaning : K → List ℤ) (xs : List K) (i : ℕ) (y : K)
+module _ {K : Type 0} (kind : Ghosts K) (xs : List K) (i : ℕ) (y : K)
     (inside : i < length xs) where
-  pub put_weighs : (p p' q q' : List ℤ) → weight (meaning y) ≡ weight p -ℤ weight q → p ≡ p'
-      → q ≡ q' → weight (columns_at meaning (set xs i y) i) ≡ weight p' -ℤ weight q'
-  put_weighs p p' q q' e f g = ap weight (put_same meaning xs i y inside)
-      ∙ difference_weighs (weight (meaning y)) p p' q q' e f g
+  pub put_weighs : (p p' q q' : List ℤ) → weight (kind.meaning y) ≡ weight p -ℤ weight q → p ≡ p'
+      → q ≡ q' → weight (columns_at kind (set xs i y) i) ≡ weight p' -ℤ weight q'
+  put_weighs p p' q q' e f g = ap weight (put_same kind xs i y inside)
+      ∙ difference_weighs (weight (kind.meaning y)) p p' q q' e f g
 
-  pub put_within : (limit : ℕ) → Within limit (meaning y)
-      → Within limit (columns_at meaning (set xs i y) i)
-  put_within limit w = subst (Within limit) (sym (put_same meaning xs i y inside)) w
+  pub put_within : (limit : ℕ) → Within limit (kind.meaning y)
+      → Within limit (columns_at kind (set xs i y) i)
+  put_within limit w = subst (Within limit) (sym (put_same kind xs i y inside)) w

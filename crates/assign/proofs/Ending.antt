@@ -83,7 +83,7 @@ module _ (g : Grid) (s : Sane g) (stands : ℕ → ℕ → Bool) (alike : Alike 
 
     zero_value : Value g.columns (zeros g.columns)
     zero_value =
-        record { sized = zeros_sized g.columns; railed = zeros_within RAIL g.columns }
+        record { sized = zeros_sized g.columns; on_rail = zeros_within RAIL g.columns }
 
     attained : (r : ℕ) → r < g.size → Attained g left right p stage r
     attained r h = ⊎_elim

@@ -3,7 +3,7 @@
 -- Idea: under the greatest prices the perfect pairings of tight pairs are the optimum pairings, and
 -- there is only one list of these in dictionary order. Valid prices that lie near make tables hold
 -- together, whichever optimum pairing they go with.
-use Rattle.std.proofs.Common.{◌≡◌, ℕ, true, ◌↔◌, List, [], ◌∷◌, length, sym, ◌∙◌, subst, inl, arith}
+use Rattle.std.proofs.Common.{◌≡◌, ℕ, true, ◌↔◌, List, length, ◌∙◌, subst}
 use Rattle.blockset.specs.declared.BlockSet.{BlockSet}
 use Rattle.cost.specs.declared.Cost.{Ghosts}
 use Rattle.pairing.specs.Grid.{Sane, Optimum}
@@ -42,7 +42,7 @@ usable_still kind n costs standing p p' l l' r r' u ep el er = record {
 module _ {K : Type 0} (kind : Ghosts K) (wide : (x : K) → length (kind.meaning x) ≡ kind.columns)
     (t : Lent K) (usable : IsUsable kind t) where
   sane : Sane (grid kind t)
-  sane = sane_in_order kind.meaning kind.columns wide t.size t.costs t.standing usable.few
+  sane = sane_in_order kind wide t.size t.costs t.standing usable.few
       usable.lengths.room.costs_long usable.in_order
 
   pub together : Settled kind t → Together kind t

@@ -3,8 +3,7 @@
 -- step from a taken right block along its left block never leads to a lesser one; that is what it
 -- means that the prices go with the pairing. So what is taken keeps its distance for good.
 use Rattle.std.proofs.Common.{◌≡◌, ℕ, ◌+◌, ◌<◌, ◌≤◌, Bool, true, false, ◌⊎◌, ℤ, ◌+ℤ◌, ◌≤ℤ◌, sym, ap}
-use Rattle.std.proofs.Common.{List, IfSome}
-use Rattle.std.proofs.Common.{◌∙◌, subst, inl, inr, ⊎_elim, arith}
+use Rattle.std.proofs.Common.{List, IfSome, ◌∙◌, subst, inl, inr, ⊎_elim, arith}
 use Rattle.std.proofs.lemmas.Int.{ints}
 use Rattle.std.proofs.lemmas.Bool.{cases_eq, cases_lt}
 use Rattle.blockset.specs.Has.{has}

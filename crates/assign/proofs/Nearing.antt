@@ -4,8 +4,7 @@
 use Rattle.std.proofs.Common.{◌≡◌, ℕ, Bool, true, false, not, ◌&&◌, eqb, ℤ, ◌+ℤ◌, ◌-ℤ◌, ◌≤ℤ◌, ◌<ℤ◌}
 use Rattle.std.proofs.Common.{ap, ⊎_elim, arith}
 use Rattle.std.proofs.lemmas.Int.{ints}
-use Rattle.std.proofs.lemmas.Bool.{cases_eq, both_ways}
-use Rattle.assign.specs.Offers.{Nearest}
+use Rattle.std.proofs.lemmas.Bool.{cases_eq}
 use Rattle.blockset.proofs.Removing.{still_in, gone}
 
 module _ (set : ℕ → Bool) (v d : ℕ → ℤ) where
@@ -15,16 +14,6 @@ module _ (set : ℕ → Bool) (v d : ℕ → ℤ) where
     pub member : set best ≡ true
     pub is : key ≡ d best -ℤ v best
     pub least : (c : ℕ) → set c ≡ true → rest c ≡ false → (d best +ℤ v c) ≤ℤ (d c +ℤ v best)
-
-  pub nearing_none : (best : ℕ) (key : ℤ) → set best ≡ true → key ≡ d best -ℤ v best
-      → Nearing set best key
-  nearing_none best key member is = record {
-    part = λ c t. t;
-    member = member;
-    is = is;
-    least =
-        λ c s f. absurd (both_ways (set c) f s);
-  }
 
   module _ (rest rest' : ℕ → Bool) (c : ℕ) (removed : (j : ℕ) → rest' j ≡ (rest j && not (eqb j c)))
       (in_rest : rest c ≡ true) (best : ℕ) (key : ℤ) (h : Nearing rest best key) where
@@ -52,8 +41,3 @@ module _ (set : ℕ → Bool) (v d : ℕ → ℤ) where
           (arith, ints, h.is, h.least j s (gone rest rest' c removed j f ne)))
           (cases_eq j c);
     }
-
-  pub nearing_done : (rest : ℕ → Bool) (best : ℕ) (key : ℤ) → Nearing rest best key
-      → ((c : ℕ) → rest c ≡ false) → Nearest set v d best
-  nearing_done rest best key h none =
-      record { member = h.member; least = λ c s. h.least c s (none c) }

@@ -2,7 +2,7 @@
 -- Idea: the right blocks that are still to be offered are as they were, and with all others the
 -- offer is done; each turn moves one from the first to the second.
 use Rattle.std.proofs.Common.{◌≡◌, ℕ, ◌+◌, ◌≤◌, Bool, true, false, not, ◌&&◌, eqb, List, ℤ, ◌+ℤ◌}
-use Rattle.std.proofs.Common.{◌≤ℤ◌, sym, refl, ap, ◌∙◌, subst, inl, inr, ⊎_elim, arith}
+use Rattle.std.proofs.Common.{◌≤ℤ◌, sym, ap, ◌∙◌, subst, inl, inr, ⊎_elim, arith}
 use Rattle.std.proofs.lemmas.Int.{ints}
 use Rattle.std.proofs.lemmas.Bool.{cases_eq, both_ways}
 use Rattle.cost.specs.declared.TheConstants.{COST_LIMIT}
@@ -26,19 +26,6 @@ module _ (shift : List ℤ) (cost : ℕ → List ℤ) (from : ℕ) (to reached :
     pub done : (c : ℕ) → rest c ≡ false → Offered (weight shift) (λ c. weight (cost c)) from to
         reached (λ c. weight (d c)) via (λ c. weight (d' c)) via' c
     pub near : (c : ℕ) → rest c ≡ false → Near d' c
-
-  pub offering_none : Offering to d via
-  offering_none = record {
-    part = λ c t. t;
-    waits = λ c t. (refl, refl);
-    done = λ c f. record {
-      others = λ _. (refl, refl);
-      change = λ t. absurd (both_ways (to c) f t);
-      most = λ t. absurd (both_ways (to c) f t);
-      less = λ t. absurd (both_ways (to c) f t);
-    };
-    near = λ c f b s le old _. old f;
-  }
 
   module _ (rest rest' : ℕ → Bool) (c : ℕ) (removed : (j : ℕ) → rest' j ≡ (rest j && not (eqb j c)))
       (member : rest c ≡ true) (d' : ℕ → List ℤ) (via' : ℕ → ℕ) (h : Offering rest d' via') where

@@ -22,14 +22,14 @@ use Rattle.assign.specs.Pairs.{CheapestOf}
 module _ {K : Type 0} (kind : Ghosts K) (nought : K) (columns : ℕ)
     (nothing : kind.meaning nought ≡ zeros columns) (k : ℕ) (table : List K)
     (cleared : table ≡ replicate k nought) where
-  zero-at : (c : ℕ) → c < k → columns_at kind.meaning table c ≡ zeros columns
+  zero-at : (c : ℕ) → c < k → columns_at kind table c ≡ zeros columns
   zero-at c h =
-      ap (λ t. columns_at kind.meaning t c) cleared
+      ap (λ t. columns_at kind t c) cleared
       ∙ get_or-map kind.meaning (replicate k nought) c nought []
       (subst (λ (z : ℕ). c < z) (sym (length-replicate k nought)) h)
       ∙ ap kind.meaning (get_or-replicate k c nought nought h) ∙ nothing
 
-  pub cleared_within : (b c : ℕ) → c < k → Within b (columns_at kind.meaning table c)
+  pub cleared_within : (b c : ℕ) → c < k → Within b (columns_at kind table c)
   cleared_within b c h = subst (Within b) (sym (zero-at c h)) (zeros_within b columns)
 
   pub cleared_weighs : (c : ℕ) → c < k → weight_at kind table c ≡ pos 0

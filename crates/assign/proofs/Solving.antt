@@ -28,26 +28,26 @@ use Rattle.assign.proofs.Ending.{perfect_of, greatest}
 
 module _ {K : Type 0} (kind : Ghosts K)
     (sized : (x : K) → length (kind.meaning x) ≡ kind.columns) where
-  near_value : (n : ℕ) (table : List K) → length table ≡ n → Bounded kind.meaning 1000000000000 n
-      table → (k : ℕ) → k < n → Value kind.columns (columns_at kind.meaning table k)
+  near_value : (n : ℕ) (table : List K) → length table ≡ n → Bounded kind 1000000000000 n
+      table → (k : ℕ) → k < n → Value kind.columns (columns_at kind table k)
   near_value n table long near k h =
       record {
-        sized = columns_sized kind.meaning kind.columns sized table k (omega arith);
-        railed =
-            within_more 1000000000000 1000000000000000 (columns_at kind.meaning table k)
+        sized = columns_sized kind sized table k (omega arith);
+        on_rail =
+            within_more 1000000000000 1000000000000000 (columns_at kind table k)
             (omega arith)
             (near k h);
       }
 
   pub solved : (rows : List BlockSet) (costs : List K) (standing partners : List ℕ)
-      (left right : List K) → Sane (grid_of kind.columns kind.meaning (length rows) costs standing)
+      (left right : List K) → Sane (grid_of kind (length rows) costs standing)
       → StandingRows (length rows) (λ l r. says_stands (byte_of (length rows) standing l r)) rows
       → length partners ≡ length rows → length left ≡ length rows → length right ≡ length rows
       → Solution kind rows costs partners left right
       → Solved kind (lent (length rows) costs standing partners left right)
   solved rows costs standing partners left right sane made paired lefts rights s =
       let n = length rows in
-      let g = grid_of kind.columns kind.meaning (length rows) costs standing in
+      let g = grid_of kind (length rows) costs standing in
       let alike = rows_alike (length rows) (λ l r. says_stands (byte_of (length rows) standing l r))
       rows made in
       let perfect = perfect_of (length rows) (holds rows)
@@ -55,13 +55,13 @@ module _ {K : Type 0} (kind : Ghosts K)
       (λ _. false) s.kept (λ l h. refl) in
       let top = greatest g sane (holds rows) alike partners s.holders s.price (λ _. false) s.kept
       (λ l h. refl) perfect (weight_at kind right) s.topmost.stage s.topmost.via
-      s.topmost.turns s.topmost.grown s.topmost.done (columns_at kind.meaning left)
-      (columns_at kind.meaning right) (near_value n left lefts s.left_near)
+      s.topmost.turns s.topmost.grown s.topmost.done (columns_at kind left)
+      (columns_at kind right) (near_value n left lefts s.left_near)
       (near_value n right rights s.right_near)
       (λ r h. refl) s.topmost.tight in
       record {
         optimum =
-            (proves_optimum g (columns_at kind.meaning left) (columns_at kind.meaning right)
+            (proves_optimum g (columns_at kind left) (columns_at kind right)
             partners
             sane (perfect_like n (holds rows) g.stands alike partners perfect) top.valid).0;
         prices = record {
@@ -74,7 +74,7 @@ module _ {K : Type 0} (kind : Ghosts K)
 -- rows of the standing pairs of tables that are in order are what a search is lent
 pub lent_of : {K : Type 0} (kind : Ghosts K) (n : ℕ) (costs : List K) (standing : List ℕ)
     (rows : List BlockSet) → length rows ≡ n → n ≤ 64 → length costs ≡ n * n
-    → IsInOrder kind.meaning (n * n) costs standing
+    → IsInOrder kind (n * n) costs standing
     → StandingRows (length rows) (λ l r. says_stands (byte_of (length rows) standing l r)) rows
     → Lent kind rows costs
 lent_of kind n costs standing rows long few square ordered made = record {
@@ -111,7 +111,7 @@ unpaired_of n standing rows long made crowd short u =
 pub solved_of : {K : Type 0} (kind : Ghosts K) → ((x : K) → length (kind.meaning x) ≡ kind.columns)
     → (n : ℕ) (costs : List K) (standing : List ℕ) (rows : List BlockSet) (partners : List ℕ)
     (left right : List K)
-    → length rows ≡ n → n ≤ 64 → length costs ≡ n * n → IsInOrder kind.meaning (n * n) costs
+    → length rows ≡ n → n ≤ 64 → length costs ≡ n * n → IsInOrder kind (n * n) costs
     standing
     → StandingRows (length rows) (λ l r. says_stands (byte_of (length rows) standing l r)) rows
     → length partners ≡ n → length left ≡ n → length right ≡ n
@@ -119,8 +119,8 @@ pub solved_of : {K : Type 0} (kind : Ghosts K) → ((x : K) → length (kind.mea
     → Solved kind (lent n costs standing partners left right)
 solved_of kind sized n costs standing rows partners left right long few square ordered made paired
     lefts rights s =
-    let sane = sane_in_order kind.meaning kind.columns sized n costs standing few square ordered in
+    let sane = sane_in_order kind sized n costs standing few square ordered in
     subst (λ k. Solved kind (lent k costs standing partners left right)) long
     (solved kind sized rows costs standing partners left right
-    (subst (λ k. Sane (grid_of kind.columns kind.meaning k costs standing)) (sym long) sane) made
+    (subst (λ k. Sane (grid_of kind k costs standing)) (sym long) sane) made
     (paired ∙ sym long) (lefts ∙ sym long) (rights ∙ sym long) s)

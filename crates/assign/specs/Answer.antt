@@ -17,8 +17,8 @@ module _ {K : Type 0} (kind : Ghosts K) where
   -- the greatest valid prices with no right price above zero, all within 10^12
   pub record HasGreatestPrices (t : Lent K) : Type 0 where
     pub greatest : Greatest (grid kind t) (left_price kind t) (right_price kind t) t.partners
-    pub left_near : Bounded kind.meaning PRICE_LIMIT t.size t.left
-    pub right_near : Bounded kind.meaning PRICE_LIMIT t.size t.right
+    pub left_near : Bounded kind PRICE_LIMIT t.size t.left
+    pub right_near : Bounded kind PRICE_LIMIT t.size t.right
 
   -- an optimum pairing, and the greatest prices
   pub record Solved (t : Lent K) : Type 0 where

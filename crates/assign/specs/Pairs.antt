@@ -1,7 +1,6 @@
 -- The pairing as it grows: the pairs that cost least, and what is kept from one left block to the
 -- next.
-use Rattle.std.specs.Prelude.{◌≡◌, ℕ, ◌<◌, ◌≤◌, Bool, true, false, List, length, ℤ, ◌≤ℤ◌, ◌≢◌}
-use Rattle.std.specs.Prelude.{◌↔◌}
+use Rattle.std.specs.Prelude.{◌≡◌, ℕ, ◌<◌, ◌≤◌, Bool, true, false, List, length, ℤ, ◌≤ℤ◌, ◌≢◌, ◌↔◌}
 use Rattle.cost.specs.declared.Cost.{Ghosts}
 use Rattle.cost.specs.declared.TheConstants.{COST_LIMIT}
 use Rattle.cost.specs.Columns.{Within}
@@ -43,6 +42,6 @@ pub record PricedPairing {K : Type 0} (kind : Ghosts K) (rows : List BlockSet) (
     (out : ℕ → Bool) (partners : List ℕ) (holders : Holders) (right : List K) : Type 0 where
   pub kept : Kept (length rows) (holds rows) (cost_weight kind (length rows) costs) out partners
       holders (weight_at kind right)
-  pub priced : Bounded kind.meaning INNER_PRICE_LIMIT (length rows) right
+  pub priced : Bounded kind INNER_PRICE_LIMIT (length rows) right
   pub unsold : (c : ℕ) → c < length rows → has holders.held c ≡ false
-      → Within COST_LIMIT (columns_at kind.meaning right c)
+      → Within COST_LIMIT (columns_at kind right c)

@@ -31,5 +31,5 @@ pub record Solution {K : Type 0} (kind : Ghosts K) (rows : List BlockSet) (costs
   pub kept : Kept (length rows) (holds rows) (cost_weight kind (length rows) costs) (λ _. false)
       partners holders price
   pub topmost : Topmost kind rows costs partners holders price left right
-  pub left_near : Bounded kind.meaning PRICE_LIMIT (length rows) left
-  pub right_near : Bounded kind.meaning PRICE_LIMIT (length rows) right
+  pub left_near : Bounded kind PRICE_LIMIT (length rows) left
+  pub right_near : Bounded kind PRICE_LIMIT (length rows) right

@@ -1,6 +1,7 @@
 -- What `grow` makes of a start, whatever pairing it is about.
 use Rattle.std.specs.Prelude.{ℕ, Bool, false, List, length, replicate}
 use Rattle.cost.specs.declared.Cost.{Ghosts}
+use Rattle.blockset.specs.declared.TheConstants.{SET_WIDTH}
 use Rattle.blockset.specs.declared.BlockSet.{BlockSet}
 use Rattle.blockset.specs.Has.{has}
 use Rattle.pairing.specs.Grid.{at}
@@ -16,7 +17,7 @@ stage_in tree = stage (has tree.taken.reached) (has tree.seen) tree.taken.rank
 
 -- before the first turn no right block is taken
 abbrev pub stage_at_first : (ℕ → Bool) → ℕ → ℕ
-stage_at_first seen = stage (λ _. false) seen (replicate 64 0)
+stage_at_first seen = stage (λ _. false) seen (replicate SET_WIDTH 0)
 
 -- The search has come from a start to its end, whatever pairing it is about that goes with the
 -- prices: `seen`, `via` and `dist` tell the right blocks that are reached at the start, from where

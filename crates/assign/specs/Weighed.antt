@@ -13,7 +13,7 @@ use Rattle.tables.specs.Said.{columns_at}
 
 -- what the value at a place of a table weighs
 abbrev pub weight_at : {K : Type 0} → Ghosts K → List K → ℕ → ℤ
-weight_at kind table k = weight (columns_at kind.meaning table k)
+weight_at kind table k = weight (columns_at kind table k)
 
 -- what the cost of a pair weighs
 abbrev pub cost_weight : {K : Type 0} → Ghosts K → ℕ → List K → ℕ → ℕ → ℤ
@@ -22,7 +22,7 @@ cost_weight kind n costs l r = weight_at kind costs (place_of n l r)
 -- the values of a table at the places of a set are within a limit in each column
 abbrev pub BoundedOn : {K : Type 0} → Ghosts K → ℕ → (ℕ → Bool) → List K → Type 0
 BoundedOn kind limit set table = (k : ℕ) → set k ≡ true
-    → Within limit (columns_at kind.meaning table k)
+    → Within limit (columns_at kind table k)
 
 -- Rows of the right blocks that stand, and a cost within COST_LIMIT in each column for each of
 -- their pairs: what every search is lent
@@ -32,4 +32,4 @@ pub record Lent {K : Type 0} (kind : Ghosts K) (rows : List BlockSet) (costs : L
   pub square : length costs ≡ places_of (length rows)
   pub inside : (l c : ℕ) → l < length rows → holds rows l c ≡ true → c < length rows
   pub modest : (l c : ℕ) → l < length rows → holds rows l c ≡ true
-      → Within COST_LIMIT (columns_at kind.meaning costs (place_of (length rows) l c))
+      → Within COST_LIMIT (columns_at kind costs (place_of (length rows) l c))

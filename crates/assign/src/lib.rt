@@ -26,7 +26,7 @@ mod settling;
 mod sums;
 mod tree;
 
-use blockset::BlockSet;
+use blockset::{BlockSet, SET_WIDTH};
 use cost::Cost;
 pub use matching::Shortfall;
 use matching::{Found, pair_most};
@@ -86,7 +86,7 @@ fn find_shortfall(rows: &[BlockSet]) -> Option<Shortfall>
         (λ s. Unpaired (length rows.now) (holds rows.now) s.crowd s.short) }
 {
     let n = rows.len();
-    let mut any = [0u16; 64];
+    let mut any = [0u16; SET_WIDTH];
     match pair_most(rows, &mut any[0..n]) {
         Found::Perfect => None,
         Found::Short { out: _, shortfall } => Some(shortfall),

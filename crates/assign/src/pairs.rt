@@ -12,7 +12,7 @@ ghost use Rattle.assign.specs.Pairs.{Chosen, PricedPairing};
 use crate::prices::lower;
 use crate::search::grow_from;
 use crate::tree::{Cheapest, FirstPairs};
-use blockset::BlockSet;
+use blockset::{BlockSet, SET_WIDTH};
 use cost::Cost;
 use matching::{Holders, exchange};
 
@@ -27,7 +27,7 @@ pub fn pair_cheapest(n: usize, cheapest: &Cheapest, partners: &mut [u16]) -> Fir
 {
     let mut out = BlockSet::all(n);
     let mut held = BlockSet::empty();
-    let mut row = [0u8; 64];
+    let mut row = [0u8; SET_WIDTH];
     for c in cheapest.priced {
         let l = cheapest.row[c] as usize;
         if out.contains(l) {

@@ -17,7 +17,7 @@ ghost use Rattle.assign.specs.Prices.{Topmost};
 use crate::search::{grow, offer};
 use crate::sums::exact_difference;
 use crate::tree::Cheapest;
-use blockset::BlockSet;
+use blockset::{BlockSet, SET_WIDTH};
 use cost::Cost;
 use matching::Holders;
 use tables::fill;
@@ -36,12 +36,12 @@ pub fn price_cheapest<K: Cost>(costs: &[K], rows: &[BlockSet], right: &mut [K]) 
     ensures cheapest { CheapestOf (length rows.now) (length rows.now) (holds rows.now)
         (cost_weight K.Cost (length rows.now) costs.now) (has result.priced) (at result.row)
         (weight_at K.Cost right.new) }
-    ensures bound { Bounded K.meaning COST_LIMIT (length rows.now) right.new }
+    ensures bound { Bounded K.Cost COST_LIMIT (length rows.now) right.new }
 {
     clear(right);
     let n = rows.len();
     let mut priced = BlockSet::empty();
-    let mut row = [0u8; 64];
+    let mut row = [0u8; SET_WIDTH];
     for l in 0..n {
         let to = rows[l];
         offer(
@@ -65,14 +65,14 @@ pub fn lower<K: Cost>(goal: usize, taken: BlockSet, dist: &[K], right: &mut [K])
     requires inside { (c : ℕ) → has taken c ≡ true → c < length dist.now }
     requires goal { has taken goal ≡ true }
     requires far { BoundedOn K.Cost DISTANCE_LIMIT (has taken) dist.now }
-    requires unsold { Within COST_LIMIT (columns_at K.meaning right.old goal) }
-    requires priced { Bounded K.meaning INNER_PRICE_LIMIT (length dist.now) right.old }
+    requires unsold { Within COST_LIMIT (columns_at K.Cost right.old goal) }
+    requires priced { Bounded K.Cost INNER_PRICE_LIMIT (length dist.now) right.old }
     ensures fallen { (c : ℕ) → has taken c ≡ true
         → weight_at K.Cost right.new c +ℤ weight_at K.Cost dist.now goal
         ≡ weight_at K.Cost dist.now c +ℤ weight_at K.Cost right.old goal }
     ensures same { (c : ℕ) → has taken c ≡ false
-        → columns_at K.meaning right.new c ≡ columns_at K.meaning right.old c }
-    ensures bound { Bounded K.meaning INNER_PRICE_LIMIT (length dist.now) right.new }
+        → columns_at K.Cost right.new c ≡ columns_at K.Cost right.old c }
+    ensures bound { Bounded K.Cost INNER_PRICE_LIMIT (length dist.now) right.new }
 {
     let far = exact_difference(dist[goal], right[goal]);
     for c in taken {
@@ -93,11 +93,11 @@ fn price_rows<K: Cost>(
     requires lefts { length left.old ≡ length rows.now }
     requires rights { length right.now ≡ length rows.now }
     requires pairs { (l : ℕ) → l < length rows.now → holds rows.now l (at partners.now l) ≡ true }
-    requires far { Bounded K.meaning DISTANCE_LIMIT (length rows.now) right.now }
+    requires far { Bounded K.Cost DISTANCE_LIMIT (length rows.now) right.now }
     ensures tight { (l : ℕ) → l < length rows.now → weight_at K.Cost left.new l
         +ℤ weight_at K.Cost right.now (at partners.now l) ≡ cost_weight K.Cost
         (length rows.now) costs.now l (at partners.now l) }
-    ensures bound { Bounded K.meaning LEFT_PRICE_LIMIT (length rows.now) left.new }
+    ensures bound { Bounded K.Cost LEFT_PRICE_LIMIT (length rows.now) left.new }
 {
     let n = rows.len();
     for l in 0..n {
@@ -124,8 +124,8 @@ pub fn price_greatest<K: Cost>(
         holders.now right.old }
     ensures topmost { Topmost K.Cost rows.now costs.now partners.now holders.now
         (weight_at K.Cost right.old) left.new right.new }
-    ensures lefts { Bounded K.meaning PRICE_LIMIT (length rows.now) left.new }
-    ensures rights { Bounded K.meaning PRICE_LIMIT (length rows.now) right.new }
+    ensures lefts { Bounded K.Cost PRICE_LIMIT (length rows.now) left.new }
+    ensures rights { Bounded K.Cost PRICE_LIMIT (length rows.now) right.new }
 {
     let n = rows.len();
     clear(left);
@@ -135,7 +135,7 @@ pub fn price_greatest<K: Cost>(
         holders,
         right,
         BlockSet::all(n),
-        [0u8; 64],
+        [0u8; SET_WIDTH],
         left,
     );
     right.copy_from_slice(left);

@@ -21,7 +21,7 @@ ghost use Rattle.assign.specs.Trees.{Grows, GrowsFrom};
 
 use crate::sums::{exact_difference, exact_sum, is_less};
 use crate::tree::Tree;
-use blockset::BlockSet;
+use blockset::{BlockSet, SET_WIDTH};
 use cost::Cost;
 use matching::{Holders, Reach};
 
@@ -34,7 +34,7 @@ pub fn offer<K: Cost>(
     from: usize,
     to: BlockSet,
     reached: BlockSet,
-    via: &mut [u8; 64],
+    via: &mut [u8; SET_WIDTH],
     dist: &mut [K],
 )
     requires few { length costs.now ≤ MOST_BLOCKS }
@@ -47,9 +47,9 @@ pub fn offer<K: Cost>(
         from (has to) (has reached) (weight_at K.Cost dist.old) (at via.old)
         (weight_at K.Cost dist.new) (at via.new) c }
     ensures bound { (b c : ℕ) → Within b (K.meaning shift) → b ≤ SHIFT_LIMIT
-        → (has to c ≡ false → Within (b + COST_LIMIT) (columns_at K.meaning dist.old c))
-        → (has reached c ≡ true → Within (b + COST_LIMIT) (columns_at K.meaning dist.old c))
-        → Within (b + COST_LIMIT) (columns_at K.meaning dist.new c) }
+        → (has to c ≡ false → Within (b + COST_LIMIT) (columns_at K.Cost dist.old c))
+        → (has reached c ≡ true → Within (b + COST_LIMIT) (columns_at K.Cost dist.old c))
+        → Within (b + COST_LIMIT) (columns_at K.Cost dist.new c) }
 {
     for c in to {
         let way = exact_sum(shift, costs[c]);
@@ -65,7 +65,7 @@ pub fn nearest<K: Cost>(set: BlockSet, dist: &[K], right: &[K]) -> Option<usize>
     requires sized { length right.now ≡ length dist.now }
     requires inside { (c : ℕ) → has set c ≡ true → c < length dist.now }
     requires far { BoundedOn K.Cost DISTANCE_LIMIT (has set) dist.now }
-    requires priced { Bounded K.meaning INNER_PRICE_LIMIT (length dist.now) right.now }
+    requires priced { Bounded K.Cost INNER_PRICE_LIMIT (length dist.now) right.now }
     ensures { MatchOption result ((c : ℕ) → has set c ≡ false)
         (λ a. (a < length dist.now) × Nearest (has set) (weight_at K.Cost right.now)
         (weight_at K.Cost dist.now) a) }
@@ -90,7 +90,7 @@ pub fn grow<K: Cost>(
     holders: &Holders,
     right: &[K],
     start: BlockSet,
-    via: [u8; 64],
+    via: [u8; SET_WIDTH],
     dist: &mut [K],
 ) -> Tree
     requires lent { Lent K.Cost rows.now costs.now }
@@ -102,7 +102,7 @@ pub fn grow<K: Cost>(
     requires own { (c : ℕ) → has holders.now.held c ≡ true
         → holds rows.now (at holders.now.row c) c ≡ true }
     requires near { BoundedOn K.Cost COST_LIMIT (has start) dist.old }
-    requires priced { Bounded K.meaning INNER_PRICE_LIMIT (length rows.now) right.now }
+    requires priced { Bounded K.Cost INNER_PRICE_LIMIT (length rows.now) right.now }
     ensures grown { Grows K.Cost rows.now costs.now holders.now right.now (has start) via dist.old
         dist.new result }
     ensures inside { (c : ℕ) → has result.taken.reached c ≡ true → c < length rows.now }
@@ -113,7 +113,7 @@ pub fn grow<K: Cost>(
     let mut taken = Reach {
         reached: BlockSet::empty(),
         from: via,
-        rank: [0u8; 64],
+        rank: [0u8; SET_WIDTH],
         goal: None,
     };
     for t in 0..n {
@@ -154,7 +154,7 @@ pub fn grow_from<K: Cost>(
         → at holders.now.row c < length rows.now }
     requires own { (c : ℕ) → has holders.now.held c ≡ true
         → holds rows.now (at holders.now.row c) c ≡ true }
-    requires priced { Bounded K.meaning INNER_PRICE_LIMIT (length rows.now) right.now }
+    requires priced { Bounded K.Cost INNER_PRICE_LIMIT (length rows.now) right.now }
     ensures grown { GrowsFrom K.Cost rows.now costs.now holders.now right.now k dist.new result }
     ensures inside { (c : ℕ) → has result.taken.reached c ≡ true → c < length rows.now }
     ensures bound { BoundedOn K.Cost DISTANCE_LIMIT (has result.taken.reached) dist.new }
@@ -162,7 +162,7 @@ pub fn grow_from<K: Cost>(
     let n = rows.len();
     let to = rows[k];
     let row = &costs[k * n..k * n + n];
-    let mut via = [0u8; 64];
+    let mut via = [0u8; SET_WIDTH];
     offer(row, K::zero(), k, to, BlockSet::empty(), &mut via, dist);
     grow(costs, rows, holders, right, to, via, dist)
 }

@@ -1,6 +1,6 @@
 //! What the steps of the assignment hand to one another.
 
-use blockset::BlockSet;
+use blockset::{BlockSet, SET_WIDTH};
 use matching::{Holders, Reach};
 
 /// How far a search has come.
@@ -18,7 +18,7 @@ pub struct Tree {
 #[derive(Drop)]
 pub struct Cheapest {
     pub priced: BlockSet,
-    pub row: [u8; 64],
+    pub row: [u8; SET_WIDTH],
 }
 
 /// What the pairs that cost least leave to do: the left blocks that are still `out`, and the

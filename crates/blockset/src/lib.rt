@@ -5,14 +5,18 @@ ghost use Rattle.std.specs.Prelude.{◌≡◌, ℕ, ◌<◌, true, false, not, �
 ghost use Rattle.std.specs.Prelude.{MatchOption, ◌==◌, nat_lt};
 ghost use Rattle.blockset.specs.Sets.{members, bit};
 ghost use Rattle.std.specs.Iterator.{at_most};
-ghost use Rattle.blockset.specs.declared.TheConstants.{MOST_BLOCKS};
+ghost use Rattle.blockset.specs.declared.TheConstants.{SET_WIDTH};
 ghost use Rattle.blockset.specs.Has.{has, IsEmpty, IsLeast};
 ghost use Rattle.blockset.specs.Taking.{TakesLeast};
 
 use std::marker::Model;
 
-/// The largest number of blocks of a plane, and how many a set can hold.
-pub const MOST_BLOCKS: u16 = 64;
+/// How many block numbers a set has room for: those from 0 on below it. So long is a list with a
+/// place for each of them.
+pub const SET_WIDTH: usize = 64;
+
+/// The largest number of blocks of a plane: as many as a set has room for.
+pub const MOST_BLOCKS: u16 = SET_WIDTH as u16;
 
 /// A set of the block numbers 0 to 63. A number of 64 or more is no block: it is in no set, and
 /// inserting it changes nothing.
@@ -30,9 +34,9 @@ impl BlockSet {
 
     /// The set of one block, or of none where the number is 64 or more.
     pub fn of(block: usize) -> Self
-        ensures { (j : ℕ) → has result j ≡ (nat_lt j MOST_BLOCKS && j == block) }
+        ensures { (j : ℕ) → has result j ≡ (nat_lt j SET_WIDTH && j == block) }
     {
-        if block < 64 {
+        if block < SET_WIDTH {
             BlockSet(1 << block)
         } else {
             BlockSet::empty()
@@ -41,9 +45,9 @@ impl BlockSet {
 
     /// The blocks below `n`: all 64 where `n` is more.
     pub fn all(n: usize) -> Self
-        ensures { (j : ℕ) → has result j ≡ (nat_lt j MOST_BLOCKS && nat_lt j n) }
+        ensures { (j : ℕ) → has result j ≡ (nat_lt j SET_WIDTH && nat_lt j n) }
     {
-        if n < 64 {
+        if n < SET_WIDTH {
             BlockSet((1 << n) - 1)
         } else {
             BlockSet(u64::MAX)
@@ -68,7 +72,7 @@ impl BlockSet {
     pub fn contains(self, block: usize) -> bool
         ensures { result ≡ has self block }
     {
-        block < 64 && (self.0 >> block) & 1 == 1
+        block < SET_WIDTH && (self.0 >> block) & 1 == 1
     }
 
     pub fn is_empty(self) -> bool
@@ -79,7 +83,7 @@ impl BlockSet {
 
     /// How many blocks the set has.
     pub fn len(self) -> usize
-        ensures { result ≡ members MOST_BLOCKS (has self) }
+        ensures { result ≡ members SET_WIDTH (has self) }
     {
         self.0.count_ones() as usize
     }
@@ -117,9 +121,9 @@ impl BlockSet {
     /// Puts a block into the set; a number of 64 or more leaves the set as it is.
     pub fn insert(&mut self, block: usize)
         ensures { (j : ℕ)
-            → has self.new j ≡ ((nat_lt j MOST_BLOCKS && j == block) || has self.old j) }
+            → has self.new j ≡ ((nat_lt j SET_WIDTH && j == block) || has self.old j) }
     {
-        if block < 64 {
+        if block < SET_WIDTH {
             self.0 |= 1 << block;
         }
     }
@@ -128,7 +132,7 @@ impl BlockSet {
     pub fn remove(&mut self, block: usize)
         ensures { (j : ℕ) → has self.new j ≡ (has self.old j && not (j == block)) }
     {
-        if block < 64 {
+        if block < SET_WIDTH {
             self.0 &= !(1 << block);
         }
     }
@@ -165,7 +169,7 @@ impl Iterator for Blocks {
 
     ghost next_gives = { TakesLeast };
 
-    ghost remaining = { λ blocks. at_most (members MOST_BLOCKS (has blocks)) };
+    ghost remaining = { λ blocks. at_most (members SET_WIDTH (has blocks)) };
 
     fn next(&mut self) -> Option<usize> {
         let least = self.rest.least()?;

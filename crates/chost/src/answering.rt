@@ -4,7 +4,8 @@ ghost use Rattle.std.specs.Prelude.{◌≡◌, ◌≤◌, length};
 ghost use Rattle.blockset.specs.declared.TheConstants.{MOST_BLOCKS};
 ghost use Rattle.chost.specs.declared.answering.TheConstants.{MOST_PLACES};
 ghost use Rattle.pairing.specs.Places.{places_of};
-ghost use Rattle.tables.specs.Lent.{lent, grid_in};
+ghost use Rattle.tables.specs.Lent.{lent};
+ghost use Rattle.tables.specs.Said.{grid_of};
 ghost use Rattle.tables.specs.Together.{Together};
 ghost use Rattle.sheet.specs.Size.{size_of};
 ghost use Rattle.orderfile.specs.Format.{Order, States};
@@ -123,7 +124,7 @@ fn step_on<K: Cost>(
         (lent (size_of settled) costs.now standing.now partners.now left.now right.now) }
     requires list_long { length list.old ≡ size_of settled }
     requires room { size_of settled ≤ length out.old }
-    ensures { let g = grid_in K.Cost (size_of settled) costs.now standing.now in
+    ensures { let g = grid_of K.Cost (size_of settled) costs.now standing.now in
         StepsOn g out.old result out.new }
 {
     let walk = settled.start(costs, standing, partners, left, right, list)?;

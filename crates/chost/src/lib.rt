@@ -16,8 +16,8 @@ use answering::{Call, answer_number};
 /// Settles an order file and writes the first of its optimum pairings in dictionary order to the
 /// front of `out`: a byte for each left block, the number of its right block.
 ///
-/// Answers 0, or the number of the refusal: the file's first fault as `check` finds it (8, 9, 10, 1,
-/// 3 or 4), 11 where `out` has fewer bytes than there are left blocks, 6 where no pairing is
+/// Answers 0, or the number of the refusal: the file's first fault as `check` finds it (8, 9, 10,
+/// 1, 3 or 4), 11 where `out` has fewer bytes than there are left blocks, 6 where no pairing is
 /// perfect. On a refusal `out` is as it was; the bytes behind the pairing always are.
 #[unsafe(no_mangle)]
 pub extern "C" fn tulvasne_first(file: &[u8], out: &mut [u8]) -> u32

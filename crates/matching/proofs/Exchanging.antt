@@ -3,7 +3,7 @@
 -- take it: the state that the pairing crate calls a hole. A left block of `out` has rank 0, any
 -- other one more than the rank of its right block, so ranks fall along the chain and what comes
 -- later is still as it was. The holders tell of every right block but the free one.
-use Rattle.std.proofs.Common.{◌≡◌, ℕ, suc, ◌<◌, ◌≤◌, Bool, true, false, cond, ◌||◌, eqb, ◌⊎◌, List}
+use Rattle.std.proofs.Common.{◌≡◌, ℕ, suc, ◌<◌, ◌≤◌, Bool, true, false, cond, ◌||◌, ◌⊎◌, List}
 use Rattle.std.proofs.Common.{length, set, sym, refl, ap, ◌∙◌, subst, inl, inr, arith}
 use Rattle.std.proofs.lemmas.List.{get_or-set_same, get_or-set_other}
 use Rattle.std.proofs.lemmas.Bool.Decides.{nat_tests}
@@ -11,8 +11,7 @@ use Rattle.std.proofs.lemmas.Bool.{cases_eq, cases_Bool, or_left, or_right, both
 use Rattle.std.proofs.lemmas.Bool.{cond-false}
 use Rattle.pairing.specs.Grid.{at}
 use Rattle.pairing.proofs.Filling.{Hole, took, next}
-use Rattle.matching.specs.Exchange.{without, GivesDistinct, Holding, Ways, Exchanged}
-use Rattle.matching.proofs.Inserting.{new_in, old_in, old_from}
+use Rattle.matching.specs.Exchange.{without, Holding, Ways, Exchanged}
 
 -- a left block that is out of the set without another one is out of the set
 pub without_from : (out : ℕ → Bool) (l x : ℕ) → without out l x ≡ false → (x ≡ l → ⊥)
@@ -68,38 +67,6 @@ module _ (n : ℕ) (p : List ℕ) (out reached : ℕ → Bool) (from rank : List
           (or_right (out (at from c)) _ v.0, omega (arith, height_in (at from c) f, v.1))
     ]
 
-    pub exchange_start : GivesDistinct n p out → reached goal ≡ true
-        → ((l : ℕ) → l < n → out l ≡ false → at p l ≡ goal → ⊥) → Exchanging p goal
-    exchange_start part t free = record {
-      hole = record {
-        part = part;
-        inside = w.inside goal t;
-        free = free;
-        taker = w.taker goal t;
-        wants = refl;
-        member = (passes goal t).0;
-        under = (passes goal t).1;
-        ahead = λ x _ _. refl;
-      };
-      member = t;
-      came = λ l i. inl refl;
-    }
-
-    pub telling_start : GivesDistinct n p out → (row : List ℕ) (held held' : ℕ → Bool)
-        → Holding 0 n p out held row → ((c : ℕ) → held' c ≡ (eqb c goal || held c))
-        → Telling p row held' goal
-    telling_start part row held held' h is = record {
-      taken = new_in held held' goal is;
-      had = λ l i f. old_in held held' goal is (at p l) (h.all l (omega arith) i f);
-      whose = λ l i f.
-          let c = at p l in
-          let t = h.all l (omega arith) i f in
-          part.once (at row c) l (h.high c t) i (h.inside c t) f (h.owner c t);
-      owner = λ c t ne.
-          let was = old_from held held' goal is c t ne in
-          (h.high c was, h.inside c was, h.owner c was);
-    }
-
     module _ (q : List ℕ) (block : ℕ) (x : Exchanging q block) where
       at_l : at (set q (at from block) block) (at from block) ≡ block
       at_l = get_or-set_same q (at from block) block 0
@@ -133,9 +100,6 @@ module _ (n : ℕ) (p : List ℕ) (out reached : ℕ → Bool) (from rank : List
         onward : (reached (at p (at from block)) ≡ true)
             × (at rank (at p (at from block)) < at rank block)
         onward = w.back block x.member f
-
-        pub exchange_less : at rank (at q (at from block)) < at rank block
-        exchange_less = rw same onward.1
 
         pub exchange_more : Exchanging (set q (at from block) block) (at q (at from block))
         exchange_more =

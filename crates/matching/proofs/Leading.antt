@@ -10,7 +10,7 @@ use borrow.Rule.Slice.PartMut.{put_mid}
 use Rattle.std.proofs.lemmas.List.{get_or-set_same, get_or-set_other, places}
 use Rattle.std.proofs.lemmas.Bool.Decides.{Decides-at, same_from_decides}
 use Rattle.std.proofs.lemmas.Bool.{cases_eq, cases_Bool, both_ways, and_parts, and_from, cond-true}
-use Rattle.std.proofs.lemmas.Bool.{cond-false, lt-ltb, ltb-true}
+use Rattle.std.proofs.lemmas.Bool.{cond-false, lt-ltb}
 use Rattle.blockset.specs.declared.BlockSet.{BlockSet}
 use Rattle.blockset.specs.Has.{no_blocks, has}
 use Rattle.pairing.specs.Grid.{at}
@@ -41,15 +41,6 @@ module _ (rows : List BlockSet) (b : Bounds) (few : length rows ≤ 64)
         | inl t ↦ cond-true _ _ _ t ∙ wide.offer c ∙ in_both
         | inr f ↦ cond-false _ _ _ f ∙ wide.live c ∙ in_both
       ])
-
-  pub wide_inside : (l c : ℕ) → along rows b l c ≡ true → c < length rows
-  wide_inside l c a =
-      let e = (and_parts (holds rows l c) _ a).1 in
-      let in_both : (ltb c 64 && ltb c (length rows)) ≡ true = elim (cases_Bool (has b.roots l)) [
-        | inl t ↦ sym (wide.offer c) ∙ sym (cond-true _ _ _ t) ∙ e
-        | inr f ↦ sym (wide.live c) ∙ sym (cond-false _ _ _ f) ∙ e
-      ] in
-      ltb-true c (length rows) (and_parts (ltb c 64) (ltb c (length rows)) in_both).1
 
 -- a search without goals is complete
 pub vain : (along : ℕ → ℕ → Bool) (roots held goals : ℕ → Bool) (row : List ℕ) (reached : ℕ → Bool)

@@ -27,30 +27,6 @@ module _ (n : ℕ) (along : ℕ → ℕ → Bool) (roots held goals : ℕ → Bo
         → (reached c ≡ true) ⊎ (pending (at row d) ≡ true)
     pub no_goal : (c : ℕ) → reached c ≡ true → goals c ≡ false
 
-  pub search_start : (pending reached : ℕ → Bool) (from rank : List ℕ) → length from ≡ 64
-      → length rank ≡ 64 → ((l : ℕ) → roots l ≡ true → l < n)
-      → ((l : ℕ) → pending l ≡ roots l) → ((c : ℕ) → reached c ≡ false)
-      → Searching pending reached from rank
-  search_start pending reached from rank sf sr inside is none =
-      let nothing : (c : ℕ) → reached c ≡ true → ⊥ = λ c t. both_ways (reached c) (none c) t in
-      record {
-        ways = record {
-          high = λ c t. absurd (nothing c t);
-          small = λ c t. absurd (nothing c t);
-          by = λ c t. absurd (nothing c t);
-          back = λ c t. absurd (nothing c t);
-          ranked = λ c t. absurd (nothing c t);
-          once = λ c d t. absurd (nothing c t);
-        };
-        sized_from = sf;
-        sized_rank = sr;
-        inside = λ l t. inside l (sym (is l) ∙ t);
-        waiting = λ l t. inl (sym (is l) ∙ t);
-        rooted = λ l c t _. inr (is l ∙ t);
-        onward = λ d c t. absurd (nothing d t);
-        no_goal = λ c t. absurd (nothing c t);
-      }
-
   module _ (pending reached : ℕ → Bool) (from rank : List ℕ)
       (s : Searching pending reached from rank) where
     -- left block l leads to nothing new

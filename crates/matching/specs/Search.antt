@@ -1,7 +1,7 @@
 -- What a search along alternating chains finds: which right blocks it reaches, and from where.
 use Rattle.std.specs.Prelude.{◌≡◌, ℕ, ◌<◌, Bool, true, false, if◌then◌else◌, ◌&&◌, ◌⊎◌, List}
-use Rattle.std.specs.Prelude.{length}
-use Rattle.std.specs.Prelude.{Some, None, IsTrue, ◌↔◌, Option}
+use Rattle.std.specs.Prelude.{length, Some, None, IsTrue, ◌↔◌, Option}
+use Rattle.blockset.specs.declared.TheConstants.{SET_WIDTH}
 use Rattle.blockset.specs.declared.BlockSet.{BlockSet}
 use Rattle.blockset.specs.Has.{has}
 use Rattle.blockset.specs.Sets.{members}
@@ -28,7 +28,7 @@ pub record ReachedBy (n : ℕ) (along : ℕ → ℕ → Bool) (roots held : ℕ 
       → (roots (at from c) ≡ true)
       ⊎ ((d : ℕ) × (reached d ≡ true) × (held d ≡ true) × (at row d ≡ at from c)
       × (at rank d < at rank c))
-  pub ranked : (c : ℕ) → reached c ≡ true → at rank c < members 64 reached
+  pub ranked : (c : ℕ) → reached c ≡ true → at rank c < members SET_WIDTH reached
   pub once : (c d : ℕ) → reached c ≡ true → reached d ≡ true → at rank c ≡ at rank d → c ≡ d
 
 -- no pair of `along` leads from a root, or from a left block that has a reached right block, to one

@@ -10,7 +10,7 @@ ghost use Rattle.matching.specs.Answers.{PairsMost};
 
 use crate::chains::{Bounds, Holders, exchange, search};
 use crate::fitting::Unfit;
-use blockset::BlockSet;
+use blockset::{BlockSet, MOST_BLOCKS, SET_WIDTH};
 
 /// What `largest` finds.
 #[derive(Clone, Copy, Debug, PartialEq, Eq)]
@@ -57,7 +57,7 @@ pub fn largest(rows: &[BlockSet], p: &mut [u16]) -> Result<Found, Unfit>
     ensures found { IfOk result (PairsMost rows.now p.old p.new) }
     ensures kept { OnErr result (p.new ≡ p.old) }
 {
-    if rows.len() > 64 {
+    if rows.len() > MOST_BLOCKS as usize {
         Err(Unfit::Size)
     } else if p.len() != rows.len() {
         Err(Unfit::Length)
@@ -80,7 +80,7 @@ pub fn pair_most(rows: &[BlockSet], p: &mut [u16]) -> Found
     let mut out = all;
     let mut holders = Holders {
         held: BlockSet::empty(),
-        row: [0; 64],
+        row: [0; SET_WIDTH],
     };
     'rounds: loop {
         let goals = all.difference(holders.held);

@@ -2,21 +2,20 @@
 //! right block of its row, on to the left block that has that right block, and so on.
 
 ghost use Rattle.std.specs.Prelude.{◌≡◌, ℕ, ◌<◌, ◌≤◌, true, false, ◌||◌, length, IfSome, IfNone};
-ghost use Rattle.std.specs.Prelude.{◌==◌};
-ghost use Rattle.std.specs.Prelude.{◌≢◌};
-ghost use Rattle.blockset.specs.declared.TheConstants.{MOST_BLOCKS};
+ghost use Rattle.std.specs.Prelude.{◌==◌, ◌≢◌};
+ghost use Rattle.blockset.specs.declared.TheConstants.{MOST_BLOCKS, SET_WIDTH};
 ghost use Rattle.blockset.specs.Has.{has};
 ghost use Rattle.pairing.specs.Grid.{at};
 ghost use Rattle.matching.specs.Exchange.{without, GivesDistinct, Holding, Ways, Exchanged};
 ghost use Rattle.matching.specs.Search.{along, ReachedBy, Ended};
 
-use blockset::BlockSet;
+use blockset::{BlockSet, SET_WIDTH};
 
 /// Which right blocks are had by a left block, and by which.
 #[derive(Drop)]
 pub struct Holders {
     pub held: BlockSet,
-    pub row: [u8; 64],
+    pub row: [u8; SET_WIDTH],
 }
 
 /// What a search may use: the left blocks that it starts from, the right blocks that these may
@@ -36,8 +35,8 @@ pub struct Bounds {
 #[derive(Drop)]
 pub struct Reach {
     pub reached: BlockSet,
-    pub from: [u8; 64],
-    pub rank: [u8; 64],
+    pub from: [u8; SET_WIDTH],
+    pub rank: [u8; SET_WIDTH],
     pub goal: Option<usize>,
 }
 
@@ -45,11 +44,11 @@ pub struct Reach {
 pub fn find_holders(p: &[u16], k: usize, out: BlockSet) -> Holders
     requires small { length p.now ≤ MOST_BLOCKS }
     requires start { k ≤ length p.now }
-    requires below { (l : ℕ) → l < length p.now → has out l ≡ false → at p.now l < 64 }
+    requires below { (l : ℕ) → l < length p.now → has out l ≡ false → at p.now l < SET_WIDTH }
     ensures { Holding k (length p.now) p.now (has out) (has result.held) result.row }
 {
     let mut held = BlockSet::empty();
-    let mut row = [0u8; 64];
+    let mut row = [0u8; SET_WIDTH];
     for l in k..p.len() {
         if !out.contains(l) {
             let c = p[l] as usize;
@@ -67,7 +66,7 @@ fn fresh(rows: &[BlockSet], bounds: Bounds, reached: BlockSet, l: usize) -> Opti
     ensures none { IfNone result
         ((c : ℕ) → along rows.now bounds l c ≡ true → has reached c ≡ true) }
     ensures new { IfSome result
-        (λ c. (c < 64) × (along rows.now bounds l c ≡ true) × (has reached c ≡ false)) }
+        (λ c. (c < SET_WIDTH) × (along rows.now bounds l c ≡ true) × (has reached c ≡ false)) }
     ensures goal { IfSome result (λ c. has bounds.goals c ≡ false → (d : ℕ)
         → along rows.now bounds l d ≡ true → has reached d ≡ false → has bounds.goals d ≡ false) }
 {
@@ -97,8 +96,8 @@ pub fn search(rows: &[BlockSet], holders: &Holders, bounds: Bounds) -> Reach
         (has bounds.goals) holders.now.row (has result.reached) result.goal }
 {
     let mut reached = BlockSet::empty();
-    let mut from = [0u8; 64];
-    let mut rank = [0u8; 64];
+    let mut from = [0u8; SET_WIDTH];
+    let mut rank = [0u8; SET_WIDTH];
     let mut pending = bounds.roots;
     while let Some(l) = pending.least() {
         if let Some(c) = fresh(rows, bounds, reached, l) {

@@ -5,7 +5,7 @@ ghost use Rattle.blockset.specs.declared.TheConstants.{MOST_BLOCKS};
 ghost use Rattle.pairing.specs.Rows.{Pairs};
 ghost use Rattle.matching.specs.Fit.{Fits, Unfits, unfit_text};
 
-use blockset::BlockSet;
+use blockset::{BlockSet, MOST_BLOCKS};
 use std::error::Error;
 use std::fmt;
 
@@ -66,7 +66,7 @@ pub fn fit(rows: &[BlockSet], p: &[u16]) -> Result<(), Unfit>
     ensures accepted { IsOk result ↔ Fits rows.now p.now }
     ensures refused { IfErr result (Unfits rows.now p.now) }
 {
-    if rows.len() > 64 {
+    if rows.len() > MOST_BLOCKS as usize {
         Err(Unfit::Size)
     } else if p.len() != rows.len() {
         Err(Unfit::Length)

@@ -13,17 +13,17 @@ ghost use Rattle.matching.specs.Answers.{MarksOf};
 
 use crate::chains::{Bounds, find_holders, search};
 use crate::fitting::{Unfit, fit};
-use blockset::BlockSet;
+use blockset::{BlockSet, MOST_BLOCKS, SET_WIDTH};
 
 /// The right blocks that chains lead to from each right block: what the left block that has it can
 /// take, and so on. One search each.
-fn leads(rows: &[BlockSet], p: &[u16]) -> [BlockSet; 64]
+fn leads(rows: &[BlockSet], p: &[u16]) -> [BlockSet; SET_WIDTH]
     requires small { length rows.now ≤ MOST_BLOCKS }
     requires pairs { Pairs rows.now p.now }
     ensures { Led (length rows.now) rows.now p.now result }
 {
     let all = BlockSet::all(rows.len());
-    let mut led = [BlockSet::empty(); 64];
+    let mut led = [BlockSet::empty(); SET_WIDTH];
     for l in 0..rows.len() {
         let alone = BlockSet::of(l);
         let holders = find_holders(p, 0, alone);
@@ -70,7 +70,7 @@ pub fn marks(rows: &[BlockSet], p: &[u16], table: &mut [u8]) -> Result<(), Unfit
     ensures kept { OnErr result (table.new ≡ table.old) }
 {
     let n = rows.len();
-    if n > 64 {
+    if n > MOST_BLOCKS as usize {
         return Err(Unfit::Size);
     }
     if table.len() != n * n {

@@ -69,7 +69,7 @@ module _ (order : Order) (sound : AllByRecursion (SoundPair order.size) order.pa
   byte_says l r = says_stands (byte_of order.size standing l r)
 
   cost_shown : (l r : ℕ) → l < order.size → r < order.size → byte_says l r ≡ true
-      → columns_at plain_kind.meaning costs (place_of order.size l r)
+      → columns_at plain_kind costs (place_of order.size l r)
       ≡ stated_columns (cost_stated order.pairs l r)
   unfolding byte_says
   cost_shown l r hl hr h =
@@ -100,7 +100,7 @@ module _ (order : Order) (sound : AllByRecursion (SoundPair order.size) order.pa
 -- a stated cost and the byte beside it, written at one place of tables that are in order
 module _ (places : ℕ) (costs : List Plain) (standing : List ℕ) (costs_long : length costs ≡ places)
     (standing_long : length standing ≡ places) (at : ℕ) (z : ℤ) (small : nat_abs z ≤ 1000000000)
-    (o : IsInOrder plain_kind.meaning places costs standing) where
+    (o : IsInOrder plain_kind places costs standing) where
   costs' : List Plain
   costs' = set costs at (plain z)
 
@@ -109,7 +109,7 @@ module _ (places : ℕ) (costs : List Plain) (standing : List ℕ) (costs_long :
 
   -- what is read at a place afterwards
   read_here : (k : ℕ) → k < places → k ≡ at
-      → (columns_at plain_kind.meaning costs' k ≡ rail_of z ∷ []) × (get_or standing' k 0 ≡ 1)
+      → (columns_at plain_kind costs' k ≡ rail_of z ∷ []) × (get_or standing' k 0 ≡ 1)
   unfolding costs' standing'
   read_here k h e = (
     get_or-map plain_kind.meaning (set costs at (plain z)) k (plain (pos 0)) []
@@ -120,7 +120,7 @@ module _ (places : ℕ) (costs : List Plain) (standing : List ℕ) (costs_long :
   )
 
   read_elsewhere : (k : ℕ) → k < places → (k ≡ at → ⊥)
-      → (columns_at plain_kind.meaning costs' k ≡ columns_at plain_kind.meaning costs k)
+      → (columns_at plain_kind costs' k ≡ columns_at plain_kind costs k)
       × (get_or standing' k 0 ≡ get_or standing k 0)
   unfolding costs' standing'
   read_elsewhere k h differ = (
@@ -135,7 +135,7 @@ module _ (places : ℕ) (costs : List Plain) (standing : List ℕ) (costs_long :
   means_small =
       (subst (λ x. nat_abs x ≤ 1000000000) (sym (rail_of_same z (omega arith))) small, tt)
 
-  wrote_in_order : IsInOrder plain_kind.meaning places costs' standing'
+  wrote_in_order : IsInOrder plain_kind places costs' standing'
   wrote_in_order = record {
     bytes = λ k h. ⊎_elim
         (λ here. ap says_disturbed (read_here k h here).1)
@@ -149,10 +149,10 @@ module _ (places : ℕ) (costs : List Plain) (standing : List ℕ) (costs_long :
 
 after_in_order : (n : ℕ) (ps : List StatedPair) (costs : List Plain) (standing : List ℕ)
     → AllByRecursion (SoundPair n) ps → length costs ≡ places_of n → length standing ≡ places_of n
-    → IsInOrder plain_kind.meaning (places_of n) costs standing
+    → IsInOrder plain_kind (places_of n) costs standing
     → (length (costs_after n ps costs) ≡ places_of n)
     × (length (standing_after n ps standing) ≡ places_of n)
-    × IsInOrder plain_kind.meaning (places_of n) (costs_after n ps costs)
+    × IsInOrder plain_kind (places_of n) (costs_after n ps costs)
     (standing_after n ps standing)
 unfolding costs' standing'
 after_in_order n [] costs standing s ec eb o = (ec, eb, o)
@@ -162,7 +162,7 @@ after_in_order n (p ∷ ps) costs standing s ec eb o =
     (length-set costs at (plain p.cost) ∙ ec) (length-set standing at 1 ∙ eb)
     (wrote_in_order (places_of n) costs standing ec eb at p.cost s.0.cost_within o)
 
-blank_in_order : (places : ℕ) → IsInOrder plain_kind.meaning places
+blank_in_order : (places : ℕ) → IsInOrder plain_kind places
     (replicate places (plain (pos 0))) (replicate places 0)
 blank_in_order places = record {
   bytes = λ k h. ap says_disturbed (get_or-replicate places k 0 0 h);

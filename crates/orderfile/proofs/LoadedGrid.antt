@@ -85,7 +85,7 @@ module _ (order : Order) (r : Result Sheet Fault) (costs : List Plain) (standing
   pub loaded_sane : Sane loaded
   loaded_sane =
       let tables = accepted.pair_tables in
-      sane_in_order plain_kind.meaning 1 (λ x. refl) order.size costs standing tables.few
+      sane_in_order plain_kind (λ x. refl) order.size costs standing tables.few
       tables.costs_long tables.in_order
 
   pub stated_sane : Sane (grid_stated order)

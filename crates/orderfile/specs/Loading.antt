@@ -9,7 +9,7 @@ use Rattle.pairing.specs.Grid.{Grid}
 use Rattle.pairing.specs.Inside.{SameInside}
 use Rattle.tables.specs.PairTables.{HavePlaces, cell, costs_opened, standing_opened, costs_entered}
 use Rattle.tables.specs.PairTables.{standing_entered}
-use Rattle.tables.specs.Lent.{grid_in}
+use Rattle.tables.specs.Said.{grid_of}
 use Rattle.tables.specs.Together.{ArePairTables}
 use Rattle.sheet.specs.Size.{Sheet, sheet_of}
 use Rattle.sheet.specs.Refusals.{fault}
@@ -47,7 +47,7 @@ plain_cell n costs standing = cell (plain (pos 0)) n costs standing
 
 -- the grid that tables of plain costs state
 abbrev pub plain_grid : ℕ → List Plain → List ℕ → Grid
-plain_grid n costs standing = grid_in plain_kind n costs standing
+plain_grid n costs standing = grid_of plain_kind n costs standing
 
 -- the tables of a sheet of n blocks after pairs were entered in turn
 abbrev pub costs_after : ℕ → List StatedPair → List Plain → List Plain

@@ -3,8 +3,7 @@
 -- Idea: every statement asks only about pairs of blocks below n, so one direction suffices: the
 -- other is the same with the tests exchanged.
 use Rattle.std.proofs.Common.{◌≡◌, ℕ, zero, suc, ◌+◌, ◌-◌, ◌<◌, Bool, ◌&&◌, ◌||◌, ◌↔◌, List, sym}
-use Rattle.std.proofs.Common.{refl}
-use Rattle.std.proofs.Common.{ap, ◌∙◌, ap₂, arith}
+use Rattle.std.proofs.Common.{refl, ap, ◌∙◌, ap₂, arith}
 use Rattle.std.specs.List.{range_with_len, list_any}
 use Rattle.std.proofs.lemmas.Bool.Decides.{Decides-like}
 use Rattle.blockset.specs.Sets.{members, bit}

@@ -139,7 +139,7 @@ module _ (g : Grid) (s : Sane g) (left right : ℕ → List ℤ) (p : List ℕ) 
       same_from (left l) (minus (g.cost l r) (right r)) (a.sized ∙ sym sized)
       (value_light g.columns (left l) a)
       (within_more 2000000000000000 4000000000000000000 (minus (g.cost l r) (right r)) (omega arith)
-      (minus-within 1000000000000000 1000000000000000 (g.cost l r) (right r) c.railed w.railed))
+      (minus-within 1000000000000000 1000000000000000 (g.cost l r) (right r) c.on_rail w.on_rail))
       (omega (arith, ints))
 
 module _ (g : Grid) (s : Sane g) (left right left' right' : ℕ → List ℤ) (p q : List ℕ)

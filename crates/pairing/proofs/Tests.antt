@@ -81,7 +81,7 @@ module _ (g : Grid) (left right : ℕ → List ℤ) (p : List ℕ) (rank : List 
       let b = and_parts (eqb (length xs) g.columns) (within 1000000000000000 xs) e in
       record {
         sized = eqb-true (length xs) g.columns b.0;
-        railed =
+        on_rail =
             (within_tells 1000000000000000 xs).0 b.1;
       }
 

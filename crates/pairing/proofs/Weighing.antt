@@ -10,15 +10,14 @@ use Rattle.std.proofs.lemmas.List.{length-replicate}
 use Rattle.cost.specs.Columns.{Within, zeros, plus}
 use Rattle.cost.proofs.Exact.{plus-within, zeros_within, within_more, length-columnwise}
 use Rattle.cost.specs.Weights.{weight, Light}
-use Rattle.cost.proofs.Weights.{upto_is, upto_from, same_from, weight_plus}
-use Rattle.cost.proofs.Weights.{weight_zeros}
+use Rattle.cost.proofs.Weights.{upto_is, upto_from, same_from, weight_plus, weight_zeros}
 use Rattle.pairing.specs.Grid.{Grid, Sane, at, PerfectIn, total_of, total, Upto}
 use Rattle.pairing.specs.Prices.{Value, TightPair}
 use Rattle.pairing.proofs.Sums.{sum_z}
 
 pub value_light : (columns : ℕ) (xs : List ℤ) → Value columns xs → Light xs
 value_light columns xs v = within_more 1000000000000000 4000000000000000000 xs (omega arith)
-    v.railed
+    v.on_rail
 
 pub zeros_sized : (columns : ℕ) → length (zeros columns) ≡ columns
 zeros_sized columns = length-replicate columns (pos 0)
@@ -45,14 +44,14 @@ module _ (columns : ℕ) (xs ys : List ℤ) (v : Value columns xs) (w : Value co
 
   plus_light : Light (plus xs ys)
   plus_light = within_more 2000000000000000 4000000000000000000 (plus xs ys) (omega arith)
-      (plus-within 1000000000000000 1000000000000000 xs ys v.railed w.railed)
+      (plus-within 1000000000000000 1000000000000000 xs ys v.on_rail w.on_rail)
 
 pub value_low : (columns : ℕ) (xs : List ℤ) → Value columns xs → Upto xs (zeros columns)
     → weight xs ≤ℤ pos 0
 value_low columns xs v u =
     let e = weight_zeros columns in
     let h = value_upto columns xs (zeros columns) v
-    (record { sized = zeros_sized columns; railed = zeros_within 1000000000000000 columns }) u
+    (record { sized = zeros_sized columns; on_rail = zeros_within 1000000000000000 columns }) u
     in
     omega (arith, ints)
 
@@ -63,7 +62,7 @@ module _ (g : Grid) (s : Sane g) where
   cost_value l r i j t =
       record {
         sized = s.sized l r i j t;
-        railed = within_more 1000000000 1000000000000000
+        on_rail = within_more 1000000000 1000000000000000
             (g.cost l r) (omega arith) (s.small l r i j t);
       }
 
@@ -99,8 +98,8 @@ module _ (g : Grid) (s : Sane g) where
     pub total_value : Value g.columns (total g p)
     total_value = record {
       sized = total_sized g.size (omega arith);
-      railed = within_more (g.size * 1000000000) 1000000000000000 (total g p) (omega (arith, s.few))
-          (total-within g.size (omega arith));
+      on_rail = within_more (g.size * 1000000000) 1000000000000000 (total g p)
+          (omega (arith, s.few)) (total-within g.size (omega arith));
     }
 
     pub total_is : weight (total g p) ≡ sum_z g.size (λ l. weight (g.cost l (at p l)))

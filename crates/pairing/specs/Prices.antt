@@ -7,7 +7,7 @@ use Rattle.pairing.specs.Grid.{Grid, at, Upto}
 -- what a value of a cost kind means: so many columns, each on the rail from -`RAIL` to `RAIL`
 pub record Value (columns : ℕ) (xs : List ℤ) : Type 0 where
   pub sized : length xs ≡ columns
-  pub railed : Within RAIL xs
+  pub on_rail : Within RAIL xs
 
 -- the pair costs its two prices, neither more nor less: it is tight
 abbrev pub TightPair : Grid → (left right : ℕ → List ℤ) → ℕ → ℕ → Type 0

@@ -6,8 +6,7 @@ ghost use Rattle.pairing.specs.Examples.{Examples};
 ghost use Rattle.pairing.specs.Theorems.{ProvesOptimum, OptimumIfTight, TightAlike, ValidAlike};
 ghost use Rattle.pairing.specs.Theorems.{GreatestAlike, GivenAlike, LeavesOut, Hall};
 ghost use Rattle.pairing.specs.Theorems.{LargestIfStuck, CrowdIfReached, ShortBy, SendsIfChain};
-ghost use Rattle.pairing.specs.Theorems.{PerfectsAre, PairsAre, OptimaAre, MarksAre};
-ghost use Rattle.pairing.specs.Theorems.{InsideMatters};
+ghost use Rattle.pairing.specs.Theorems.{PerfectsAre, PairsAre, OptimaAre, MarksAre, InsideMatters};
 
 use std::cmp::Ordering;
 

@@ -28,7 +28,7 @@ same_tables t n size costs standing partners left right e same =
 
 tables_sane : (t : Lent Plain) → ArePairTables plain_kind t.size t.costs t.standing
     → Sane (grid plain_kind t)
-tables_sane t tables = sane_in_order plain_kind.meaning 1 (λ x. refl) t.size t.costs t.standing
+tables_sane t tables = sane_in_order plain_kind (λ x. refl) t.size t.costs t.standing
     tables.few tables.costs_long tables.in_order
 
 module _ (t : Lent Plain) (together : Together plain_kind t) where

@@ -16,9 +16,9 @@ use Rattle.tables.proofs.Cells.{place_below}
 use Rattle.sheet.specs.Walking.{AreBlocks, IsQuote}
 
 -- the columns of a value that was read
-pub read_columns : {K : Type 0} (meaning : K → List ℤ) (xs : List K) (k : ℕ) (x : K)
-    → k < length xs → x ≡ get_or xs k x → columns_at meaning xs k ≡ meaning x
-read_columns meaning xs k x h e = get_or-map meaning xs k x [] h ∙ sym (ap meaning e)
+pub read_columns : {K : Type 0} (kind : Ghosts K) (xs : List K) (k : ℕ) (x : K)
+    → k < length xs → x ≡ get_or xs k x → columns_at kind xs k ≡ kind.meaning x
+read_columns kind xs k x h e = get_or-map kind.meaning xs k x [] h ∙ sym (ap kind.meaning e)
 
 module _ {K : Type 0} (kind : Ghosts K) (t : Lent K) (together : Together kind t) (l r : ℕ)
     (are : AreBlocks t.size l r)
@@ -41,12 +41,12 @@ module _ {K : Type 0} (kind : Ghosts K) (t : Lent K) (together : Together kind t
       let m = kind.meaning in
       let in_costs : place_of t.size l r < length t.costs =
       omega (arith, inside, together.pair_tables.costs_long) in
-      let left_is : left_price kind t l ≡ m lp = read_columns m t.left l lp
+      let left_is : left_price kind t l ≡ m lp = read_columns kind t.left l lp
       (omega (arith, together.left_prices.long, are.left_below)) el in
-      let right_is : right_price kind t r ≡ m rp = read_columns m t.right r rp
+      let right_is : right_price kind t r ≡ m rp = read_columns kind t.right r rp
       (omega (arith, together.right_prices.long, are.right_below)) er in
-      let cost_is : columns_at m t.costs (place_of t.size l r) ≡ m cost =
-      read_columns m t.costs (place_of t.size l r) cost in_costs ec in
+      let cost_is : columns_at kind t.costs (place_of t.size l r) ≡ m cost =
+      read_columns kind t.costs (place_of t.size l r) cost in_costs ec in
       let wl : Within PRICE_LIMIT (m lp) = subst (Within PRICE_LIMIT) left_is
       (together.left_prices.near l are.left_below) in
       let wr : Within PRICE_LIMIT (m rp) = subst (Within PRICE_LIMIT) right_is

@@ -32,7 +32,7 @@ module _ {K : Type 0} (kind : Ghosts K) (t : Lent K) (together : Together kind t
       let m = kind.meaning in
       let spot = place_of t.size k (at t.partners k) in
       let inside = partner_below k h in
-      let cost_is : columns_at m t.costs spot ≡ m x = read_columns m t.costs spot x
+      let cost_is : columns_at kind t.costs spot ≡ m x = read_columns kind t.costs spot x
       (omega (arith, inside, together.pair_tables.costs_long)) read in
       let wc : Within COST_LIMIT (m x) = subst (Within COST_LIMIT) cost_is
       (together.pair_tables.in_order.small spot inside (together.perfect.standing k h)) in
@@ -40,7 +40,7 @@ module _ {K : Type 0} (kind : Ghosts K) (t : Lent K) (together : Together kind t
       (m sum) (m x) (omega (arith, h, together.pair_tables.few)) s.small wc).0 in
       let near : Within (k * COST_LIMIT + COST_LIMIT) (plus (m sum) (m x)) =
       plus-within (k * COST_LIMIT) COST_LIMIT (m sum) (m x) s.small wc in
-      let all : m next ≡ plus (total_of (grid kind t) t.partners k) (columns_at m t.costs spot) =
+      let all : m next ≡ plus (total_of (grid kind t) t.partners k) (columns_at kind t.costs spot) =
       add ∙ sum_is ∙ ap (λ p. plus p (m x)) s.is
       ∙ ap (plus (total_of (grid kind t) t.partners k)) (sym cost_is) in
       let bound : k * COST_LIMIT + COST_LIMIT ≡ (k + 1) * COST_LIMIT = omega arith in

@@ -83,7 +83,8 @@ module _ {K : Type 0} (kind : Ghosts K) (t : Lent K) where
       (need (Together kind t × Optimum (grid kind t) list) Inconsistent nothing)
 
   -- the list is the optimum pairing that comes next in dictionary order; at the last one the step
-  -- is the end, and the list stays. It has a place for each left block, and the next step accepts it
+  -- is the end, and the list stays. It has a place for each left block, and the next step accepts
+  -- it
   pub record IsStep (list list' : List ℕ) (step : Step) : Type 0 where
     pub optimum : Optimum (grid kind t) list'
     pub follows : Follows (optima (grid kind t)) list list' step

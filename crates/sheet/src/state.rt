@@ -1,7 +1,7 @@
 //! The states of a sheet: a state is moved from call to call, and the tables stay with the caller.
 //!
-//! An open sheet becomes a settled one by `settle`, and a settled one a walk by `start`; there is no
-//! other way to make one.
+//! An open sheet becomes a settled one by `settle`, and a settled one a walk by `start`; there is
+//! no other way to make one.
 
 ghost use Rattle.std.specs.Prelude.{◌≡◌};
 ghost use Rattle.sheet.specs.Size.{Sheet, sheet_of, sheet_code, IsSize, size_of};

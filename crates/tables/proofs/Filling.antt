@@ -4,7 +4,7 @@
 -- the row is right one right block further. A row is filled from its part of each table, in which
 -- right block r stands at place r.
 use Rattle.std.proofs.Common.{◌≡◌, ℕ, ◌+◌, ◌-◌, ◌*◌, ◌<◌, ◌≤◌, Bool, false, ◌&&◌, ltb, List, []}
-use Rattle.std.proofs.Common.{map, length, get_or, take, drop, set, ℤ, sym, ap, ◌∙◌, inl, inr}
+use Rattle.std.proofs.Common.{map, length, get_or, take, drop, set, sym, ap, ◌∙◌, inl, inr}
 use Rattle.std.proofs.Common.{add-mul, one-mul, arith}
 use Rattle.std.proofs.lemmas.List.{get_or-set_same, get_or-set_other, get_or-take, get_or-drop}
 use Rattle.std.proofs.lemmas.List.{get_or-map, take-map, drop-map, length-map, length-take}
@@ -12,14 +12,15 @@ use Rattle.std.proofs.lemmas.List.{length-drop}
 use Rattle.std.proofs.lemmas.Nat.{mul-le}
 use Rattle.std.proofs.lemmas.Bool.Decides.{nat_tests}
 use Rattle.std.proofs.lemmas.Bool.{cases_eq, cases_lt, le-ltb}
+use Rattle.cost.specs.declared.Cost.{Ghosts}
 use Rattle.blockset.specs.declared.BlockSet.{BlockSet}
 use Rattle.blockset.specs.Has.{has}
 use Rattle.pairing.specs.Rows.{holds}
 use Rattle.tables.specs.Said.{columns_at}
-use Rattle.tables.specs.PairRows.{Passing}
+use Rattle.tables.specs.PairRows.{HoldsPassing}
 
-module _ (row : BlockSet) (k : ℕ) (test : ℕ → Bool) (filled : Passing k test row) where
-  pub left_out : test k ≡ false → Passing (k + 1) test row
+module _ (row : BlockSet) (k : ℕ) (test : ℕ → Bool) (filled : HoldsPassing k test row) where
+  pub left_out : test k ≡ false → HoldsPassing (k + 1) test row
   left_out fails j = filled j ∙ step
     where
       step : (ltb j 64 && (ltb j k && test j)) ≡ (ltb j 64 && (ltb j (k + 1) && test j))
@@ -46,7 +47,7 @@ agree_below n r a b e = elim (cases_lt r n) [
 -- one row more, filled by a test over its own part of the tables
 pub row_made : (n l : ℕ) (test : ℕ → ℕ → Bool) (own : ℕ → Bool) (rows : List BlockSet)
     (row : BlockSet) → n ≤ 64 → l < length rows
-    → Made l n test rows → Passing n own row → ((r : ℕ) → r < n → own r ≡ test l r)
+    → Made l n test rows → HoldsPassing n own row → ((r : ℕ) → r < n → own r ≡ test l r)
     → Made (l + 1) n test (set rows l row)
 row_made n l test own rows row small inside made filled same m r below = elim (cases_eq m l) [
   | inl e ↦
@@ -72,16 +73,16 @@ module _ {X : Type 0} (xs : List X) (n l : ℕ) (inside : l < n) (whole : length
       ∙ get_or-drop (l * n) xs r d
 
 -- the same of the columns of its values
-pub columns_at_lem : {K : Type 0} (meaning : K → List ℤ) (xs : List K) (n l : ℕ) → l < n
+pub columns_at_lem : {K : Type 0} (kind : Ghosts K) (xs : List K) (n l : ℕ) → l < n
     → length xs ≡ n * n → (r : ℕ) → r < n
-    → columns_at meaning (take (l * n + n - l * n) (drop (l * n) xs)) r ≡ columns_at meaning xs
+    → columns_at kind (take (l * n + n - l * n) (drop (l * n) xs)) r ≡ columns_at kind xs
     (l * n + r)
-columns_at_lem meaning xs n l inside whole r below =
-    ap (λ ys. get_or ys r []) (sym (take-map meaning (l * n + n - l * n) (drop (l * n) xs))
-    ∙ ap (take (l * n + n - l * n)) (sym (drop-map meaning (l * n) xs)))
-    ∙ row_at (map meaning xs) n l inside (length-map xs meaning ∙ whole) r [] below
+columns_at_lem kind xs n l inside whole r below =
+    ap (λ ys. get_or ys r []) (sym (take-map kind.meaning (l * n + n - l * n) (drop (l * n) xs))
+    ∙ ap (take (l * n + n - l * n)) (sym (drop-map kind.meaning (l * n) xs)))
+    ∙ row_at (map kind.meaning xs) n l inside (length-map xs kind.meaning ∙ whole) r [] below
 
 -- a value that was read from a table
-pub value_at : {K : Type 0} (meaning : K → List ℤ) (table : List K) (k : ℕ) (x : K)
-    → k < length table → x ≡ get_or table k x → meaning x ≡ columns_at meaning table k
-value_at meaning table k x h e = ap meaning e ∙ sym (get_or-map meaning table k x [] h)
+pub value_at : {K : Type 0} (kind : Ghosts K) (table : List K) (k : ℕ) (x : K)
+    → k < length table → x ≡ get_or table k x → kind.meaning x ≡ columns_at kind table k
+value_at kind table k x h e = ap kind.meaning e ∙ sym (get_or-map kind.meaning table k x [] h)

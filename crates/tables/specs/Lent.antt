@@ -58,25 +58,21 @@ pub record HasLengths {K : Type 0} (t : Lent K) : Type 0 where
   pub room : HasRoom t.size (length t.costs) (length t.standing) (length t.left) (length t.right)
   pub partners_long : length t.partners ≡ t.size
 
--- the grid that pair tables of n blocks a plane state
-abbrev pub grid_in : {K : Type 0} → Ghosts K → ℕ → List K → List ℕ → Grid
-grid_in kind n costs standing = grid_of kind.columns kind.meaning n costs standing
-
 module _ {K : Type 0} (kind : Ghosts K) (t : Lent K) where
   -- the grid that the tables state
   abbrev pub grid : Grid
-  grid = grid_in kind t.size t.costs t.standing
+  grid = grid_of kind t.size t.costs t.standing
 
   -- the columns of the price of a left block, and of a right block
   abbrev pub left_price : ℕ → List ℤ
-  left_price = columns_at kind.meaning t.left
+  left_price = columns_at kind t.left
 
   abbrev pub right_price : ℕ → List ℤ
-  right_price = columns_at kind.meaning t.right
+  right_price = columns_at kind t.right
 
   -- the pair tables are in order
   abbrev pub IsOrderly : Type 0
-  IsOrderly = IsInOrder kind.meaning (places_of t.size) t.costs t.standing
+  IsOrderly = IsInOrder kind (places_of t.size) t.costs t.standing
 
   -- a call that pairs by cost can be made with them
   abbrev pub IsUsable : Type 0

@@ -3,14 +3,16 @@ use Rattle.std.specs.Prelude.{◌≡◌, ℕ, ◌<◌, Bool, true, ◌&&◌, Lis
 use Rattle.std.specs.Ordering.{is_eq}
 use Rattle.cost.specs.Columns.{sums, lex}
 use Rattle.blockset.specs.declared.BlockSet.{BlockSet}
+use Rattle.blockset.specs.declared.TheConstants.{SET_WIDTH}
 use Rattle.blockset.specs.Has.{has}
 use Rattle.pairing.specs.Grid.{Grid, Sane}
 use Rattle.pairing.specs.Prices.{TightPair}
 use Rattle.pairing.specs.Rows.{holds}
 
--- the set has just the right blocks below n that pass the test; no number from 64 on is a block
-abbrev pub Passing : ℕ → (ℕ → Bool) → BlockSet → Type 0
-Passing n test set = (r : ℕ) → has set r ≡ (nat_lt r 64 && (nat_lt r n && test r))
+-- the set holds just the right blocks below n that pass the test; no set has room for a number from
+-- its width on
+abbrev pub HoldsPassing : ℕ → (ℕ → Bool) → BlockSet → Type 0
+HoldsPassing n test set = (r : ℕ) → has set r ≡ (nat_lt r SET_WIDTH && (nat_lt r n && test r))
 
 -- row l holds right block r exactly if there is such a block and the pair stands
 abbrev pub StandingRows : ℕ → (ℕ → ℕ → Bool) → List BlockSet → Type 0

@@ -16,12 +16,12 @@ module _ {K : Type 0} (kind : Ghosts K) where
     pub few : n ≤ MOST_BLOCKS
     pub costs_long : length costs ≡ places_of n
     pub standing_long : length standing ≡ places_of n
-    pub in_order : IsInOrder kind.meaning (places_of n) costs standing
+    pub in_order : IsInOrder kind (places_of n) costs standing
 
   -- a price for each of n blocks, within 10^12 in each column
   pub record ArePrices (n : ℕ) (prices : List K) : Type 0 where
     pub long : length prices ≡ n
-    pub near : Bounded kind.meaning PRICE_LIMIT n prices
+    pub near : Bounded kind PRICE_LIMIT n prices
 
   -- The tables hold together.
   pub record Together (t : Lent K) : Type 0 where

@@ -17,6 +17,7 @@ pub enum Flaw {
     Order,
 }
 
+// `thiserror` would write this impl without the ghost member, so that nothing pinned the text.
 impl fmt::Display for Flaw {
     ghost output = { λ flaw. Some (flaw_text flaw) };
 

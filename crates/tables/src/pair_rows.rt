@@ -9,14 +9,14 @@ ghost use Rattle.tables.specs.Lent.{IsReadable, grid, left_price, right_price};
 
 use crate::lent::Tables;
 use crate::rows::{fill_standing_rows, fill_tight_rows};
-use blockset::BlockSet;
+use blockset::{BlockSet, SET_WIDTH};
 use cost::Cost;
 use std::marker::Model;
 
 /// At most 64 rows of right blocks. A contract sees the list of the rows.
 #[derive(Drop)]
 pub struct PairRows {
-    sets: [BlockSet; 64],
+    sets: [BlockSet; SET_WIDTH],
     len: usize,
 }
 
@@ -41,7 +41,7 @@ impl PairRows {
         ensures rows { StandingRows n (λ l r. says_stands (byte_of n standing.now l r)) result }
     {
         let len = n as usize;
-        let mut sets = [BlockSet::empty(); 64];
+        let mut sets = [BlockSet::empty(); SET_WIDTH];
         fill_standing_rows(standing, &mut sets[..len]);
         PairRows { sets, len }
     }
@@ -54,7 +54,7 @@ impl PairRows {
             (right_price K.Cost tables.now) result }
     {
         let len = tables.size as usize;
-        let mut sets = [BlockSet::empty(); 64];
+        let mut sets = [BlockSet::empty(); SET_WIDTH];
         let rows = &mut sets[..len];
         fill_tight_rows(
             tables.costs,

@@ -7,19 +7,19 @@ ghost use Rattle.pairing.specs.Places.{places_of};
 ghost use Rattle.tables.specs.PairTables.{byte_of, says_stands};
 ghost use Rattle.tables.specs.Said.{columns_at, grid_of};
 ghost use Rattle.tables.specs.Flaws.{HasNoFlaw, IsFirstFlaw};
-ghost use Rattle.tables.specs.Lent.{HasRoom, grid_in};
-ghost use Rattle.tables.specs.PairRows.{Passing, StandingRows, adds_up, TightRows};
+ghost use Rattle.tables.specs.Lent.{HasRoom};
+ghost use Rattle.tables.specs.PairRows.{HoldsPassing, StandingRows, adds_up, TightRows};
 
 use crate::flaw::Flaw;
 use crate::pair_tables::{have_places, stands};
-use blockset::BlockSet;
+use blockset::{BlockSet, MOST_BLOCKS};
 use cost::Cost;
 
 // ---- The pairs that stand
 
 /// The right blocks that stand with one left block, whose standing bytes these are.
 fn standing_row(bytes: &[u8]) -> BlockSet
-    ensures { Passing (length bytes.now) (λ r. says_stands (slice_index bytes.now r)) result }
+    ensures { HoldsPassing (length bytes.now) (λ r. says_stands (slice_index bytes.now r)) result }
 {
     let mut row = BlockSet::empty();
     for (r, byte) in bytes.iter().enumerate() {
@@ -42,7 +42,7 @@ pub fn standing_rows(standing: &[u8], rows: &mut [BlockSet]) -> Result<(), Flaw>
     ensures kept { OnErr result (rows.new ≡ rows.old) }
 {
     let n = rows.len();
-    if n > 64 {
+    if n > MOST_BLOCKS as usize {
         return Err(Flaw::Size);
     }
     if standing.len() != n * n {
@@ -80,13 +80,13 @@ fn tight<K: Cost>(byte: u8, left: K, right: K, cost: K) -> bool
 fn tight_row<K: Cost>(costs: &[K], standing: &[u8], left: K, right: &[K]) -> BlockSet
     requires priced { length costs.now ≡ length right.now }
     requires told { length standing.now ≡ length right.now }
-    ensures { Passing (length right.now) (λ r. adds_up (says_stands (slice_index standing.now r))
-        (K.meaning left) (columns_at K.meaning right.now r) (columns_at K.meaning costs.now r))
-        result }
+    ensures { HoldsPassing (length right.now)
+        (λ r. adds_up (says_stands (slice_index standing.now r)) (K.meaning left)
+        (columns_at K.Cost right.now r) (columns_at K.Cost costs.now r)) result }
 {
     let mut row = BlockSet::empty();
-    for (r, price) in right.iter().enumerate() {
-        if tight(standing[r], left, *price, costs[r]) {
+    for (r, byte) in standing.iter().enumerate() {
+        if tight(*byte, left, right[r], costs[r]) {
             row.insert(r);
         }
     }
@@ -110,12 +110,12 @@ pub fn tight_rows<K: Cost>(
         (HasRoom n (length costs.now) (length standing.now) (length left.now) (length right.now))
         ⊤) }
     ensures rows { OnOk result
-        (TightRows (grid_in K.Cost (length rows.old) costs.now standing.now)
-        (columns_at K.meaning left.now) (columns_at K.meaning right.now) rows.new) }
+        (TightRows (grid_of K.Cost (length rows.old) costs.now standing.now)
+        (columns_at K.Cost left.now) (columns_at K.Cost right.now) rows.new) }
     ensures kept { OnErr result (rows.new ≡ rows.old) }
 {
     let n = rows.len();
-    if n > 64 {
+    if n > MOST_BLOCKS as usize {
         return Err(Flaw::Size);
     }
     if !have_places(n as u16, costs.len(), standing.len()) || left.len() != n || right.len() != n {
@@ -136,8 +136,8 @@ pub fn fill_tight_rows<K: Cost>(
     requires few { length rows.old ≤ MOST_BLOCKS }
     requires room { HasRoom (length rows.old) (length costs.now) (length standing.now)
         (length left.now) (length right.now) }
-    ensures { TightRows (grid_in K.Cost (length rows.old) costs.now standing.now)
-        (columns_at K.meaning left.now) (columns_at K.meaning right.now) rows.new }
+    ensures { TightRows (grid_of K.Cost (length rows.old) costs.now standing.now)
+        (columns_at K.Cost left.now) (columns_at K.Cost right.now) rows.new }
 {
     let n = rows.len();
     for (l, row) in rows.iter_mut().enumerate() {

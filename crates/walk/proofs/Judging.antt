@@ -1,23 +1,21 @@
 -- From what the parts of the tables are found to be to what is said of them.
 -- Idea: each test decides its fact, and a fact that fails at one place fails. Prices within 10^12
 -- add up without the rail, so that the kind's own sums decide about the exact ones.
-use Rattle.std.proofs.Common.{◌≡◌, ℕ, ◌+◌, ◌-◌, ◌*◌, ◌<◌, ◌≤◌, Bool, true, false, ◌&&◌, ◌↔◌, List}
-use Rattle.std.proofs.Common.{length, get_or, take, drop, ℤ, Decides, Ordering, Less, Equal}
-use Rattle.std.proofs.Common.{Greater, sym, refl, ap, ◌∙◌, subst, ap₂, arith, below_more}
-use Rattle.std.proofs.Common.{Contains}
-use Rattle.std.specs.Ordering.{is_gt}
-use Rattle.std.proofs.lemmas.Bool.{and_parts, and_from, both_ways, false≢true}
-use Rattle.std.proofs.lemmas.Bool.Decides.{Decides-like, Decides-at, not_from_Decides}
+use Rattle.std.proofs.Common.{◌≡◌, ℕ, ◌+◌, ◌-◌, ◌*◌, ◌<◌, ◌≤◌, Bool, true, false, ◌↔◌, List}
+use Rattle.std.proofs.Common.{length, get_or, take, drop, ℤ, Decides}
+use Rattle.std.proofs.Common.{sym, ap, ◌∙◌, subst, arith, below_more, Contains}
+use Rattle.std.proofs.lemmas.Bool.{both_ways, false≢true}
+use Rattle.std.proofs.lemmas.Bool.Decides.{Decides-like}
 use Rattle.cost.specs.declared.Cost.{Ghosts}
-use Rattle.cost.specs.Columns.{Within, within, sums, plus, lex}
+use Rattle.cost.specs.Columns.{Within, within, sums, plus}
 use Rattle.cost.proofs.Exact.{within_tells, within_more, exact}
 use Rattle.tables.specs.PairTables.{byte_of, says_stands, in_order}
 use Rattle.pairing.specs.Places.{place_of}
 use Rattle.blockset.specs.declared.BlockSet.{BlockSet}
-use Rattle.pairing.specs.Grid.{Sane, Upto, PerfectIn, Optimum}
+use Rattle.pairing.specs.Grid.{Sane, Upto, Optimum}
 use Rattle.pairing.specs.Prices.{Value}
 use Rattle.pairing.proofs.Listing.{perfects_are, optima_are as optima_are_lem}
-use Rattle.pairing.specs.Rows.{holds, Pairs, pairings}
+use Rattle.pairing.specs.Rows.{holds, Pairs}
 use Rattle.matching.specs.Fit.{Fits}
 use Rattle.tables.specs.Said.{columns_at, Bounded}
 use Rattle.tables.specs.Lent.{Lent, grid, left_price, right_price}
@@ -41,115 +39,69 @@ pair_tables_tell kind n costs standing few whole bytes =
     Decides-like (in_order kind.meaning costs standing)
     (λ o. record { few = few; costs_long = whole; standing_long = bytes; in_order = o })
     (λ i. i.in_order)
-    (in_order_tells kind.meaning costs standing (n * n) whole bytes)
+    (in_order_tells kind costs standing (n * n) whole bytes)
 
 -- ---- A price against the limit
 
-module _ {K : Type 0} (meaning : K → List ℤ) (limit : ℕ) (table : List K) (k : ℕ) (x : K)
+module _ {K : Type 0} (kind : Ghosts K) (limit : ℕ) (table : List K) (k : ℕ) (x : K)
     (inside : k < length table) (read : x ≡ get_or table k x) where
-  pub bounded_more : within limit (meaning x) ≡ true → Bounded meaning limit k table
-      → Bounded meaning limit (k + 1) table
-  bounded_more e h = below_more (λ j. Within limit (columns_at meaning table j)) k h
-      (subst (Within limit) (value_at meaning table k x inside read)
-      ((within_tells limit (meaning x)).0 e))
+  pub bounded_more : within limit (kind.meaning x) ≡ true → Bounded kind limit k table
+      → Bounded kind limit (k + 1) table
+  bounded_more e h = below_more (λ j. Within limit (columns_at kind table j)) k h
+      (subst (Within limit) (value_at kind table k x inside read)
+      ((within_tells limit (kind.meaning x)).0 e))
 
-  pub not_bounded : within limit (meaning x) ≡ false → Bounded meaning limit (length table) table
+  pub not_bounded : within limit (kind.meaning x) ≡ false → Bounded kind limit (length table) table
       → ⊥
   not_bounded e h =
-      both_ways (within limit (meaning x)) e
-      ((within_tells limit (meaning x)).1
-      (subst (Within limit) (sym (value_at meaning table k x inside read)) (h k inside)))
+      both_ways (within limit (kind.meaning x)) e
+      ((within_tells limit (kind.meaning x)).1
+      (subst (Within limit) (sym (value_at kind table k x inside read)) (h k inside)))
 
 -- ---- Prices against costs
 
-greater : (o : Ordering) → is_gt o ≡ true → o ≡ Greater
-greater Less e = absurd (false≢true e)
-greater Equal e = absurd (false≢true e)
-greater Greater e = refl
-
--- one pair
-module _ (stands : Bool) (sum cost : List ℤ) where
-  held : (stands && is_gt (lex sum cost)) ≡ false → stands ≡ true → Upto sum cost
-  held e t o = both_ways (stands && is_gt (lex sum cost)) e
-      (and_from stands (is_gt (lex sum cost)) t (ap is_gt o))
-
-  not_held : (stands && is_gt (lex sum cost)) ≡ true → (stands ≡ true → Upto sum cost) → ⊥
-  not_held e h = let both = and_parts stands (is_gt (lex sum cost)) e in
-      h both.0 (greater (lex sum cost) both.1)
-
--- one pair more of a row, whose price and cost were read from their tables
-module _ {K : Type 0} (meaning : K → List ℤ) (costs : List K) (bytes : List ℕ) (left : List ℤ)
-    (right : List K) (r : ℕ) (price cost : K)
-    (in_right : r < length right) (read_right : price ≡ get_or right r price)
-    (in-costs : r < length costs) (read-cost : cost ≡ get_or costs r cost) where
-  read : (says_stands (get_or bytes r 0) && is_gt (lex (sums left (meaning price)) (meaning cost)))
-      ≡ (says_stands (get_or bytes r 0) && is_gt
-      (lex (sums left (columns_at meaning right r)) (columns_at meaning costs r)))
-  read = ap₂ (λ x y. says_stands (get_or bytes r 0) && is_gt (lex (sums left x) y))
-      (value_at meaning right r price in_right read_right)
-      (value_at meaning costs r cost in-costs read-cost)
-
-  pub row_more : (says_stands (get_or bytes r 0) && is_gt
-      (lex (sums left (meaning price)) (meaning cost))) ≡ false
-      → RowUnder r (λ j. says_stands (get_or bytes j 0)) left (columns_at meaning right)
-      (columns_at meaning costs)
-      → RowUnder (r + 1) (λ j. says_stands (get_or bytes j 0)) left (columns_at meaning right)
-      (columns_at meaning costs)
-  row_more e h =
-      below_more (λ j. says_stands (get_or bytes j 0) ≡ true
-      → Upto (sums left (columns_at meaning right j)) (columns_at meaning costs j)) r h
-      (held (says_stands (get_or bytes r 0)) (sums left (columns_at meaning right r))
-      (columns_at meaning costs r) (sym read ∙ e))
-
-  pub row_not : (says_stands (get_or bytes r 0) && is_gt
-      (lex (sums left (meaning price)) (meaning cost))) ≡ true
-      → RowUnder (length right) (λ j. says_stands (get_or bytes j 0)) left
-      (columns_at meaning right) (columns_at meaning costs) → ⊥
-  row_not e h = not_held (says_stands (get_or bytes r 0)) (sums left (columns_at meaning right r))
-      (columns_at meaning costs r) (sym read ∙ e) (h r in_right)
-
 -- a row by its parts of the tables
-module _ {K : Type 0} (meaning : K → List ℤ) (n l : ℕ) (costs : List K) (standing : List ℕ)
+module _ {K : Type 0} (kind : Ghosts K) (n l : ℕ) (costs : List K) (standing : List ℕ)
     (right : ℕ → List ℤ) (inside : l < n) (whole : length costs ≡ n * n)
     (bytes : length standing ≡ n * n) where
   row_like : (left left' : List ℤ) → left ≡ left'
       → RowUnder n
       (λ r. says_stands (get_or (take (l * n + n - l * n) (drop (l * n) standing)) r 0)) left
-      right (columns_at meaning (take (l * n + n - l * n) (drop (l * n) costs)))
+      right (columns_at kind (take (l * n + n - l * n) (drop (l * n) costs)))
       → RowUnder n (λ r. says_stands (byte_of n standing l r)) left' right
-      (λ r. columns_at meaning costs (place_of n l r))
+      (λ r. columns_at kind costs (place_of n l r))
   row_like left left' e h r below t =
-      subst (λ x. Upto (sums x (right r)) (columns_at meaning costs (place_of n l r))) e
+      subst (λ x. Upto (sums x (right r)) (columns_at kind costs (place_of n l r))) e
       (subst (λ c. Upto (sums left (right r)) c)
-      (columns_at_lem meaning costs n l inside whole r below)
+      (columns_at_lem kind costs n l inside whole r below)
       (h r below (ap says_stands (row_at standing n l inside bytes r 0 below) ∙ t)))
 
   row_back : (left left' : List ℤ) → left ≡ left'
       → RowUnder n (λ r. says_stands (byte_of n standing l r)) left' right
-      (λ r. columns_at meaning costs (place_of n l r))
+      (λ r. columns_at kind costs (place_of n l r))
       → RowUnder n
       (λ r. says_stands (get_or (take (l * n + n - l * n) (drop (l * n) standing)) r 0)) left
-      right (columns_at meaning (take (l * n + n - l * n) (drop (l * n) costs)))
+      right (columns_at kind (take (l * n + n - l * n) (drop (l * n) costs)))
   row_back left left' e h r below t =
       subst (λ x. Upto (sums x (right r))
-      (columns_at meaning (take (l * n + n - l * n) (drop (l * n) costs)) r)) (sym e)
+      (columns_at kind (take (l * n + n - l * n) (drop (l * n) costs)) r)) (sym e)
       (subst (λ c. Upto (sums left' (right r)) c)
-      (sym (columns_at_lem meaning costs n l inside whole r below))
+      (sym (columns_at_lem kind costs n l inside whole r below))
       (h r below (sym (ap says_stands (row_at standing n l inside bytes r 0 below)) ∙ t)))
 
   pub row_decides : (b : Bool) (m : ℕ) (left left' : List ℤ) → m ≡ n → left ≡ left'
       → Decides b
       (RowUnder m
       (λ r. says_stands (get_or (take (l * n + n - l * n) (drop (l * n) standing)) r 0)) left
-      right (columns_at meaning (take (l * n + n - l * n) (drop (l * n) costs))))
+      right (columns_at kind (take (l * n + n - l * n) (drop (l * n) costs))))
       → Decides b (RowUnder n (λ r. says_stands (byte_of n standing l r)) left' right
-      (λ r. columns_at meaning costs (place_of n l r)))
+      (λ r. columns_at kind costs (place_of n l r)))
   row_decides b m left left' e f told =
       let P : ℕ → Type 0 =
       λ k. Decides b
       (RowUnder k
       (λ r. says_stands (get_or (take (l * n + n - l * n) (drop (l * n) standing)) r 0)) left
-      right (columns_at meaning (take (l * n + n - l * n) (drop (l * n) costs)))) in
+      right (columns_at kind (take (l * n + n - l * n) (drop (l * n) costs)))) in
       Decides-like b (row_like left left' f) (row_back left left' f) (subst P e told)
 
 -- ---- All of it
@@ -157,14 +109,14 @@ module _ {K : Type 0} (meaning : K → List ℤ) (n l : ℕ) (costs : List K) (s
 module _ {K : Type 0} (kind : Ghosts K) (wide : (x : K) → length (kind.meaning x) ≡ kind.columns)
     (t : Lent K) where
   sane : ArePairTables kind t.size t.costs t.standing → Sane (grid kind t)
-  sane i = sane_in_order kind.meaning kind.columns wide t.size t.costs t.standing i.few i.costs_long
+  sane i = sane_in_order kind wide t.size t.costs t.standing i.few i.costs_long
       i.in_order
 
   value : (table : List K) → ArePrices kind t.size table → (k : ℕ) → k < t.size
-      → Value kind.columns (columns_at kind.meaning table k)
+      → Value kind.columns (columns_at kind table k)
   value table p k h = record {
-    sized = columns_sized kind.meaning kind.columns wide table k (omega (arith, p.long));
-    railed = within_more 1000000000000 1000000000000000 (columns_at kind.meaning table k)
+    sized = columns_sized kind wide table k (omega (arith, p.long));
+    on_rail = within_more 1000000000000 1000000000000000 (columns_at kind table k)
         (omega arith) (p.near k h);
   }
 

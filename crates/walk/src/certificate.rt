@@ -6,8 +6,8 @@ ghost use Rattle.std.specs.Ordering.{is_gt};
 ghost use Rattle.cost.specs.Columns.{sums, lex};
 ghost use Rattle.pairing.specs.Grid.{Optimum};
 ghost use Rattle.tables.specs.PairTables.{says_stands};
-ghost use Rattle.tables.specs.Said.{columns_at, Bounded};
-ghost use Rattle.tables.specs.Lent.{lent, grid, grid_in, left_price, right_price};
+ghost use Rattle.tables.specs.Said.{columns_at, grid_of, Bounded};
+ghost use Rattle.tables.specs.Lent.{lent, grid, left_price, right_price};
 ghost use Rattle.tables.specs.Together.{ArePairTables, ArePrices, Together};
 ghost use Rattle.walk.specs.Certified.{ArePerfect, RowUnder, Under, Sound, Certified};
 
@@ -44,7 +44,7 @@ pub fn is_perfect(n: u16, standing: &[u8], partners: &[u16]) -> bool
 
 /// Whether each price is within 10^12 in each column.
 pub fn prices_within_limit<K: Cost>(prices: &[K]) -> bool
-    ensures { IsTrue result ↔ Bounded K.meaning PRICE_LIMIT (length prices.now) prices.now }
+    ensures { IsTrue result ↔ Bounded K.Cost PRICE_LIMIT (length prices.now) prices.now }
 {
     for price in prices {
         if !price.within(PRICE_LIMIT) {
@@ -76,10 +76,10 @@ fn row_under<K: Cost>(costs: &[K], standing: &[u8], left: K, right: &[K]) -> boo
     requires standing_long { length standing.now ≡ length right.now }
     ensures { IsTrue result ↔ RowUnder (length right.now)
         (λ r. says_stands (slice_index standing.now r)) (K.meaning left)
-        (columns_at K.meaning right.now) (columns_at K.meaning costs.now) }
+        (columns_at K.Cost right.now) (columns_at K.Cost costs.now) }
 {
-    for (r, price) in right.iter().enumerate() {
-        if undercuts(standing[r], left, *price, costs[r]) {
+    for (r, byte) in standing.iter().enumerate() {
+        if undercuts(*byte, left, right[r], costs[r]) {
             return false;
         }
     }
@@ -91,8 +91,8 @@ fn grid_under<K: Cost>(n: u16, costs: &[K], standing: &[u8], left: &[K], right: 
     requires tables { ArePairTables K.Cost n costs.now standing.now }
     requires left_long { length left.now ≡ n }
     requires right_long { length right.now ≡ n }
-    ensures { IsTrue result ↔ Under (grid_in K.Cost n costs.now standing.now)
-        (columns_at K.meaning left.now) (columns_at K.meaning right.now) }
+    ensures { IsTrue result ↔ Under (grid_of K.Cost n costs.now standing.now)
+        (columns_at K.Cost left.now) (columns_at K.Cost right.now) }
 {
     let width = n as usize;
     for (l, price) in left.iter().enumerate() {

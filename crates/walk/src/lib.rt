@@ -7,7 +7,8 @@ ghost use Rattle.pairing.specs.Grid.{Optimum};
 ghost use Rattle.pairing.specs.Optima.{optima};
 ghost use Rattle.pairing.specs.Places.{places_of};
 ghost use Rattle.matching.specs.Answers.{IsNth, Follows, MarksOf};
-ghost use Rattle.tables.specs.Lent.{lent, grid, grid_in};
+ghost use Rattle.tables.specs.Said.{grid_of};
+ghost use Rattle.tables.specs.Lent.{lent, grid};
 ghost use Rattle.tables.specs.Together.{Together};
 
 mod certificate;
@@ -29,6 +30,7 @@ use tables::{Tables, places};
 #[derive(Clone, Copy, Debug, PartialEq, Eq)]
 pub struct Apart;
 
+// `thiserror` would write this impl without the ghost member, so that nothing pinned the text.
 impl fmt::Display for Apart {
     ghost output = { λ _. Some (codes "the tables do not hold together") };
 
@@ -52,10 +54,10 @@ pub fn start<K: Cost>(
     ensures accepted { IsOk result ↔ (length walk.old ≡ n × Together K.Cost
         (lent n costs.now standing.now partners.now left.now right.now)) }
     ensures first { OnOk result
-        (IsNth (optima (grid_in K.Cost n costs.now standing.now)) 0 walk.new) }
+        (IsNth (optima (grid_of K.Cost n costs.now standing.now)) 0 walk.new) }
 
     // So `next` accepts the list.
-    ensures optimum { OnOk result (Optimum (grid_in K.Cost n costs.now standing.now) walk.new) }
+    ensures optimum { OnOk result (Optimum (grid_of K.Cost n costs.now standing.now) walk.new) }
     ensures apart { OnErr result (walk.new ≡ walk.old) }
 {
     if walk.len() != n as usize {
@@ -91,10 +93,10 @@ pub fn next<K: Cost>(
     ensures accepted { let t = lent n costs.now standing.now partners.now left.now right.now in
         IsOk result ↔ (Together K.Cost t × Optimum (grid K.Cost t) walk.old) }
     ensures steps { IfOk result
-        (Follows (optima (grid_in K.Cost n costs.now standing.now)) walk.old walk.new) }
+        (Follows (optima (grid_of K.Cost n costs.now standing.now)) walk.old walk.new) }
 
     // So the next call accepts the list too.
-    ensures optimum { OnOk result (Optimum (grid_in K.Cost n costs.now standing.now) walk.new) }
+    ensures optimum { OnOk result (Optimum (grid_of K.Cost n costs.now standing.now) walk.new) }
     ensures apart { OnErr result (walk.new ≡ walk.old) }
 {
     let tables = Tables {
@@ -128,7 +130,7 @@ pub fn marks<K: Cost>(
     ensures accepted { IsOk result ↔ (length table.old ≡ places_of n × Together K.Cost
         (lent n costs.now standing.now partners.now left.now right.now)) }
     ensures marks { OnOk result
-        (MarksOf n (optima (grid_in K.Cost n costs.now standing.now)) table.new) }
+        (MarksOf n (optima (grid_of K.Cost n costs.now standing.now)) table.new) }
     ensures apart { OnErr result (table.new ≡ table.old) }
 {
     if table.len() != places(n) {

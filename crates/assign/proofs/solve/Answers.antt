@@ -31,7 +31,7 @@ pair_rest-holders-requires g c =
             (weight_at kind cheapest.new.right) cheapest.ensures.cheapest
             (has first.result.out) first.new.partners first.result.holders partnered first.ensures;
         priced = λ j h. within_more COST_LIMIT INNER_PRICE_LIMIT
-            (columns_at g.K.Cost.meaning cheapest.new.right j) (omega arith)
+            (columns_at g.K.Cost cheapest.new.right j) (omega arith)
             (cheapest.ensures.bound j h);
         unsold = λ j h _. cheapest.ensures.bound j h;
       };

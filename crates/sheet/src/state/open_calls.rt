@@ -121,8 +121,8 @@ impl OpenSheet {
     /// `right`, which have n places each.
     ///
     /// Refused, in this order: a table of the wrong length; a standing byte above 1, or a standing
-    /// pair's cost that is not within 10^9; no perfect pairing, with the crowd set and its shortage.
-    /// The open sheet then comes back, and all tables are as they were.
+    /// pair's cost that is not within 10^9; no perfect pairing, with the crowd set and its
+    /// shortage. The open sheet then comes back, and all tables are as they were.
     pub fn settle<K: Cost>(
         self,
         costs: &[K],

@@ -1,5 +1,5 @@
-//! The calls on a settled sheet: quote a pair, total the partners, mark the pairs that occur, start a
-//! walk.
+//! The calls on a settled sheet: quote a pair, total the partners, mark the pairs that occur, start
+//! a walk.
 
 ghost use Rattle.std.specs.Prelude.{◌≡◌, ⊤, length, None};
 ghost use Rattle.tables.specs.Lent.{lent};

@@ -3,7 +3,7 @@
 use Rattle.std.proofs.Common.{subst, ap, ◌∙◌}
 use Rattle.pairing.specs.Rows.{pairings}
 use Rattle.matching.specs.Answers.{IsNth}
-use Rattle.tables.specs.Lent.{grid_in}
+use Rattle.tables.specs.Said.{grid_of}
 use Rattle.walk.proofs.Walking.{nth_optimum}
 use Rattle.walk.proofs.start.Goals as goal
 
@@ -14,7 +14,7 @@ returns-clause-first g c =
 
 pub returns-clause-optimum : goal.returns-clause-optimum
 returns-clause-optimum g c =
-    nth_optimum (grid_in g.K.Cost c.args.n c.args.costs.now c.args.standing.now) 0
+    nth_optimum (grid_of g.K.Cost c.args.n c.args.costs.now c.args.standing.now) 0
     c.make_first.new.p
     (subst (λ ps. IsNth ps 0 c.make_first.new.p)
     (ap pairings c.as_slice.ensures.rows ∙ c.in-Some.ensures.certified.optima_are)

@@ -1,7 +1,6 @@
 -- The search comes to a free right block, since some pairing is perfect; then prices are lowered
 -- and pairs exchanged.
-use Rattle.std.proofs.Common.{◌≡◌, ℕ, true, false, eqb, length, sym, ap, ◌∙◌, subst, arith}
-use Rattle.std.proofs.Common.{⊎_elim}
+use Rattle.std.proofs.Common.{◌≡◌, ℕ, true, false, eqb, length, sym, ap, ◌∙◌, subst, arith, ⊎_elim}
 use Rattle.std.proofs.lemmas.Bool.{or_left, or_right, cases_Bool, both_ways, eq-eqb}
 use Rattle.cost.specs.declared.TheConstants.{COST_LIMIT}
 use Rattle.cost.specs.Columns.{Within}

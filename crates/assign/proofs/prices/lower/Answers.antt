@@ -19,20 +19,19 @@ use Rattle.assign.proofs.prices.lower.Goals as goal
 pub loop-c-init : goal.loop-c-init
 loop-c-init g c =
     let kind = g.K.Cost in
-    let meaning = g.K.Cost.meaning in
     let goal = c.args.goal in
     let inside = c.requires.inside goal c.requires.goal in (
       tt,
       tt,
       rw c.into_iter-c-iterator.ensures.into_iter_gives
           (lowering_none (length c.args.dist.now) (has c.args.taken)
-          (weight (meaning c.exact_difference-far.result)) (weight_at kind c.args.dist.now)
-          (columns_at meaning c.args.right.now) c.requires.priced),
+          (weight (kind.meaning c.exact_difference-far.result)) (weight_at kind c.args.dist.now)
+          (columns_at kind c.args.right.now) c.requires.priced),
       c.exact_difference-far.ensures.bound DISTANCE_LIMIT COST_LIMIT
-          (read_within meaning DISTANCE_LIMIT DISTANCE_LIMIT c.args.dist.now goal
+          (read_within kind DISTANCE_LIMIT DISTANCE_LIMIT c.args.dist.now goal
           c.index-dist-goal.result inside c.index-dist-goal.is (omega arith)
           (c.requires.far goal c.requires.goal))
-          (read_within meaning COST_LIMIT COST_LIMIT c.args.right.now goal c.index-right-goal.result
+          (read_within kind COST_LIMIT COST_LIMIT c.args.right.now goal c.index-right-goal.result
           (omega (arith, c.requires.sized, inside)) c.index-right-goal.is (omega arith)
           c.requires.unsold)
           (omega arith),
@@ -40,21 +39,20 @@ loop-c-init g c =
 
 pub exact_difference-requires : goal.exact_difference-requires
 exact_difference-requires g c =
-    let meaning = g.K.Cost.meaning in
+    let kind = g.K.Cost in
     let r = c.in-Some.c in
     let taken = c.loop-c.invariant.2.part r c.in-Some.ensures.steps.member in
     record {
-      first = read_within meaning DISTANCE_LIMIT HALF_RAIL c.args.dist.now r
+      first = read_within kind DISTANCE_LIMIT HALF_RAIL c.args.dist.now r
           c.index-dist-c.result (c.requires.inside r taken) c.index-dist-c.is (omega arith)
           (c.requires.far r taken);
-      second = within_more LEFT_PRICE_LIMIT HALF_RAIL (meaning c.exact_difference-far.result)
+      second = within_more LEFT_PRICE_LIMIT HALF_RAIL (kind.meaning c.exact_difference-far.result)
           (omega arith) c.loop-c.invariant.3;
     }
 
 pub loop-c-preserved : goal.loop-c-preserved
 loop-c-preserved g c =
     let kind = g.K.Cost in
-    let meaning = g.K.Cost.meaning in
     let n = length c.args.dist.now in
     let dist = c.args.dist.now in
     let right = c.loop-c.right in
@@ -67,40 +65,41 @@ loop-c-preserved g c =
     let in_right : c.in-Some.c < length c.loop-c.right = omega (arith, c.requires.sized) in (
       tt,
       tt,
-      lowering_take n (has c.args.taken) (weight (meaning far)) (weight_at kind dist)
-          (columns_at meaning c.args.right.now) (has c.loop-c.c-iterator) (columns_at meaning right)
+      lowering_take n (has c.args.taken) (weight (kind.meaning far)) (weight_at kind dist)
+          (columns_at kind c.args.right.now) (has c.loop-c.c-iterator) (columns_at kind right)
           c.loop-c.invariant.2
-          r (has c.next.new.self) (columns_at meaning (set right r x)) member
+          r (has c.next.new.self) (columns_at kind (set right r x)) member
           c.in-Some.ensures.steps.others
-          (put_weighs meaning right r x in_right (meaning c.index-dist-c.result)
-          (columns_at meaning dist r) (meaning far) (meaning far) c.exact_difference.ensures.sum
-          (value_at meaning dist r c.index-dist-c.result inside c.index-dist-c.is) refl)
-          (put_within meaning right r x in_right INNER_PRICE_LIMIT
-          (within_more (DISTANCE_LIMIT + LEFT_PRICE_LIMIT) INNER_PRICE_LIMIT (meaning x)
+          (put_weighs kind right r x in_right (kind.meaning c.index-dist-c.result)
+          (columns_at kind dist r) (kind.meaning far) (kind.meaning far)
+          c.exact_difference.ensures.sum
+          (value_at kind dist r c.index-dist-c.result inside c.index-dist-c.is) refl)
+          (put_within kind right r x in_right INNER_PRICE_LIMIT
+          (within_more (DISTANCE_LIMIT + LEFT_PRICE_LIMIT) INNER_PRICE_LIMIT (kind.meaning x)
           (omega arith)
           (c.exact_difference.ensures.bound DISTANCE_LIMIT LEFT_PRICE_LIMIT
-          (read_within meaning DISTANCE_LIMIT DISTANCE_LIMIT dist r c.index-dist-c.result inside
+          (read_within kind DISTANCE_LIMIT DISTANCE_LIMIT dist r c.index-dist-c.result inside
           c.index-dist-c.is (omega arith) (c.requires.far r taken))
           c.loop-c.invariant.3 (omega arith))))
-          (λ j ne. put_other meaning right r j x ne),
+          (λ j ne. put_other kind right r j x ne),
       c.loop-c.invariant.3,
     )
 
 pub returns : goal.returns
 returns g c =
-    let meaning = g.K.Cost.meaning in
+    let kind = g.K.Cost in
     let dist = c.args.dist.now in
     let right = c.args.right.now in
     let goal = c.args.goal in
     let inside = c.requires.inside goal c.requires.goal in
     let in_right : c.args.goal < length c.args.right.now =
     omega (arith, c.requires.sized, inside) in
-    let far = difference_weighs (weight (meaning c.exact_difference-far.result))
-    (meaning c.index-dist-goal.result) (columns_at meaning dist goal)
-    (meaning c.index-right-goal.result) (columns_at meaning right goal)
+    let far = difference_weighs (weight (kind.meaning c.exact_difference-far.result))
+    (kind.meaning c.index-dist-goal.result) (columns_at kind dist goal)
+    (kind.meaning c.index-right-goal.result) (columns_at kind right goal)
     c.exact_difference-far.ensures.sum
-    (value_at meaning dist goal c.index-dist-goal.result inside c.index-dist-goal.is)
-    (value_at meaning right goal c.index-right-goal.result in_right c.index-right-goal.is) in
+    (value_at kind dist goal c.index-dist-goal.result inside c.index-dist-goal.is)
+    (value_at kind right goal c.index-right-goal.result in_right c.index-right-goal.is) in
     record {
       fallen = λ k t. omega (
         arith,

@@ -30,7 +30,7 @@ loop-l-init g c =
 
 pub offer-requires : goal.offer-requires
 offer-requires g c =
-    let m = g.K.Cost.meaning in
+    let kind = g.K.Cost in
     let n = length c.args.rows.now in
     let l = c.loop-l.l in
     let lies = c.loop-l-test.true in
@@ -41,31 +41,30 @@ offer-requires g c =
       block = omega (arith, c.requires.lent.few);
       inside = λ j r. omega (arith, long, c.requires.lent.inside l j lies r);
       modest = λ j r. subst (Within COST_LIMIT)
-          (sym (columns_at_lem m c.args.costs.now n l lies c.requires.lent.square j
+          (sym (columns_at_lem kind c.args.costs.now n l lies c.requires.lent.square j
           (c.requires.lent.inside l j lies r))) (c.requires.lent.modest l j lies r);
       near = subst (Within SHIFT_LIMIT)
-          (sym (ap m c.zero.ensures ∙ g.met.K.Cost.laws.zero_columns))
+          (sym (ap kind.meaning c.zero.ensures ∙ g.met.K.Cost.laws.zero_columns))
           (zeros_within SHIFT_LIMIT g.K.Cost.columns);
     }
 
 pub loop-l-preserved : goal.loop-l-preserved
 loop-l-preserved g c =
     let kind = g.K.Cost in
-    let m = g.K.Cost.meaning in
     let rows = c.args.rows.now in
     let n = length c.args.rows.now in
     let costs = c.args.costs.now in
     let l = c.loop-l.l in
     let lies = c.loop-l-test.true in
-    let zero = ap m c.zero.ensures ∙ g.met.K.Cost.laws.zero_columns in (
+    let zero = ap kind.meaning c.zero.ensures ∙ g.met.K.Cost.laws.zero_columns in (
       cheapest_more n (holds rows) (cost_weight kind n costs) l (has c.loop-l.priced)
           (at c.loop-l.row)
-          (weight_at kind c.loop-l.right) c.loop-l.invariant.0 (weight (m c.zero.result))
+          (weight_at kind c.loop-l.right) c.loop-l.invariant.0 (weight (kind.meaning c.zero.result))
           (ap weight zero ∙ weight_zeros g.K.Cost.columns)
           (weight_at kind (take (l * n + n - l * n) (drop (l * n) costs))) (holds rows l)
           (λ j. refl)
           (λ j r. c.requires.lent.inside l j lies r)
-          (λ j h. ap weight (columns_at_lem m costs n l lies c.requires.lent.square j h))
+          (λ j h. ap weight (columns_at_lem kind costs n l lies c.requires.lent.square j h))
           (has c.union-priced.result) c.union-priced.ensures (at c.offer.new.via)
           (weight_at kind c.offer.new.dist) c.offer.ensures.offered,
       λ k h. c.offer.ensures.bound 0 k

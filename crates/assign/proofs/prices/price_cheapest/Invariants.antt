@@ -12,7 +12,6 @@ use Rattle.assign.proofs.prices.price_cheapest.Given as goal
 abbrev pub invariant-loop-l : goal.invariant-loop-l
 invariant-loop-l g l =
     let kind = g.K.Cost in
-    let meaning = g.K.Cost.meaning in
     let n = length l.rows in
     CheapestOf l.l n (holds l.rows) (cost_weight kind n l.costs) (has l.priced) (at l.row)
-    (weight_at kind l.right) × Bounded meaning COST_LIMIT n l.right
+    (weight_at kind l.right) × Bounded kind COST_LIMIT n l.right

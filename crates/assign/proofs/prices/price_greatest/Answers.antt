@@ -40,7 +40,6 @@ grow-requires g c =
 pub price_rows-requires : goal.price_rows-requires
 price_rows-requires g c =
     let kind = g.K.Cost in
-    let m = g.K.Cost.meaning in
     let zero = λ (k : ℕ) (h : k < length c.args.rows.now). cleared_weighs kind g.K.Cost.zero
     g.K.Cost.columns g.met.K.Cost.laws.zero_columns (length c.args.left.now) c.clear.new.table
     c.clear.ensures k (omega (arith, c.requires.lefts)) in
@@ -54,14 +53,13 @@ price_rows-requires g c =
       lefts = omega (arith, c.grow.auto.dist, c.clear.auto.table, c.requires.lefts);
       rights = c.copy_from_slice.ensures.len ∙ c.requires.rights;
       pairs = λ l h. c.requires.paired.kept.pairs.standing l h refl;
-      far = λ k h. subst (λ z. Within DISTANCE_LIMIT (columns_at m z k))
+      far = λ k h. subst (λ z. Within DISTANCE_LIMIT (columns_at kind z k))
           (sym c.copy_from_slice.ensures.after) (c.grow.ensures.bound k (taken k h));
     }
 
 pub returns : goal.returns
 returns g c =
     let kind = g.K.Cost in
-    let m = g.K.Cost.meaning in
     let zero = λ (k : ℕ) (h : k < length c.args.rows.now). cleared_weighs kind g.K.Cost.zero
     g.K.Cost.columns g.met.K.Cost.laws.zero_columns (length c.args.left.now) c.clear.new.table
     c.clear.ensures k (omega (arith, c.requires.lefts)) in
@@ -75,10 +73,11 @@ returns g c =
           (has c.all.result) c.all.ensures (replicate 64 0) c.clear.new.table c.grow.new.dist zero
           c.grow.result c.grow.ensures.grown c.price_rows.new.left c.copy_from_slice.new.self
           c.copy_from_slice.ensures.after c.price_rows.ensures.tight;
-      lefts = λ k h. within_more LEFT_PRICE_LIMIT PRICE_LIMIT (columns_at m c.price_rows.new.left k)
+      lefts = λ k h. within_more LEFT_PRICE_LIMIT PRICE_LIMIT
+          (columns_at kind c.price_rows.new.left k)
           (omega arith) (c.price_rows.ensures.bound k h);
-      rights = λ k h. subst (λ z. Within PRICE_LIMIT (columns_at m z k))
+      rights = λ k h. subst (λ z. Within PRICE_LIMIT (columns_at kind z k))
           (sym c.copy_from_slice.ensures.after)
-          (within_more DISTANCE_LIMIT PRICE_LIMIT (columns_at m c.grow.new.dist k) (omega arith)
+          (within_more DISTANCE_LIMIT PRICE_LIMIT (columns_at kind c.grow.new.dist k) (omega arith)
           (c.grow.ensures.bound k (taken k h)));
     }

@@ -16,7 +16,6 @@ use Rattle.assign.proofs.prices.price_rows.Goals as goal
 pub exact_difference-requires : goal.exact_difference-requires
 exact_difference-requires g c =
     let kind = g.K.Cost in
-    let meaning = g.K.Cost.meaning in
     let rows = c.args.rows.now in
     let costs = c.args.costs.now in
     let l = c.loop-l.l in
@@ -25,10 +24,10 @@ exact_difference-requires g c =
     let stands = c.requires.pairs l lies in
     let below = c.requires.lent.inside l r lies stands in
     record {
-      first = read_within meaning COST_LIMIT HALF_RAIL costs (place_of (length rows) l r)
+      first = read_within kind COST_LIMIT HALF_RAIL costs (place_of (length rows) l r)
           c.index-costs-l.result (place_inside kind rows costs c.requires.lent l r lies stands)
           c.index-costs-l.is (omega arith) (c.requires.lent.modest l r lies stands);
-      second = read_within meaning DISTANCE_LIMIT HALF_RAIL c.args.right.now r
+      second = read_within kind DISTANCE_LIMIT HALF_RAIL c.args.right.now r
           c.index-right-c.result (omega (arith, c.requires.rights)) c.index-right-c.is (omega arith)
           (c.requires.far r below);
     }
@@ -36,7 +35,6 @@ exact_difference-requires g c =
 pub loop-l-preserved : goal.loop-l-preserved
 loop-l-preserved g c =
     let kind = g.K.Cost in
-    let meaning = g.K.Cost.meaning in
     let rows = c.args.rows.now in
     let n = length c.args.rows.now in
     let costs = c.args.costs.now in
@@ -52,17 +50,17 @@ loop-l-preserved g c =
     let in_right : r < length right = omega (arith, c.requires.rights) in
     let in-costs = place_inside kind rows costs c.requires.lent l r lies stands in
     priced_more (cost_weight kind n costs) (at c.args.partners.now) (weight_at kind right) l
-    (columns_at meaning left) (columns_at meaning (set left l x)) c.loop-l.invariant
-    (put_weighs meaning left l x in_left (meaning c.index-costs-l.result)
-    (columns_at meaning costs (place_of n l r)) (meaning c.index-right-c.result)
-    (columns_at meaning right r) c.exact_difference.ensures.sum
-    (value_at meaning costs (place_of n l r) c.index-costs-l.result in-costs c.index-costs-l.is)
-    (value_at meaning right r c.index-right-c.result in_right c.index-right-c.is))
-    (put_within meaning left l x in_left LEFT_PRICE_LIMIT
+    (columns_at kind left) (columns_at kind (set left l x)) c.loop-l.invariant
+    (put_weighs kind left l x in_left (kind.meaning c.index-costs-l.result)
+    (columns_at kind costs (place_of n l r)) (kind.meaning c.index-right-c.result)
+    (columns_at kind right r) c.exact_difference.ensures.sum
+    (value_at kind costs (place_of n l r) c.index-costs-l.result in-costs c.index-costs-l.is)
+    (value_at kind right r c.index-right-c.result in_right c.index-right-c.is))
+    (put_within kind left l x in_left LEFT_PRICE_LIMIT
     (c.exact_difference.ensures.bound COST_LIMIT DISTANCE_LIMIT
-    (read_within meaning COST_LIMIT COST_LIMIT costs (place_of n l r) c.index-costs-l.result
+    (read_within kind COST_LIMIT COST_LIMIT costs (place_of n l r) c.index-costs-l.result
     in-costs c.index-costs-l.is (omega arith) (c.requires.lent.modest l r lies stands))
-    (read_within meaning DISTANCE_LIMIT DISTANCE_LIMIT right r c.index-right-c.result in_right
+    (read_within kind DISTANCE_LIMIT DISTANCE_LIMIT right r c.index-right-c.result in_right
     c.index-right-c.is (omega arith) (c.requires.far r below))
     (omega arith)))
-    (λ j ne. put_other meaning left l j x ne)
+    (λ j ne. put_other kind left l j x ne)

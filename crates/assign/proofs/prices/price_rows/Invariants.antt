@@ -9,6 +9,5 @@ use Rattle.assign.proofs.prices.price_rows.Given as goal
 abbrev pub invariant-loop-l : goal.invariant-loop-l
 invariant-loop-l g l =
     let kind = g.K.Cost in
-    let meaning = g.K.Cost.meaning in
     PricedBelow l.l (cost_weight kind (length l.rows) l.costs) (at l.partners)
-    (weight_at kind l.right) (columns_at meaning l.left)
+    (weight_at kind l.right) (columns_at kind l.left)

@@ -8,9 +8,8 @@ use mathlib.Core.Path.{fun_ext}
 use Rattle.std.proofs.lemmas.List.{length-set}
 use Rattle.std.proofs.lemmas.Int.{ints}
 use Rattle.std.proofs.lemmas.Bool.{and_parts, or_cases, both_ways}
-use Rattle.cost.specs.declared.TheConstants.{RAIL}
+use Rattle.cost.specs.declared.TheConstants.{RAIL, COST_LIMIT}
 use Rattle.cost.specs.declared.Cost.{Ghosts}
-use Rattle.cost.specs.declared.TheConstants.{COST_LIMIT}
 use Rattle.cost.specs.Columns.{Within}
 use Rattle.cost.proofs.Exact.{within_more}
 use Rattle.cost.specs.Weights.{weight}
@@ -37,7 +36,7 @@ far_at t = COST_LIMIT + t * (2 * COST_LIMIT)
 
 pub nearest-requires : goal.nearest-requires
 nearest-requires g c =
-    let m = g.K.Cost.meaning in
+    let kind = g.K.Cost in
     let seen = λ (k : ℕ) (r : has c.difference.result k ≡ true). (and_parts (has c.loop-t.seen k)
     (not (has c.loop-t.taken.reached k)) (sym (c.difference.ensures k) ∙ r)).0 in
     record {
@@ -49,7 +48,7 @@ nearest-requires g c =
         c.loop-t.auto.dist,
       );
       far = λ k r. within_more (far_at c.loop-t.t) DISTANCE_LIMIT
-          (columns_at m c.loop-t.dist k) (omega (arith, c.requires.lent.few))
+          (columns_at kind c.loop-t.dist k) (omega (arith, c.requires.lent.few))
           (c.loop-t.invariant.1 k (seen k r));
       priced = λ k h. c.requires.priced k (omega (arith, c.requires.dists, c.loop-t.auto.dist));
     }
@@ -93,7 +92,7 @@ returns-in_default g c =
           );
       inside = λ k t. over.inside k (over.among k t);
       bound = λ k t. within_more (far_at c.loop-t.t) DISTANCE_LIMIT
-          (columns_at g.K.Cost.meaning c.loop-t.dist k) (omega (arith, c.requires.lent.few))
+          (columns_at g.K.Cost c.loop-t.dist k) (omega (arith, c.requires.lent.few))
           (c.loop-t.invariant.1 k (over.among k t));
     }
 
@@ -140,7 +139,7 @@ returns-then-not-contains g c =
       );
       inside = λ k t. over.inside k (among k t);
       bound = λ k t. within_more (far_at c.loop-t.t) DISTANCE_LIMIT
-          (columns_at g.K.Cost.meaning c.loop-t.dist k) (omega (arith, c.requires.lent.few))
+          (columns_at g.K.Cost c.loop-t.dist k) (omega (arith, c.requires.lent.few))
           (c.loop-t.invariant.1 k (among k t));
     }
 
@@ -165,7 +164,7 @@ returns g c =
           );
       inside = λ k t. over.inside k (over.among k t);
       bound = λ k t. within_more (far_at c.loop-t.t) DISTANCE_LIMIT
-          (columns_at g.K.Cost.meaning c.loop-t.dist k) (omega (arith, c.requires.lent.few))
+          (columns_at g.K.Cost c.loop-t.dist k) (omega (arith, c.requires.lent.few))
           (c.loop-t.invariant.1 k (over.among k t));
     }
 
@@ -176,26 +175,26 @@ module _ {K : Type 0} (kind : Ghosts K) (costs dist : List K) (n l a t : ℕ) (f
     (x y z : K)
     (x-is : x ≡ get_or dist a x)
     (y-is : y ≡ get_or (take (l * n + n - l * n) (drop (l * n) costs)) a y)
-    (modest : Within COST_LIMIT (columns_at kind.meaning costs (place_of n l a)))
-    (far : Within (far_at t) (columns_at kind.meaning dist a)) where
+    (modest : Within COST_LIMIT (columns_at kind costs (place_of n l a)))
+    (far : Within (far_at t) (columns_at kind dist a)) where
   a_in_row : a < length (take (l * n + n - l * n) (drop (l * n) costs))
   a_in_row = omega (arith, row_length costs n l hl square)
 
   dist_within : (b : ℕ) → far_at t ≤ b → Within b (kind.meaning x)
-  dist_within b le = read_within kind.meaning (far_at t) b dist a x (omega arith) x-is le far
+  dist_within b le = read_within kind (far_at t) b dist a x (omega arith) x-is le far
 
   cost_within : (b : ℕ) → COST_LIMIT ≤ b → Within b (kind.meaning y)
-  cost_within b le = read_within kind.meaning COST_LIMIT b
+  cost_within b le = read_within kind COST_LIMIT b
       (take (l * n + n - l * n) (drop (l * n) costs)) a y a_in_row y-is le
-      (subst (Within COST_LIMIT) (sym (columns_at_lem kind.meaning costs n l hl square a ha))
+      (subst (Within COST_LIMIT) (sym (columns_at_lem kind costs n l hl square a ha))
       modest)
 
   shift_weighs : weight (kind.meaning z) ≡ weight (kind.meaning x) -ℤ weight (kind.meaning y)
       → weight (kind.meaning z) +ℤ cost_weight kind n costs l a ≡ weight_at kind dist a
   shift_weighs e =
-      let p = ap weight (value_at kind.meaning dist a x (omega arith) x-is) in
-      let q = ap weight (value_at kind.meaning (take (l * n + n - l * n) (drop (l * n) costs)) a y
-      a_in_row y-is ∙ columns_at_lem kind.meaning costs n l hl square a ha) in
+      let p = ap weight (value_at kind dist a x (omega arith) x-is) in
+      let q = ap weight (value_at kind (take (l * n + n - l * n) (drop (l * n) costs)) a y
+      a_in_row y-is ∙ columns_at_lem kind costs n l hl square a ha) in
       omega (arith, ints)
 
   shift_within : ((b b' : ℕ) → Within b (kind.meaning x) → Within b' (kind.meaning y)
@@ -233,7 +232,7 @@ exact_difference-shift-requires g c =
 
 pub offer-requires : goal.offer-requires
 offer-requires g c =
-    let m = g.K.Cost.meaning in
+    let kind = g.K.Cost in
     let n = length c.args.rows.now in
     let a = c.in-Some.a in
     let l = at c.args.holders.now.row c.in-Some.a in
@@ -256,11 +255,11 @@ offer-requires g c =
       block = omega (arith, hl, c.requires.lent.few);
       inside = λ j r. omega (arith, long, c.requires.lent.inside l j hl (stands j r));
       modest = λ j r. subst (Within COST_LIMIT)
-          (sym (columns_at_lem m c.args.costs.now n l hl c.requires.lent.square j
+          (sym (columns_at_lem kind c.args.costs.now n l hl c.requires.lent.square j
           (c.requires.lent.inside l j hl (stands j r))))
           (c.requires.lent.modest l j hl (stands j r));
       near = within_more (far_at c.loop-t.t + COST_LIMIT) SHIFT_LIMIT
-          (m c.exact_difference-shift.result) (omega (arith, c.requires.lent.few))
+          (kind.meaning c.exact_difference-shift.result) (omega (arith, c.requires.lent.few))
           (shift_within g.K.Cost c.args.costs.now c.loop-t.dist n l a c.loop-t.t
           c.requires.lent.few
           c.requires.lent.square sized hl ha c.loop-t-test.true c.index-dist-a.result
@@ -271,7 +270,6 @@ offer-requires g c =
 pub loop-t-preserved : goal.loop-t-preserved
 loop-t-preserved g c =
     let kind = g.K.Cost in
-    let m = g.K.Cost.meaning in
     let n = length c.args.rows.now in
     let a = c.in-Some.a in
     let l = at c.args.holders.now.row c.in-Some.a in
@@ -305,10 +303,10 @@ loop-t-preserved g c =
           (weight_at kind c.loop-t.dist) c.loop-t.t c.loop-t.invariant.0 a near
           (has c.insert.new.self) taken' c.loop-t.invariant.2 c.requires.lent.few
           l refl held (has c.difference-to.result) (has c.union-seen.result)
-          (λ j _. c.difference-to.ensures j) (weight (m c.exact_difference-shift.result))
+          (λ j _. c.difference-to.ensures j) (weight (kind.meaning c.exact_difference-shift.result))
           (weight_at kind (take (l * n + n - l * n) (drop (l * n) c.args.costs.now)))
           (λ j h. ap weight
-          (columns_at_lem m c.args.costs.now n l hl c.requires.lent.square j h))
+          (columns_at_lem kind c.args.costs.now n l hl c.requires.lent.square j h))
           (shift_weighs kind c.args.costs.now c.loop-t.dist n l a c.loop-t.t c.requires.lent.few
           c.requires.lent.square sized hl ha c.loop-t-test.true c.index-dist-a.result
           c.index-row-a.result c.exact_difference-shift.result
@@ -316,16 +314,17 @@ loop-t-preserved g c =
           c.union-seen.ensures (λ j r. c.requires.lent.inside l j hl (stands j r))
           (at c.offer.new.via) (weight_at kind c.offer.new.dist) c.offer.ensures.offered,
       λ j r. within_more (far_at c.loop-t.t + COST_LIMIT + COST_LIMIT) (far_at (c.loop-t.t + 1))
-          (columns_at m c.offer.new.dist j)
+          (columns_at kind c.offer.new.dist j)
           (omega arith)
           (c.offer.ensures.bound (far_at c.loop-t.t + COST_LIMIT) j within
           (omega (arith, c.requires.lent.few))
-          (λ f. still_near c.loop-t.t (columns_at m c.loop-t.dist j)
+          (λ f. still_near c.loop-t.t (columns_at kind c.loop-t.dist j)
           (c.loop-t.invariant.1 j
           (⊎_elim (λ x. x) (λ x. absurd (both_ways (has c.difference-to.result j) f x))
           (or_cases (has c.loop-t.seen j) (has c.difference-to.result j)
           (sym (c.union-seen.ensures j) ∙ r)))))
-          (λ x. still_near c.loop-t.t (columns_at m c.loop-t.dist j) (c.loop-t.invariant.1 j x))),
+          (λ x. still_near c.loop-t.t (columns_at kind c.loop-t.dist j)
+          (c.loop-t.invariant.1 j x))),
       length-set c.loop-t.taken.rank a c.loop-t.t ∙ c.loop-t.invariant.2,
       c.loop-t.invariant.3,
     )

@@ -1,7 +1,6 @@
 -- The search starts at the costs of left block k.
 use Rattle.std.proofs.Common.{◌≡◌, ℕ, ◌+◌, ◌-◌, ◌*◌, length, take, drop, replicate, pos, sym, ap}
-use Rattle.std.proofs.Common.{◌∙◌}
-use Rattle.std.proofs.Common.{subst, arith}
+use Rattle.std.proofs.Common.{◌∙◌, subst, arith}
 use Rattle.std.proofs.lemmas.Bool.{both_ways}
 use Rattle.cost.specs.declared.TheConstants.{COST_LIMIT}
 use Rattle.cost.specs.Columns.{Within}
@@ -32,7 +31,7 @@ zero-within g b x e =
 
 pub offer-requires : goal.offer-requires
 offer-requires g c =
-    let m = g.K.Cost.meaning in
+    let kind = g.K.Cost in
     let n = length c.args.rows.now in
     let k = c.args.k in
     let long = row_length c.args.costs.now n k c.requires.room c.requires.lent.square in
@@ -42,7 +41,7 @@ offer-requires g c =
       block = omega (arith, c.requires.room, c.requires.lent.few);
       inside = λ j r. omega (arith, long, c.requires.lent.inside k j c.requires.room r);
       modest = λ j r. subst (Within COST_LIMIT)
-          (sym (columns_at_lem m c.args.costs.now n k c.requires.room c.requires.lent.square j
+          (sym (columns_at_lem kind c.args.costs.now n k c.requires.room c.requires.lent.square j
           (c.requires.lent.inside k j c.requires.room r)))
           (c.requires.lent.modest k j c.requires.room r);
       near = zero-within g SHIFT_LIMIT c.zero.result c.zero.ensures;
@@ -65,7 +64,6 @@ grow-requires g c = record {
 pub returns : goal.returns
 returns g c =
     let kind = g.K.Cost in
-    let m = g.K.Cost.meaning in
     let n = length c.args.rows.now in
     let k = c.args.k in
     let stands = holds c.args.rows.now in
@@ -75,10 +73,10 @@ returns g c =
     record {
       grown = λ out p kept. c.grow.ensures.grown out (from_row stands cost k) p kept
           (started_row n k stands cost out p o v kept (has c.empty.result) c.empty.ensures
-          (weight (m c.zero.result)) (zero_weighs g c.zero.result c.zero.ensures)
+          (weight (kind.meaning c.zero.result)) (zero_weighs g c.zero.result c.zero.ensures)
           (weight_at kind (take (k * n + n - k * n) (drop (k * n) c.args.costs.now)))
           (λ j h. ap weight
-          (columns_at_lem m c.args.costs.now n k c.requires.room c.requires.lent.square j h))
+          (columns_at_lem kind c.args.costs.now n k c.requires.room c.requires.lent.square j h))
           (weight_at kind c.args.dist.now) (at (replicate 64 0)) (weight_at kind c.offer.new.dist)
           (at c.offer.new.via) c.offer.ensures.offered);
       inside = c.grow.ensures.inside;

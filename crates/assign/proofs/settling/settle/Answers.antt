@@ -4,8 +4,7 @@ use Rattle.std.proofs.Common.{subst, sym, ◌∙◌, rules}
 use Rattle.pairing.specs.Rows.{Pairs, pairings}
 use Rattle.matching.specs.Answers.{IsNth}
 use Rattle.tables.specs.Lent.{lent, IsUsable}
-use Rattle.assign.specs.Answer.{Solved, Answers, Settled}
-use Rattle.assign.specs.declared.Outcome.TheVariants.{Optimal}
+use Rattle.assign.specs.Answer.{Solved, Settled}
 use Rattle.assign.proofs.Firsts.{usable_still, paired, settled, together}
 use Rattle.assign.proofs.settling.settle.Goals as goal
 

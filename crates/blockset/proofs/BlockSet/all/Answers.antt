@@ -7,11 +7,12 @@ use Rattle.blockset.specs.Has.{has}
 use Rattle.blockset.proofs.Bits.{bit_ones}
 use Rattle.blockset.proofs.BlockSet.all.Goals as goal
 
-pub returns-then-n-lt64 : goal.returns-then-n-lt64
+pub returns-then-n-lt-SET_WIDTH : goal.returns-then-n-lt-SET_WIDTH
 unfolding has
-returns-then-n-lt64 c j = ap (λ m. ltb j 64 && bit (m - 1) j) (one_shl c.args.n 64 (omega arith))
+returns-then-n-lt-SET_WIDTH c j =
+    ap (λ m. ltb j 64 && bit (m - 1) j) (one_shl c.args.n 64 (omega arith))
     ∙ ap (λ b. ltb j 64 && b) (bit_ones c.args.n j)
 
-pub returns-else-n-lt64 : goal.returns-else-n-lt64
+pub returns-else-n-lt-SET_WIDTH : goal.returns-else-n-lt-SET_WIDTH
 unfolding has
-returns-else-n-lt64 c j = ap (λ b. ltb j 64 && b) (bit_ones 64 j) ∙ grind (arith, nat_tests)
+returns-else-n-lt-SET_WIDTH c j = ap (λ b. ltb j 64 && b) (bit_ones 64 j) ∙ grind (arith, nat_tests)

@@ -9,12 +9,12 @@ use Rattle.blockset.specs.Has.{has}
 use Rattle.blockset.proofs.Bits.{bit-or, bit-pow}
 use Rattle.blockset.proofs.BlockSet.insert.Goals as goal
 
-pub returns-then-block-lt64 : goal.returns-then-block-lt64
+pub returns-then-block-lt-SET_WIDTH : goal.returns-then-block-lt-SET_WIDTH
 unfolding has
-returns-then-block-lt64 c j =
+returns-then-block-lt-SET_WIDTH c j =
     let a = c.args.self.now.0 in
     let i = c.args.block in
-    ap (λ m. ltb j 64 && bit (bit_or a m) j) (one_shl i 64 c.if-block-lt64.true)
+    ap (λ m. ltb j 64 && bit (bit_or a m) j) (one_shl i 64 c.if-block-lt-SET_WIDTH.true)
     ∙ ap (λ x. ltb j 64 && x) (bit-or a (2 ^ i) j ∙ ap (λ x. bit a j || x) (bit-pow i j)
     ∙ or_comm (bit a j) (eqb j i))
     ∙ and-or_distrib_left (ltb j 64) (eqb j i) (bit a j)

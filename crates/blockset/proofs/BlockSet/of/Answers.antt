@@ -6,8 +6,8 @@ use Rattle.blockset.specs.Has.{has}
 use Rattle.blockset.proofs.Bits.{bit-pow}
 use Rattle.blockset.proofs.BlockSet.of.Goals as goal
 
-pub returns-then-block-lt64 : goal.returns-then-block-lt64
+pub returns-then-block-lt-SET_WIDTH : goal.returns-then-block-lt-SET_WIDTH
 unfolding has
-returns-then-block-lt64 c j = ap (λ m. ltb j 64 && bit m j)
-    (one_shl c.args.block 64 c.if-block-lt64.true) ∙ ap (λ b. ltb j 64 && b)
+returns-then-block-lt-SET_WIDTH c j = ap (λ m. ltb j 64 && bit m j)
+    (one_shl c.args.block 64 c.if-block-lt-SET_WIDTH.true) ∙ ap (λ b. ltb j 64 && b)
     (bit-pow c.args.block j)

@@ -15,14 +15,14 @@ use Rattle.blockset.proofs.Bits.{bit-pow}
 use Rattle.blockset.proofs.Holding.{has_block, bits_without}
 use Rattle.blockset.proofs.BlockSet.remove.Goals as goal
 
-pub returns-then-block-lt64 : goal.returns-then-block-lt64
+pub returns-then-block-lt-SET_WIDTH : goal.returns-then-block-lt-SET_WIDTH
 unfolding has
-returns-then-block-lt64 c j =
+returns-then-block-lt-SET_WIDTH c j =
     let a = c.args.self.now.0 in
     let i = c.args.block in
     ap (λ m. ltb j 64 && bit (bit_and a (18446744073709551615 - m)) j)
-    (one_shl i 64 c.if-block-lt64.true)
-    ∙ bits_without a (2 ^ i) j (pow-lt c.if-block-lt64.true)
+    (one_shl i 64 c.if-block-lt-SET_WIDTH.true)
+    ∙ bits_without a (2 ^ i) j (pow-lt c.if-block-lt-SET_WIDTH.true)
     ∙ ap (λ x. ltb j 64 && (bit a j && not x)) (bit-pow i j)
     ∙ sym (and_assoc (ltb j 64) (bit a j) (not (eqb j i)))
 
@@ -33,5 +33,6 @@ no_block s i j h = elim (cases_Bool (has s j)) [
   | inr f ↦ grind arith
 ]
 
-pub returns-else-block-lt64 : goal.returns-else-block-lt64
-returns-else-block-lt64 c j = no_block c.args.self.now c.args.block j c.if-block-lt64.false
+pub returns-else-block-lt-SET_WIDTH : goal.returns-else-block-lt-SET_WIDTH
+returns-else-block-lt-SET_WIDTH c j =
+    no_block c.args.self.now c.args.block j c.if-block-lt-SET_WIDTH.false

@@ -12,7 +12,7 @@ pub returns-then-not-in_order-clause-unusable : goal.returns-then-not-in_order-c
 returns-then-not-in_order-clause-unusable g c =
     let t = c.tables.inside in
     let long = subst HasLengths (sym c.tables.view_is) (c.fit.ensures.0 c.if-not-fit.false) in
-    let told = in_order_tells g.K.Cost.meaning t.costs.now t.standing.now (places_of t.size)
+    let told = in_order_tells g.K.Cost t.costs.now t.standing.now (places_of t.size)
     long.room.costs_long long.room.standing_long in
     subst (λ u. IsUnusable g.K.Cost u Order) c.tables.view_is (
       c.if-tables-gt-MOST_BLOCKS.false,
@@ -25,7 +25,7 @@ pub returns-clause-usable : goal.returns-clause-usable
 returns-clause-usable g c =
     let t = c.tables.inside in
     let long = subst HasLengths (sym c.tables.view_is) (c.fit.ensures.0 c.if-not-fit.false) in
-    let told = in_order_tells g.K.Cost.meaning t.costs.now t.standing.now (places_of t.size)
+    let told = in_order_tells g.K.Cost t.costs.now t.standing.now (places_of t.size)
     long.room.costs_long long.room.standing_long in
     subst (IsUsable g.K.Cost) c.tables.view_is (record {
       few = c.if-tables-gt-MOST_BLOCKS.false;

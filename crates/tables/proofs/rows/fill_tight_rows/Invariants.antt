@@ -8,7 +8,7 @@ use Rattle.tables.proofs.rows.fill_tight_rows.Given as goal
 
 abbrev pub invariant-loop-l : goal.invariant-loop-l
 invariant-loop-l g l =
-    let meaning = g.K.Cost.meaning in
+    let kind = g.K.Cost in
     Made l.l l.n (λ k r. adds_up (says_stands (byte_of l.n l.standing k r))
-    (columns_at meaning l.left k) (columns_at meaning l.right r)
-    (columns_at meaning l.costs (place_of l.n k r))) l.rows
+    (columns_at kind l.left k) (columns_at kind l.right r)
+    (columns_at kind l.costs (place_of l.n k r))) l.rows

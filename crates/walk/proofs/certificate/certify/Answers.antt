@@ -1,13 +1,8 @@
 -- What is sound holds together just where the partners are a pairing over the tight rows.
-use Rattle.std.proofs.Common.{sym, ◌∙◌, subst}
-use Rattle.pairing.specs.Rows.{Pairs}
+use Rattle.std.proofs.Common.{sym, subst, rules}
 use Rattle.matching.specs.Fit.{Fits}
-use Rattle.tables.specs.PairRows.{TightRows}
-use Rattle.tables.specs.Lent.{grid, left_price, right_price}
-use Rattle.std.proofs.Common.{◌≡◌, length, arith, rules}
 use Rattle.std.proofs.lemmas.Bool.Decides.{not_from_Decides}
-use Rattle.walk.proofs.Judging.{sound_if_together, together_if_paired, paired_if_together}
-use Rattle.walk.proofs.Judging.{certified, fits_from}
+use Rattle.walk.proofs.Judging.{sound_if_together, together_if_paired, certified, fits_from}
 use Rattle.walk.proofs.certificate.certify.Goals as goal
 
 pub returns-then-not-is_sound-clause-apart : goal.returns-then-not-is_sound-clause-apart

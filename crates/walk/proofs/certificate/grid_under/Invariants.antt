@@ -6,7 +6,7 @@ use Rattle.walk.proofs.certificate.grid_under.Given as goal
 
 abbrev pub invariant-loop-l : goal.invariant-loop-l
 invariant-loop-l g l =
-    let meaning = g.K.Cost.meaning in
-    let grid = grid_of g.K.Cost.columns meaning l.width l.costs l.standing in
-    (k : ℕ) → k < l.l → RowUnder l.width (grid.stands k) (columns_at meaning l.left k)
-    (columns_at meaning l.right) (grid.cost k)
+    let kind = g.K.Cost in
+    let grid = grid_of kind l.width l.costs l.standing in
+    (k : ℕ) → k < l.l → RowUnder l.width (grid.stands k) (columns_at kind l.left k)
+    (columns_at kind l.right) (grid.cost k)

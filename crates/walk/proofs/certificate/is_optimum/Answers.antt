@@ -1,5 +1,5 @@
 -- Over certified rows the pairings are the optimum ones.
-use Rattle.std.proofs.Common.{length, sym, subst}
+use Rattle.std.proofs.Common.{sym, subst}
 use Rattle.std.proofs.lemmas.Bool.Decides.{Decides-like}
 use Rattle.matching.specs.Fit.{Fits}
 use Rattle.tables.specs.Lent.{lent}

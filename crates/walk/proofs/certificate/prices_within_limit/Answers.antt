@@ -5,12 +5,12 @@ use Rattle.walk.proofs.certificate.prices_within_limit.Goals as goal
 
 pub returns-then-not-within : goal.returns-then-not-within
 returns-then-not-within g c =
-    denied (not_bounded g.K.Cost.meaning 1000000000000 c.args.prices.now c.loop-price.price-index
+    denied (not_bounded g.K.Cost 1000000000000 c.args.prices.now c.loop-price.price-index
     c.price-item.result c.loop-price-test.true c.price-item.is
     (sym c.within.ensures ∙ c.if-not-within.true))
 
 pub loop-price-preserved : goal.loop-price-preserved
 loop-price-preserved g c =
-    bounded_more g.K.Cost.meaning 1000000000000 c.args.prices.now c.loop-price.price-index
+    bounded_more g.K.Cost 1000000000000 c.args.prices.now c.loop-price.price-index
     c.price-item.result c.loop-price-test.true c.price-item.is
     (sym c.within.ensures ∙ c.if-not-within.false) c.loop-price.invariant

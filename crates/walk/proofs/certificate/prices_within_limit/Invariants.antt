@@ -3,4 +3,4 @@ use Rattle.tables.specs.Said.{Bounded}
 use Rattle.walk.proofs.certificate.prices_within_limit.Given as goal
 
 abbrev pub invariant-loop-price : goal.invariant-loop-price
-invariant-loop-price g l = Bounded g.K.Cost.meaning 1000000000000 l.price-index l.prices
+invariant-loop-price g l = Bounded g.K.Cost 1000000000000 l.price-index l.prices

@@ -7,5 +7,5 @@ use Rattle.walk.proofs.certificate.row_under.Given as goal
 
 abbrev pub invariant-loop-r : goal.invariant-loop-r
 invariant-loop-r g l = RowUnder l.r (λ r. says_stands (get_or l.standing r 0))
-    (g.K.Cost.meaning l.left) (columns_at g.K.Cost.meaning l.right)
-    (columns_at g.K.Cost.meaning l.costs)
+    (g.K.Cost.meaning l.left) (columns_at g.K.Cost l.right)
+    (columns_at g.K.Cost l.costs)

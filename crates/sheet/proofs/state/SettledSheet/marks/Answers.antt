@@ -12,7 +12,8 @@ returns g c =
     let t = λ (n : ℕ). lent n c.args.costs.now c.args.standing.now c.args.partners.now
     c.args.left.now c.args.right.now in
     let n = c.size-n.result in
-    let known : (length c.args.table.now ≡ places_of n) × Together g.K.Cost (t n) = c.in_ok-marks.ensures.accepted.0 refl in
+    let known : (length c.args.table.now ≡ places_of n) × Together g.K.Cost (t n) =
+    c.in_ok-marks.ensures.accepted.0 refl in
     let same : length c.marks.new.table ≡ length c.args.table.now = c.marks.auto.table in
     subst (λ n. AreMet (marks_needs g.K.Cost (t n) (length c.args.table.now))
     × AreMarks g.K.Cost (t n) c.marks.new.table) c.size-n.ensures.value (

@@ -12,9 +12,11 @@ returns g c =
     let t = λ (n : ℕ). lent n c.args.costs.now c.args.standing.now c.args.partners.now
     c.args.left.now c.args.right.now in
     let n = c.size-n.result in
-    let known : Together g.K.Cost (t n) × Optimum (grid g.K.Cost (t n)) c.args.list.now = c.in_ok-next.ensures.accepted.0 refl in
+    let known : Together g.K.Cost (t n) × Optimum (grid g.K.Cost (t n)) c.args.list.now =
+    c.in_ok-next.ensures.accepted.0 refl in
     subst (λ n. AreMet (next_needs g.K.Cost (t n) c.args.list.now)
-    × IsStep g.K.Cost (t n) c.args.list.now c.next.new.walk c.in_ok-next.field-0) c.size-n.ensures.value (
+    × IsStep g.K.Cost (t n) c.args.list.now c.next.new.walk c.in_ok-next.field-0)
+    c.size-n.ensures.value (
       ((c.fit.ensures.0 c.if-not-fit.false, known.1.perfect.len), (known, tt)),
       record { optimum = c.in_ok-next.ensures.optimum; follows = c.in_ok-next.ensures.steps },
     )
