@@ -1,13 +1,27 @@
-//! Prints what the order file on standard input states, or why it is refused.
+//! Prints what the order file on standard input states, or why it is refused: in lines, or with the
+//! argument `map` as a table of the costs with the optimum pairings marked.
 #![tactic(auto)]
 
-use report::describe_input;
+use report::{Form, describe_input, draw_input};
+use std::env;
+use std::process::ExitCode;
 
-fn run(rt: &HostRuntime) -> anyhow::Result<()> {
-    rt.print(describe_input(rt.alloc(), rt.stdin())?)?;
-    Ok(())
+// The status of a program that was asked for something else than it does.
+const USAGE: u8 = 2;
+
+fn run(rt: &HostRuntime) -> anyhow::Result<ExitCode> {
+    let words = env::args(rt)?.collect::<Vec<String>>(rt.alloc())?;
+    match Form::asked(words.as_slice()) {
+        Some(Form::Lines) => rt.print(describe_input(rt.alloc(), rt.stdin())?)?,
+        Some(Form::Map) => rt.print(draw_input(rt.alloc(), rt.stdin())?)?,
+        None => {
+            rt.eprintln("usage: inspect [map] < ORDER-FILE")?;
+            return Ok(ExitCode::from(USAGE));
+        }
+    }
+    Ok(ExitCode::SUCCESS)
 }
 
-fn main(rt: HostRuntime) -> anyhow::Result<()> {
+fn main(rt: HostRuntime) -> anyhow::Result<ExitCode> {
     run(&rt)
 }

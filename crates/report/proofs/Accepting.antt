@@ -6,6 +6,7 @@ use Rattle.std.proofs.Common.{◌≡◌, ℕ, true, List, [], ◌∷◌, length,
 use Rattle.cost.specs.Columns.{rail_of}
 use Rattle.cost.specs.declared.plain_kind.Plain.{Plain}
 use Rattle.pairing.specs.Grid.{Sane, PerfectIn, total}
+use Rattle.pairing.specs.Optima.{optima}
 use Rattle.pairing.proofs.Listing.{optima_are}
 use Rattle.tables.specs.Lent.{Lent, lent, grid, HasLengths}
 use Rattle.tables.specs.Together.{Together, ArePairTables}
@@ -17,8 +18,6 @@ use Rattle.sheet.specs.Refusals.{fault}
 use Rattle.sheet.specs.Settling.{settle_needs}
 use Rattle.orderfile.specs.Loading.{plain_kind}
 use Rattle.orderfile.proofs.LoadedGrid.{total_means}
-use Rattle.report.specs.Listing.{cause_line, listing_text}
-use Rattle.report.proofs.Listed.{listing_none}
 
 -- the parts of lent tables, under their size by another name
 pub same_tables : (t : Lent Plain) (n size : ℕ) (costs : List Plain) (standing partners : List ℕ)
@@ -64,10 +63,10 @@ module _ (t : Lent Plain) (tables : ArePairTables plain_kind t.size t.costs t.st
       later.1)
       unmet
 
-  -- so the listing says that no pairing is perfect
-  pub unsettled_listing : listing_text (grid plain_kind t) ≡ cause_line f.cause
-  unsettled_listing =
-      let g = grid plain_kind t in
-      listing_none g (((optima_are true g).none (tables_sane t tables)).1
-      (λ p h. unpaired.0 (p, h)))
-      ∙ ap (λ x. cause_line x.cause) (sym unpaired.1)
+  -- so there is no optimum pairing either
+  pub unsettled : (f ≡ fault NoPerfectPairing 0) × (optima (grid plain_kind t) ≡ [])
+  unsettled = (
+    unpaired.1,
+    ((optima_are true (grid plain_kind t)).none (tables_sane t tables)).1
+        (λ p h. unpaired.0 (p, h)),
+  )

@@ -2,7 +2,7 @@
 -- promise asks about.
 -- Idea: loading into tables that fit answers a sheet exactly if the file states an order, and its
 -- cells are what the order states.
-use Rattle.std.proofs.Common.{◌≡◌, ℕ, List, length, ◌++◌, ℤ, IfOk, Some, None, Err, codes}
+use Rattle.std.proofs.Common.{◌≡◌, ℕ, ◌<◌, List, length, ◌++◌, ℤ, IfOk, Some, None, Err, codes}
 use Rattle.std.proofs.Common.{decimal}
 use Rattle.std.proofs.Common.{Option, Result, refl, ap, ◌∙◌, ⊎_elim}
 use Rattle.std.proofs.lemmas.Result.{IfOk-weaker}
@@ -59,7 +59,14 @@ mapped_back : (o : Option ℤ) → option_map (λ p. p.0) (option_map plain o) �
 mapped_back (Some z) = refl
 mapped_back None = refl
 
--- the text of tables that show an order is the order's statement
+-- the cost of a pair in tables that show an order is the stated one
+pub cost_shown : (order : Order) (costs : List Plain) (standing : List ℕ)
+    → Shows order costs standing → (l r : ℕ) → l < order.size → r < order.size
+    → cost_in order.size costs standing l r ≡ cost_stated order.pairs l r
+cost_shown order costs standing shows l r i j =
+    ap (option_map (λ p. p.0)) (shows l r i j) ∙ mapped_back (cost_stated order.pairs l r)
+
+-- the text of such tables is the order's statement
 pub told : (order : Order) (costs : List Plain) (standing : List ℕ) → Shows order costs standing
     → sheet_text order.size costs standing ≡ statement order
 told order costs standing shows =
@@ -68,8 +75,7 @@ told order costs standing shows =
     (λ l. up_to n (λ r. pair_line l r (cost_stated order.pairs l r))) =
     up_same n (λ l. row_lines n costs standing l n)
     (λ l. up_to n (λ r. pair_line l r (cost_stated order.pairs l r)))
-    (λ l hl. up_same n (λ r. pair_line l r (cost_in n costs standing l r))
+    (λ l i. up_same n (λ r. pair_line l r (cost_in n costs standing l r))
     (λ r. pair_line l r (cost_stated order.pairs l r))
-    (λ r hr. ap (pair_line l r) (ap (option_map (λ p. p.0)) (shows l r hl hr)
-    ∙ mapped_back (cost_stated order.pairs l r)))) in
+    (λ r j. ap (pair_line l r) (cost_shown order costs standing shows l r i j))) in
     ap (λ t. (codes "size " ++ (decimal n ++ codes "\n")) ++ (t ++ codes "end\n")) lines

@@ -3,3 +3,4 @@ pub mod Described
 pub mod Lines
 pub mod Listed
 pub mod Accepting
+pub mod Drawn

@@ -45,38 +45,45 @@ cell_of v l r = cell_text (v.first l r) (v.occurs l r) (v.cost l r)
 abbrev pub right_in : ℕ → List ℕ → List ℕ
 right_in width text = replicate (width - length text) 32 ++ text
 
--- ---- Widths
+-- ---- Tables of n rows of n cells
 
 -- the greatest of f 0, f 1 and so on below k
 abbrev pub most : ℕ → (ℕ → ℕ) → ℕ
 most zero f = 0
 most (suc k) f = max (most k f) (f k)
 
--- the length of the longest cell of a row up to right block k, and of all rows up to left block k
-abbrev pub row_width : SheetView → ℕ → ℕ → ℕ
-row_width v l k = most k (λ r. length (cell_of v l r))
+-- the length of the longest cell of row l up to column k, and of the first k rows
+abbrev pub row_width : (cell : ℕ → ℕ → List ℕ) (l k : ℕ) → ℕ
+row_width cell l k = most k (λ r. length (cell l r))
 
-abbrev pub rows_width : SheetView → ℕ → ℕ
-rows_width v k = most k (λ l. row_width v l v.size)
+abbrev pub rows_width : (n : ℕ) (cell : ℕ → ℕ → List ℕ) (k : ℕ) → ℕ
+rows_width n cell k = most k (λ l. row_width cell l n)
 
 -- a column is as wide as the longest cell, and has room for a block number
-abbrev pub map_width : SheetView → ℕ
-map_width v = max 2 (rows_width v v.size)
-
--- ---- The map
+abbrev pub column_width : (n : ℕ) (cell : ℕ → ℕ → List ℕ) → ℕ
+column_width n cell = max (rows_width n cell n) 2
 
 -- the line above the rows: the numbers of the right blocks
-abbrev pub head_line : SheetView → ℕ → List ℕ
-head_line v width = codes "  " ++ (up_to v.size (λ r. codes " " ++ right_in width (decimal r))
+abbrev pub head_line : (n width : ℕ) → List ℕ
+head_line n width = codes "  " ++ (up_to n (λ r. codes " " ++ right_in width (decimal r))
     ++ codes "\n")
 
 -- a row: the number of its left block, and the cell of each right block
-abbrev pub map_row : SheetView → ℕ → ℕ → List ℕ
-map_row v width l = right_in 2 (decimal l)
-    ++ (up_to v.size (λ r. codes " " ++ right_in width (cell_of v l r)) ++ codes "\n")
+abbrev pub table_row : (n : ℕ) (cell : ℕ → ℕ → List ℕ) (width l : ℕ) → List ℕ
+table_row n cell width l = right_in 2 (decimal l)
+    ++ (up_to n (λ r. codes " " ++ right_in width (cell l r)) ++ codes "\n")
+
+abbrev pub table_rows : (n : ℕ) (cell : ℕ → ℕ → List ℕ) (width k : ℕ) → List ℕ
+table_rows n cell width k = up_to k (table_row n cell width)
+
+-- ---- The map
 
 abbrev pub legend : List ℕ
 legend = codes "* first optimum pairing, + another optimum pairing, . absent\n"
 
+abbrev pub map_width : SheetView → ℕ
+map_width v = column_width v.size (cell_of v)
+
 abbrev pub map_text : SheetView → List ℕ
-map_text v = head_line v (map_width v) ++ (up_to v.size (map_row v (map_width v)) ++ legend)
+map_text v = head_line v.size (map_width v)
+    ++ (table_rows v.size (cell_of v) (map_width v) v.size ++ legend)

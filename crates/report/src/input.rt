@@ -1,11 +1,13 @@
-//! An input as text: what the order file that a reader gives states, its listing, or why it is
-//! refused.
+//! An input as text: what the order file that a reader gives states, its listing, its map, or why
+//! it is refused.
 
 ghost use Rattle.std.specs.Prelude.{◌≡◌, IfOk, IfSome, take, string_bytes};
 ghost use Rattle.report.specs.Describing.{Describes};
+ghost use Rattle.report.specs.Drawing.{Draws};
 ghost use Rattle.report.specs.Listing.{Lists};
 
 use crate::describe;
+use crate::draw_file::draw;
 use crate::list_file::list;
 use std::alloc::Global;
 use std::io;
@@ -43,4 +45,14 @@ pub fn list_input<R: Read + Drop>(heap: Global, reader: R) -> io::Result<String>
 {
     let file = read_input(heap, reader)?;
     Ok(list(heap, file.as_slice())?)
+}
+
+/// The map of an input, as `draw` gives it of a file. An input is cut as `describe_input` cuts it,
+/// and an error is the reader's, or want of memory.
+pub fn draw_input<R: Read + Drop>(heap: Global, reader: R) -> io::Result<String>
+    ensures { IfOk result (λ text. IfSome (R.remaining reader)
+        (λ bytes. Draws (take MOST_BYTES bytes) (string_bytes text))) }
+{
+    let file = read_input(heap, reader)?;
+    Ok(draw(heap, file.as_slice())?)
 }

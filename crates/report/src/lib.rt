@@ -1,4 +1,4 @@
-//! Order files as text: what a file states, or why it is refused.
+//! Order files as text: what a file states, its optimum pairings, or why it is refused.
 #![tactic(auto)]
 
 ghost use Rattle.std.specs.Prelude.{◌≡◌, ◌<◌, ◌++◌, length, IfOk, OnOk, Some, string_bytes};
@@ -9,14 +9,19 @@ ghost use Rattle.report.specs.Describing.{Describes};
 ghost use Rattle.report.specs.Text.{pair_line, cost_in, row_lines, all_lines, sheet_text, refusal};
 
 mod aligned;
+mod draw_file;
+mod form;
 mod input;
 mod list_file;
 mod pairing_lines;
 mod sheet_map;
+mod solving;
 mod words;
 
 use cost::Plain;
-pub use input::{MOST_BYTES, describe_input, list_input};
+pub use draw_file::draw;
+pub use form::Form;
+pub use input::{MOST_BYTES, describe_input, draw_input, list_input};
 pub use list_file::list;
 use orderfile::loading::{check, load};
 pub use pairing_lines::{MOST_PAIRINGS, cause_line, push_pairing_line, push_total_line};

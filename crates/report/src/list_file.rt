@@ -14,6 +14,7 @@ ghost use Rattle.orderfile.specs.Loading.{plain_kind, plain_grid};
 ghost use Rattle.report.specs.Listing.{listed, listing_text, Lists};
 
 use crate::pairing_lines::{MOST_PAIRINGS, cause_line, push_pairing_line, push_total_line};
+use crate::solving::{Solved, solve};
 use cost::Plain;
 use matching::Step;
 use orderfile::loading::{check, load};
@@ -110,29 +111,25 @@ fn list_sheet(
     ensures { IfOk result (λ text. string_bytes text
         ≡ listing_text (plain_grid (size_of sheet) costs.now standing.now)) }
 {
-    let size = sheet.size();
-    let mut partners = vec![in heap; 0u16; size as usize]?;
-    let mut left = vec![in heap; Plain(0); size as usize]?;
-    let mut right = vec![in heap; Plain(0); size as usize]?;
-    let (mates, lefts, rights) = (
-        partners.as_mut_slice(),
-        left.as_mut_slice(),
-        right.as_mut_slice(),
-    );
-    match sheet.settle(costs, standing, mates, lefts, rights) {
-        Ok(settled) => {
-            let tables = Tables {
-                size,
-                costs,
-                standing,
-                partners: partners.as_slice(),
-                left: left.as_slice(),
-                right: right.as_slice(),
-            };
-            list_settled(heap, settled, &tables)
-        }
-        Err(refusal) => cause_line(heap, refusal.fault.cause),
-    }
+    let solved = match solve(heap, sheet, costs, standing)? {
+        Ok(solved) => solved,
+        Err(fault) => return cause_line(heap, fault.cause),
+    };
+    let Solved {
+        sheet,
+        partners,
+        left,
+        right,
+    } = solved;
+    let tables = Tables {
+        size: sheet.size(),
+        costs,
+        standing,
+        partners: partners.as_slice(),
+        left: left.as_slice(),
+        right: right.as_slice(),
+    };
+    list_settled(heap, sheet, &tables)
 }
 
 // Loads a file into tables of the right lengths, and lists the sheet or tells the refusal.

@@ -27,8 +27,7 @@ pub struct Drawing<'a> {
 impl Drawing<'_> {
     ghost use Rattle.std.specs.Prelude.{◌<◌, ◌++◌, IfOk, OnOk, decimal, string_bytes};
     ghost use Rattle.report.specs.Mapping.{view_of, cell_of, mark_text, row_width, rows_width};
-    ghost use Rattle.report.specs.Mapping.{map_width, head_line, map_row, map_text};
-    ghost use Rattle.report.specs.Text.{up_to};
+    ghost use Rattle.report.specs.Mapping.{head_line, table_row, table_rows, map_text};
 
     // The mark of a pair.
     fn mark(&self, left: u16, right: u16) -> &'static str
@@ -62,8 +61,8 @@ impl Drawing<'_> {
     // The length of the longest cell of a row.
     fn row_width(&self, heap: Global, left: u16) -> Result<usize, AllocError>
         requires inside { left < self.now.size }
-        ensures { IfOk result
-            (λ width. width ≡ row_width (view_of self.now) left self.now.size) }
+        ensures { let v = view_of self.now in
+            IfOk result (λ width. width ≡ row_width (cell_of v) left v.size) }
     {
         let mut width = 0;
         for right in 0..self.size {
@@ -75,7 +74,8 @@ impl Drawing<'_> {
 
     // The length of the longest cell.
     fn rows_width(&self, heap: Global) -> Result<usize, AllocError>
-        ensures { IfOk result (λ width. width ≡ rows_width (view_of self.now) self.now.size) }
+        ensures { let v = view_of self.now in
+            IfOk result (λ width. width ≡ rows_width v.size (cell_of v) v.size) }
     {
         let mut width = 0;
         for left in 0..self.size {
@@ -86,8 +86,8 @@ impl Drawing<'_> {
 
     // Appends the line above the rows: the numbers of the right blocks.
     fn push_heads(&self, text: &mut String, heap: Global, width: usize) -> Result<(), AllocError>
-        ensures { OnOk result (string_bytes text.new
-            ≡ string_bytes text.old ++ head_line (view_of self.now) width) }
+        ensures { OnOk result
+            (string_bytes text.new ≡ string_bytes text.old ++ head_line self.now.size width) }
     {
         text.push_str("  ")?;
         for right in 0..self.size {
@@ -107,8 +107,8 @@ impl Drawing<'_> {
         left: u16,
     ) -> Result<(), AllocError>
         requires inside { left < self.now.size }
-        ensures { OnOk result (string_bytes text.new
-            ≡ string_bytes text.old ++ map_row (view_of self.now) width left) }
+        ensures { let v = view_of self.now in OnOk result (string_bytes text.new
+            ≡ string_bytes text.old ++ table_row v.size (cell_of v) width left) }
     {
         let number = format!(in heap; "{left}")?;
         push_right(text, 2, number.as_str())?;
@@ -122,8 +122,8 @@ impl Drawing<'_> {
 
     // Appends all rows.
     fn push_rows(&self, text: &mut String, heap: Global, width: usize) -> Result<(), AllocError>
-        ensures { OnOk result (string_bytes text.new
-            ≡ string_bytes text.old ++ up_to self.now.size (map_row (view_of self.now) width)) }
+        ensures { let v = view_of self.now in OnOk result (string_bytes text.new
+            ≡ string_bytes text.old ++ table_rows v.size (cell_of v) width v.size) }
     {
         for left in 0..self.size {
             self.push_row(text, heap, width, left)?;

@@ -1,0 +1,142 @@
+-- The map of settled tables, and of the order that they were loaded from.
+-- Idea: a map is made of its cells, and a cell of what is told of its pair. The marks of a table
+-- tell the pairs that some optimum pairing has, and the loaded costs are the stated ones.
+use Rattle.std.proofs.Common.{◌≡◌, ℕ, zero, suc, ◌<◌, max, Bool, true, false, cond, ◌&&◌, eqb, List}
+use Rattle.std.proofs.Common.{[], ◌∷◌, ◌++◌, length, ℤ, Option, Result, codes, decimal, sym, refl}
+use Rattle.std.proofs.Common.{ap, ap₂, ◌∙◌, arith}
+use Rattle.std.proofs.lemmas.Bool.{lt-ltb}
+use Rattle.cost.specs.declared.plain_kind.Plain.{Plain}
+use Rattle.pairing.specs.Grid.{Grid, at, total}
+use Rattle.pairing.specs.Places.{place_of}
+use Rattle.pairing.specs.Optima.{optima, has_pair, is_marked}
+use Rattle.matching.specs.Answers.{IsNth}
+use Rattle.tables.specs.Lent.{Lent, grid}
+use Rattle.sheet.specs.Walking.{AreMarks}
+use Rattle.sheet.specs.Size.{Sheet}
+use Rattle.sheet.specs.declared.fault.Fault.{Fault}
+use Rattle.orderfile.specs.Format.{Order}
+use Rattle.orderfile.specs.Loading.{plain_kind, plain_grid, cost_stated, grid_stated, Accepted}
+use Rattle.orderfile.proofs.LoadedGrid.{loaded_alike}
+use Rattle.report.specs.Text.{cost_in}
+use Rattle.report.specs.Listing.{total_line}
+use Rattle.report.specs.Mapping.{SheetView, cell_text, cell_of, right_in, most, row_width}
+use Rattle.report.specs.Mapping.{column_width, head_line, table_row, table_rows, legend}
+use Rattle.report.specs.Mapping.{map_text}
+use Rattle.report.specs.Drawing.{grid_view, map_over, map_of}
+use Rattle.report.proofs.Described.{cost_shown}
+use Rattle.report.proofs.Lines.{up_same}
+use Rattle.report.proofs.Listed.{nth_optimum}
+
+-- ---- A map is made of its cells
+
+most_same : (k : ℕ) (f g : ℕ → ℕ) → ((i : ℕ) → i < k → f i ≡ g i) → most k f ≡ most k g
+most_same zero f g e = refl
+most_same (suc k) f g e =
+    ap₂ max (most_same k f g (λ i h. e i (omega arith))) (e k (omega arith))
+
+module _ (n : ℕ) (cell cell' : ℕ → ℕ → List ℕ)
+    (same : (l r : ℕ) → l < n → r < n → cell l r ≡ cell' l r) where
+  width_same : column_width n cell ≡ column_width n cell'
+  width_same = ap (λ k. max k 2)
+      (most_same n (λ l. row_width cell l n) (λ l. row_width cell' l n)
+      (λ l i. most_same n (λ r. length (cell l r)) (λ r. length (cell' l r))
+      (λ r j. ap length (same l r i j))))
+
+  rows_same : (width : ℕ) → table_rows n cell width n ≡ table_rows n cell' width n
+  rows_same width = up_same n (table_row n cell width) (table_row n cell' width)
+      (λ l i. ap (λ t. right_in 2 (decimal l) ++ (t ++ codes "\n"))
+      (up_same n (λ r. codes " " ++ right_in width (cell l r))
+      (λ r. codes " " ++ right_in width (cell' l r))
+      (λ r j. ap (λ t. codes " " ++ right_in width t) (same l r i j))))
+
+-- what two views show of n blocks a plane
+module _ (n : ℕ) (cost cost' : ℕ → ℕ → Option ℤ) (first first' occurs occurs' : ℕ → ℕ → Bool)
+  where
+    abbrev one : SheetView
+    one = record { size = n; cost = cost; first = first; occurs = occurs }
+
+    abbrev other : SheetView
+    other = record { size = n; cost = cost'; first = first'; occurs = occurs' }
+
+    map_same : ((l r : ℕ) → l < n → r < n → cell_of one l r ≡ cell_of other l r)
+        → map_text one ≡ map_text other
+    map_same same =
+        ap (λ k. head_line n k ++ (table_rows n (cell_of one) k n ++ legend))
+        (width_same n (cell_of one) (cell_of other) same)
+        ∙ ap (λ t. head_line n (column_width n (cell_of other)) ++ (t ++ legend))
+        (rows_same n (cell_of one) (cell_of other) same (column_width n (cell_of other)))
+
+-- ---- Views of a grid
+
+map_first : (cost : ℕ → ℕ → Option ℤ) (g : Grid) (ps : List (List ℕ)) (p text : List ℕ)
+    → IsNth ps 0 p → text ≡ total_line (total g p) ++ map_text (grid_view cost g p)
+    → text ≡ map_over cost g ps
+map_first cost g [] p text first e = absurd (omega (arith, first.0))
+map_first cost g (q ∷ qs) p text first e =
+    e ∙ ap (λ x. total_line (total g x) ++ map_text (grid_view cost g x)) (sym first.1)
+
+over_same : (cost cost' : ℕ → ℕ → Option ℤ) (g h : Grid) (ps : List (List ℕ))
+    → ((p : List ℕ) → IsNth ps 0 p → total g p ≡ total h p)
+    → ((p : List ℕ) → map_text (grid_view cost g p) ≡ map_text (grid_view cost' h p))
+    → map_over cost g ps ≡ map_over cost' h ps
+over_same cost cost' g h [] totals maps = refl
+over_same cost cost' g h (p ∷ ps) totals maps =
+    ap₂ (λ t m. total_line t ++ m) (totals p (omega arith, refl)) (maps p)
+
+-- ---- Settled tables
+
+told_back : (b : Bool) → eqb (cond b 1 0) 1 ≡ b
+told_back true = refl
+told_back false = refl
+
+module _ (t : Lent Plain) (marks : List ℕ) where
+  -- what a drawing of the tables with these marks shows
+  abbrev pub tables_view : SheetView
+  tables_view = record {
+    size = t.size;
+    cost = cost_in t.size t.costs t.standing;
+    first = λ l r. eqb (at t.partners l) r;
+    occurs = λ l r. eqb (at marks (place_of t.size l r)) 1;
+  }
+
+  marks_told : AreMarks plain_kind t marks → (l r : ℕ) → l < t.size → r < t.size
+      → eqb (at marks (place_of t.size l r)) 1 ≡ is_marked (grid plain_kind t) l r
+  marks_told m l r i j =
+      let has = has_pair l r (optima (grid plain_kind t)) in
+      ap (λ k. eqb k 1) (m.marks l r i j) ∙ told_back has
+      ∙ ap (λ b. b && has) (sym (lt-ltb l t.size i))
+
+  -- it is the map of the grid in them, if the partners are the first optimum pairing
+  pub drawn : AreMarks plain_kind t marks → (text : List ℕ)
+      → IsNth (optima (grid plain_kind t)) 0 t.partners
+      → text ≡ total_line (total (grid plain_kind t) t.partners) ++ map_text tables_view
+      → text ≡ map_of (cost_in t.size t.costs t.standing) (grid plain_kind t)
+  drawn m text first e =
+      let g = grid plain_kind t in
+      let cost = cost_in t.size t.costs t.standing in
+      let is_first : ℕ → ℕ → Bool = λ l r. eqb (at t.partners l) r in
+      map_first cost g (optima g) t.partners text first
+      (e ∙ ap (λ x. total_line (total g t.partners) ++ x)
+      (map_same t.size cost cost is_first is_first
+      (λ l r. eqb (at marks (place_of t.size l r)) 1) (is_marked g)
+      (λ l r i j. ap (λ o. cell_text (is_first l r) o (cost l r)) (marks_told m l r i j))))
+
+-- ---- The order that was loaded
+
+module _ (order : Order) (r : Result Sheet Fault) (costs : List Plain) (standing : List ℕ)
+    (accepted : Accepted order r costs standing) where
+  pub drawn_order : map_of (cost_in order.size costs standing)
+      (plain_grid order.size costs standing)
+      ≡ map_of (cost_stated order.pairs) (grid_stated order)
+  drawn_order =
+      let n = order.size in
+      let g = plain_grid n costs standing in
+      let h = grid_stated order in
+      let alike = loaded_alike order r costs standing accepted in
+      over_same (cost_in n costs standing) (cost_stated order.pairs) g h (optima g)
+      (λ p i. alike.totals p (nth_optimum g 0 p i).perfect)
+      (λ p. map_same n (cost_in n costs standing) (cost_stated order.pairs)
+      (λ l m. eqb (at p l) m) (λ l m. eqb (at p l) m) (is_marked g) (is_marked h)
+      (λ l m i j. ap₂ (λ o c. cell_text (eqb (at p l) m) o c) (alike.is_marked l m)
+      (cost_shown order costs standing accepted.shows l m i j)))
+      ∙ ap (map_over (cost_stated order.pairs) h) alike.optima

@@ -1,0 +1,13 @@
+-- Fresh tables have the right lengths, so only a perfect pairing can be missing.
+use Rattle.std.proofs.Common.{◌∙◌}
+use Rattle.report.proofs.Accepting.{unsettled}
+use Rattle.report.proofs.solving.solve.Goals as goal
+
+pub returns-in-Err : goal.returns-in-Err
+returns-in-Err c =
+    let why = unsettled _ c.requires
+    (c.as_mut_slice-mates.ensures.len ∙ c.in_ok-partners.ensures.len ∙ c.size-size.ensures.value)
+    (c.as_mut_slice-lefts.ensures.len ∙ c.in_ok-left.ensures.len ∙ c.size-size.ensures.value)
+    (c.as_mut_slice-rights.ensures.len ∙ c.in_ok-right.ensures.len ∙ c.size-size.ensures.value)
+    c.in-Err.refusal.fault c.in-Err.ensures.unmet in
+    record { fault_is = why.0; none = why.1 }

@@ -1,0 +1,28 @@
+-- What settling a loaded sheet with fresh tables comes to.
+use Rattle.std.specs.Prelude.{◌≡◌, ℕ, List, []}
+use Rattle.cost.specs.declared.plain_kind.Plain.{Plain}
+use Rattle.pairing.specs.Optima.{optima}
+use Rattle.tables.specs.Lent.{Lent, lent}
+use Rattle.tables.specs.Together.{Together}
+use Rattle.assign.specs.Answer.{Settled}
+use Rattle.sheet.specs.Refusals.{fault}
+use Rattle.sheet.specs.declared.fault.Cause.TheVariants.{NoPerfectPairing}
+use Rattle.sheet.specs.declared.fault.Fault.{Fault}
+use Rattle.orderfile.specs.Loading.{plain_kind, plain_grid}
+use Rattle.report.specs.declared.solving.Solved.{Solved}
+
+-- the tables of a solved sheet, beside the pair tables that it was settled over
+abbrev pub solved_tables : ℕ → List Plain → List ℕ → Solved → Lent Plain
+solved_tables n costs standing s =
+    lent n costs standing s.partners.items s.left.items s.right.items
+
+-- they hold together, and their partners are the first optimum pairing
+pub record IsSolved (n : ℕ) (costs : List Plain) (standing : List ℕ) (s : Solved) : Type 0 where
+  pub size : s.sheet.size ≡ n
+  pub together : Together plain_kind (solved_tables n costs standing s)
+  pub settled : Settled plain_kind (solved_tables n costs standing s)
+
+-- there is no optimum pairing
+pub record IsUnsolved (n : ℕ) (costs : List Plain) (standing : List ℕ) (f : Fault) : Type 0 where
+  pub fault_is : f ≡ fault NoPerfectPairing 0
+  pub none : optima (plain_grid n costs standing) ≡ []

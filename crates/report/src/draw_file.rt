@@ -1,0 +1,123 @@
+//! Order files as maps: the costs that a file states with the optimum pairings marked, or in words
+//! why it is refused.
+
+ghost use Rattle.std.specs.Prelude.{◌≡◌, IfOk, length, string_bytes};
+ghost use Rattle.tables.specs.Lent.{grid};
+ghost use Rattle.tables.specs.PairTables.{HavePlaces};
+ghost use Rattle.tables.specs.Together.{Together, ArePairTables};
+ghost use Rattle.assign.specs.Answer.{Settled};
+ghost use Rattle.sheet.specs.Size.{size_of};
+ghost use Rattle.orderfile.specs.Format.{Order, States};
+ghost use Rattle.orderfile.specs.Loading.{plain_kind, plain_grid};
+ghost use Rattle.report.specs.Text.{cost_in};
+ghost use Rattle.report.specs.Drawing.{map_of, Draws};
+
+use crate::pairing_lines::push_total_line;
+use crate::sheet_map::Drawing;
+use crate::solving::{Solved, solve};
+use crate::words::explain;
+use cost::Plain;
+use orderfile::loading::{check, load};
+use sheet::state::{OpenSheet, SettledSheet};
+use std::alloc::{AllocError, Global};
+use tables::{Tables, places};
+
+// The map of a sheet that was just settled.
+fn draw_settled(
+    heap: Global,
+    sheet: &SettledSheet,
+    tables: &Tables<'_, Plain>,
+) -> Result<String, AllocError>
+    requires size { size_of sheet.now ≡ tables.now.size }
+    requires together { Together plain_kind tables.now }
+    requires settled { Settled plain_kind tables.now }
+    ensures { let t = tables.now in IfOk result (λ text. string_bytes text
+        ≡ map_of (cost_in t.size t.costs t.standing) (grid plain_kind t)) }
+{
+    let Tables {
+        size,
+        costs,
+        standing,
+        partners,
+        left,
+        right,
+    } = *tables;
+    let Ok(total) = sheet.total(costs, standing, partners, left, right) else {
+        unreachable!();
+    };
+    let mut table = vec![in heap; 0u8; places(size)]?;
+    let marks = table.as_mut_slice();
+    let Ok(()) = sheet.marks(costs, standing, partners, left, right, marks) else {
+        unreachable!();
+    };
+    let drawing = Drawing {
+        size,
+        costs,
+        standing,
+        partners,
+        marks,
+    };
+    let mut text = String::new(heap);
+    push_total_line(&mut text, total)?;
+    drawing.push_map(&mut text, heap)?;
+    Ok(text)
+}
+
+// The map of a sheet: it is settled, or no pairing is perfect.
+fn draw_sheet(
+    heap: Global,
+    sheet: OpenSheet,
+    costs: &[Plain],
+    standing: &[u8],
+) -> Result<String, AllocError>
+    requires { ArePairTables plain_kind (size_of sheet) costs.now standing.now }
+    ensures { let n = size_of sheet in IfOk result (λ text. string_bytes text
+        ≡ map_of (cost_in n costs.now standing.now) (plain_grid n costs.now standing.now)) }
+{
+    let solved = match solve(heap, sheet, costs, standing)? {
+        Ok(solved) => solved,
+        Err(fault) => return explain(heap, fault),
+    };
+    let tables = Tables {
+        size: solved.sheet.size(),
+        costs,
+        standing,
+        partners: solved.partners.as_slice(),
+        left: solved.left.as_slice(),
+        right: solved.right.as_slice(),
+    };
+    draw_settled(heap, &solved.sheet, &tables)
+}
+
+// Loads a file into tables of the right lengths, and draws the sheet or tells the refusal.
+fn load_and_draw(
+    heap: Global,
+    file: &[u8],
+    costs: &mut [Plain],
+    standing: &mut [u8],
+) -> Result<String, AllocError>
+    requires { (order : Order) → States file.now order
+        → HavePlaces order.size (length costs.old) (length standing.old) }
+    ensures { IfOk result (λ text. Draws file.now (string_bytes text)) }
+{
+    match load(file, costs, standing) {
+        Ok(sheet) => draw_sheet(heap, sheet, costs, standing),
+        Err(fault) => explain(heap, fault),
+    }
+}
+
+/// The map of an order file: `total T`, and the table of the costs that the file states, in which
+/// the pairs of the first optimum pairing have a mark, and those of any other one another; or else,
+/// in words, why the file is refused or that no pairing is perfect.
+pub fn draw(heap: Global, file: &[u8]) -> Result<String, AllocError>
+    ensures { IfOk result (λ text. Draws file.now (string_bytes text)) }
+{
+    match check(file) {
+        Ok(n) => {
+            let mut costs = vec![in heap; Plain(0); places(n)]?;
+            let mut standing = vec![in heap; 0u8; places(n)]?;
+            load_and_draw(heap, file, costs.as_mut_slice(), standing.as_mut_slice())
+        }
+        Err(fault) => explain(heap, fault),
+    }
+}

@@ -1,0 +1,54 @@
+//! A loaded sheet is settled with fresh tables.
+
+ghost use Rattle.std.specs.Prelude.{IfOk, MatchResult};
+ghost use Rattle.tables.specs.Together.{ArePairTables};
+ghost use Rattle.sheet.specs.Size.{size_of};
+ghost use Rattle.orderfile.specs.Loading.{plain_kind};
+ghost use Rattle.report.specs.Solving.{IsSolved, IsUnsolved};
+
+use cost::Plain;
+use sheet::fault::Fault;
+use sheet::state::{OpenSheet, SettledSheet};
+use std::alloc::{AllocError, Global};
+
+/// A settled sheet, with the tables that settling wrote.
+#[derive(Drop)]
+pub struct Solved {
+    pub sheet: SettledSheet,
+    pub partners: Vec<u16>,
+    pub left: Vec<Plain>,
+    pub right: Vec<Plain>,
+}
+
+/// Settles a sheet with fresh tables, or tells why it cannot be settled: where its pair tables are
+/// in order, for want of a perfect pairing alone.
+pub fn solve(
+    heap: Global,
+    sheet: OpenSheet,
+    costs: &[Plain],
+    standing: &[u8],
+) -> Result<Result<Solved, Fault>, AllocError>
+    requires { ArePairTables plain_kind (size_of sheet) costs.now standing.now }
+    ensures { IfOk result (λ answer. MatchResult answer
+        (λ solved. IsSolved (size_of sheet) costs.now standing.now solved)
+        (λ f. IsUnsolved (size_of sheet) costs.now standing.now f)) }
+{
+    let size = sheet.size() as usize;
+    let mut partners = vec![in heap; 0u16; size]?;
+    let mut left = vec![in heap; Plain(0); size]?;
+    let mut right = vec![in heap; Plain(0); size]?;
+    let (mates, lefts, rights) = (
+        partners.as_mut_slice(),
+        left.as_mut_slice(),
+        right.as_mut_slice(),
+    );
+    match sheet.settle(costs, standing, mates, lefts, rights) {
+        Ok(sheet) => Ok(Ok(Solved {
+            sheet,
+            partners,
+            left,
+            right,
+        })),
+        Err(refusal) => Ok(Err(refusal.fault)),
+    }
+}

@@ -1,0 +1,173 @@
+#!/usr/bin/env python3
+"""Makes the files of crates/report_trial: order files, and the listing and the map of each.
+
+Run in the repository's root. It is written from docs/order-files.md alone, and finds optimum
+pairings by going through all perfect ones, so the comparison in the gate is with plain enumeration.
+"""
+import itertools
+import random
+import struct
+
+from order_files import END, LIMIT, first_fault, pair, size
+
+# a listing has at most so many pairings
+MOST = 1000
+
+WORDS = {
+    1: ("the size is 0 or above 64", "State a size from 1 to 64."),
+    3: ("a block number is not below the size", "Number the blocks of each plane from 0."),
+    4: ("a cost is not within 10^9", "Scale the costs down, all by the same factor."),
+    6: ("the standing pairs hold no perfect pairing",
+        "Enter more pairs: some left blocks stand with too few right blocks."),
+    8: ("a field runs past the end of the file",
+        "Look whether the file is cut short, or the length of this field wrong."),
+    9: ("the tag of a field is unknown or out of order",
+        "Write one size, then the pairs, then one end, and nothing behind it."),
+    10: ("the length of a field is not the one of its tag",
+         "Give a size 1 byte, a pair 10 bytes and the end none."),
+}
+
+
+def perfect_pairings(n, cells):
+    """All perfect pairings of the standing pairs, in dictionary order."""
+    rows = [sorted(r for r in range(n) if (l, r) in cells) for l in range(n)]
+    chosen = []
+
+    def extend():
+        if len(chosen) == n:
+            yield list(chosen)
+            return
+        for r in rows[len(chosen)]:
+            if r not in chosen:
+                chosen.append(r)
+                yield from extend()
+                chosen.pop()
+
+    return extend()
+
+
+def optimum_pairings(n, cells):
+    """The perfect pairings of least total, and that total."""
+    perfect = [(sum(cells[l, r] for l, r in enumerate(p)), p) for p in perfect_pairings(n, cells)]
+    least = min((total for total, _ in perfect), default=None)
+    return [p for total, p in perfect if total == least], least
+
+
+def listing(optima, total):
+    lines = ["pairing" + "".join(" %d" % r for r in p) + "\n" for p in optima[:MOST]]
+    last = "more\n" if len(optima) > MOST else "end\n"
+    return "total %d\n" % total + "".join(lines) + last
+
+
+def sheet_map(n, cells, optima, total):
+    occurring = {(l, r) for p in optima for l, r in enumerate(p)}
+
+    def cell(l, r):
+        if (l, r) not in cells:
+            return "."
+        mark = "*" if optima[0][l] == r else "+" if (l, r) in occurring else ""
+        return mark + str(cells[l, r])
+
+    texts = [[cell(l, r) for r in range(n)] for l in range(n)]
+    width = max([2] + [len(text) for row in texts for text in row])
+    lines = ["  " + "".join(" " + str(r).rjust(width) for r in range(n))]
+    lines += [str(l).rjust(2) + "".join(" " + t.rjust(width) for t in texts[l]) for l in range(n)]
+    legend = "* first optimum pairing, + another optimum pairing, . absent"
+    return "total %d\n" % total + "\n".join(lines + [legend]) + "\n"
+
+
+def explained(number, place):
+    where = "" if place is None else " at byte %d" % place
+    return "refused %d%s: %s\n%s\n" % ((number, where) + WORDS[number])
+
+
+def told(data):
+    """The listing of a file, and its map."""
+    verdict = first_fault(data)
+    if len(verdict) == 3:
+        return "refused %d\n" % verdict[0] + explained(verdict[0], verdict[1])
+    n, pairs = verdict
+    cells = {(l, r): c for l, r, c in pairs}
+    optima, total = optimum_pairings(n, cells)
+    if not optima:
+        return "refused 6\n" + explained(6, None)
+    return listing(optima, total) + sheet_map(n, cells, optima, total)
+
+
+def order(n, cells):
+    return size(n) + b"".join(pair(l, r, c) for (l, r), c in sorted(cells.items())) + END
+
+
+def square(k, pairings):
+    """The standing pairs of k left and k right blocks that hold just so many perfect pairings."""
+    places = list(itertools.product(range(k), repeat=2))
+    source = random.Random(pairings)
+    while True:
+        cells = {place: 0 for place in places if source.random() < 0.7}
+        if sum(1 for _ in perfect_pairings(k, cells)) == pairings:
+            return cells
+
+
+def product(*parts):
+    """Sheets side by side, of which the pairings multiply."""
+    cells, base = {}, 0
+    for k, pairings in parts:
+        for (l, r), cost in square(k, pairings).items():
+            cells[base + l, base + r] = cost
+        base += k
+    return order(base, cells)
+
+
+def sheets():
+    yield order(1, {})
+    yield order(1, {(0, 0): -LIMIT})
+    yield order(3, {(0, 0): 4, (0, 1): 2, (1, 0): 3, (1, 1): 1, (1, 2): 5, (2, 1): 6, (2, 2): 2})
+    # the ends of the range, and a wide column
+    yield order(2, {(0, 0): LIMIT, (0, 1): -LIMIT, (1, 0): -LIMIT, (1, 1): LIMIT})
+    yield order(2, {(l, r): LIMIT for l in range(2) for r in range(2)})
+    # as many pairings as a listing has, one more, and many more
+    yield product((4, 10), (4, 10), (4, 10))
+    yield product((4, 7), (4, 11), (5, 13))
+    yield order(7, {(l, r): 3 for l in range(7) for r in range(7)})
+    # many blocks: one pairing, and none
+    yield order(64, {(l, 63 - l): l - 40 for l in range(64)})
+    yield order(64, {(l, min(l, 62)): 0 for l in range(64)})
+    # a later pair replaces an earlier one
+    yield size(2) + pair(0, 0, 9) + pair(1, 1, 1) + pair(0, 0, 1) + END
+
+
+def refused():
+    sound = size(3) + pair(0, 0, 4) + END
+    yield b""
+    yield sound[:-1]
+    yield sound + b"\0"
+    yield size(65) + END
+    yield size(3) + pair(0, 3, 1) + END
+    yield size(3) + pair(0, 0, LIMIT + 1) + END
+    yield b"\1\0\2\0\3" + END
+    yield END
+
+
+def random_sheets(count):
+    source = random.Random(20261126)
+    for _ in range(count):
+        n = source.randrange(1, 7)
+        costs = source.choice(((0,), (0, 1), (-2, 3, 5), range(-LIMIT, LIMIT + 1)))
+        dense = source.choice((0.4, 0.7, 1))
+        yield order(n, {(l, r): source.choice(costs) for l in range(n) for r in range(n)
+                        if source.random() < dense})
+
+
+def main():
+    files = list(sheets()) + list(refused()) + list(random_sheets(300))
+    with open("crates/report_trial/stdin", "wb") as out:
+        for data in files:
+            out.write(struct.pack(">I", len(data)) + data)
+    with open("crates/report_trial/stdout", "w") as out:
+        for data in files:
+            out.write(told(data))
+    print(len(files), "files")
+
+
+if __name__ == "__main__":
+    main()
