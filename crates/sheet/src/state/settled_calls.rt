@@ -32,6 +32,28 @@ impl SettledSheet {
         self.open.size()
     }
 
+    // The tables that a call was handed, as one value.
+    pub(super) fn lend<'a, K>(
+        &self,
+        costs: &'a [K],
+        standing: &'a [u8],
+        partners: &'a [u16],
+        left: &'a [K],
+        right: &'a [K],
+    ) -> Tables<'a, K>
+        ensures { result ≡ lent (size_of self.now) costs.now standing.now partners.now left.now
+            right.now }
+    {
+        Tables {
+            size: self.size(),
+            costs,
+            standing,
+            partners,
+            left,
+            right,
+        }
+    }
+
     /// The cost of a standing pair, and what it exceeds the pair's two prices by.
     ///
     /// Refused, in this order: a table of the wrong length, tables that do not hold together, a
@@ -51,14 +73,7 @@ impl SettledSheet {
             (IsQuote K.Cost t left_block right_block) ⊤ }
     {
         let n = self.size();
-        check(&Tables {
-            size: n,
-            costs,
-            standing,
-            partners,
-            left,
-            right,
-        })?;
+        check(&self.lend(costs, standing, partners, left, right))?;
         if left_block >= n || right_block >= n {
             return Err(Cause::Block.at(0));
         }
@@ -87,14 +102,7 @@ impl SettledSheet {
             (λ sum. K.meaning sum ≡ total (grid K.Cost t) partners.now) ⊤ }
     {
         let n = self.size();
-        check(&Tables {
-            size: n,
-            costs,
-            standing,
-            partners,
-            left,
-            right,
-        })?;
+        check(&self.lend(costs, standing, partners, left, right))?;
         let mut sum = K::zero();
         for (l, r) in partners.iter().enumerate() {
             sum = sum.add(costs[place(n, l as u16, *r)]);
@@ -121,14 +129,7 @@ impl SettledSheet {
             (λ _. AreMarks K.Cost t table.new) (table.new ≡ table.old) }
     {
         let n = self.size();
-        let tables = Tables {
-            size: n,
-            costs,
-            standing,
-            partners,
-            left,
-            right,
-        };
+        let tables = self.lend(costs, standing, partners, left, right);
         if !tables.fit() || table.len() != places(n) {
             return Err(Cause::TableLength.at(0));
         }
@@ -153,14 +154,7 @@ impl SettledSheet {
             in Starts K.Cost t self list.old list.new result }
     {
         let n = self.size();
-        let tables = Tables {
-            size: n,
-            costs,
-            standing,
-            partners,
-            left,
-            right,
-        };
+        let tables = self.lend(costs, standing, partners, left, right);
         if !tables.fit() || list.len() != n as usize {
             return Err(self.unstarted(Cause::TableLength.at(0)));
         }

@@ -10,7 +10,6 @@ use super::Walk;
 use crate::fault::{Cause, Fault};
 use cost::Cost;
 use matching::Step;
-use tables::Tables;
 use walk::next;
 
 impl Walk {
@@ -41,14 +40,7 @@ impl Walk {
             (IsStep K.Cost t list.old list.new) (list.new ≡ list.old) }
     {
         let n = self.size();
-        let tables = Tables {
-            size: n,
-            costs,
-            standing,
-            partners,
-            left,
-            right,
-        };
+        let tables = self.settled.lend(costs, standing, partners, left, right);
         if !tables.fit() || list.len() != n as usize {
             return Err(Cause::TableLength.at(0));
         }

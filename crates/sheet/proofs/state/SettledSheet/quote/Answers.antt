@@ -3,7 +3,7 @@ use Rattle.std.proofs.Common.{◌≡◌, ℕ, true, get_or, sym, ap, ◌∙◌, 
 use Rattle.pairing.specs.Places.{place_of}
 use Rattle.tables.specs.PairTables.{says_stands, byte_of}
 use Rattle.tables.specs.Lent.{lent}
-use Rattle.sheet.specs.Walking.{AreBlocks, quote_needs, IsQuote}
+use Rattle.sheet.specs.Walking.{AreBlocks, quote_needs, total_needs, IsQuote}
 use Rattle.sheet.specs.Needs.{AreMet}
 use Rattle.sheet.proofs.Quoting.{quoted}
 use Rattle.sheet.proofs.state.SettledSheet.quote.Goals as goal
@@ -16,7 +16,8 @@ returns g c =
     let t = λ (n : ℕ). lent n c.args.costs.now c.args.standing.now c.args.partners.now
     c.args.left.now c.args.right.now in
     let cost = c.index-costs-at.result in
-    let met = c.in_ok-check.ensures in
+    let met = subst (λ u. AreMet (total_needs g.K.Cost u))
+    (c.lend.ensures ∙ ap t (sym c.size-n.ensures.value)) c.in_ok-check.ensures.0 in
     let are : AreBlocks n l r = record {
       left_below = c.if-left_block-n.false;
       right_below = c.if-right_block-n.false;
@@ -28,8 +29,8 @@ returns g c =
     c.index-costs-at.is ∙ ap (λ p. get_or c.args.costs.now p cost) c.place-at.ensures in
     subst (λ n. AreMet (quote_needs g.K.Cost (t n) l r)
     × IsQuote g.K.Cost (t n) l r (cost, c.take_away.result)) c.size-n.ensures.value (
-      (met.0.0, (met.0.1.0, (are, (stands, tt)))),
-      quoted g.K.Cost (t n) met.0.1.0 l r are stands cost c.index-left-left_block.result
+      (met.0, (met.1.0, (are, (stands, tt)))),
+      quoted g.K.Cost (t n) met.1.0 l r are stands cost c.index-left-left_block.result
           c.index-right-right_block.result c.add-prices.result c.take_away.result read
           c.index-left-left_block.is c.index-right-right_block.is c.add-prices.ensures
           c.take_away.ensures,
