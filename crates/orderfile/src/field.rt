@@ -5,7 +5,7 @@ ghost use Rattle.std.specs.Prelude.{◌==◌};
 ghost use Rattle.orderfile.specs.Faults.{Handed, RunsPast};
 ghost use Rattle.orderfile.specs.Format.{overruns, extent};
 
-use sheet::fault::{Cause, Fault};
+use sheet::{Cause, Fault};
 
 /// A field as a part of the file: its tag, its value, and the offset of its tag.
 #[derive(Clone, Copy)]

@@ -11,9 +11,7 @@ ghost use Rattle.orderfile.specs.Loading.{Checked, costs_after, standing_after, 
 use crate::record::Record;
 use crate::record_reader::RecordReader;
 use cost::Plain;
-use sheet::fault::Fault;
-use sheet::state::OpenSheet;
-use sheet::state::open_calls::open;
+use sheet::{Fault, OpenSheet, open};
 
 /// The size that a file states, once all of the file has been read; or its first fault.
 pub fn check(file: &[u8]) -> Result<u16, Fault>

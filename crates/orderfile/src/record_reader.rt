@@ -11,7 +11,7 @@ ghost use Rattle.orderfile.specs.declared.record.Stage.TheVariants.{Start as AtS
 
 use crate::field::{Field, FieldReader};
 use crate::record::{Record, Stage, StatedPair};
-use sheet::fault::{Cause, Fault};
+use sheet::{Cause, Fault};
 use tables::{COST_LIMIT, MOST_BLOCKS};
 
 /// Moves over the records of a file.

@@ -11,8 +11,7 @@ ghost use Rattle.orderfile.specs.Saving.{saved_length, pair_at, pairs_listed, Sa
 
 use crate::record::StatedPair;
 use cost::Plain;
-use sheet::fault::{Cause, Fault};
-use sheet::state::OpenSheet;
+use sheet::{Cause, Fault, OpenSheet};
 use tables::{have_places, in_order, standing_pairs, stands};
 
 // The lengths of the three kinds of field.

@@ -18,7 +18,7 @@ use crate::solving::{Solved, solve};
 use crate::words::explain;
 use cost::Plain;
 use orderfile::loading::{check, load};
-use sheet::state::{OpenSheet, SettledSheet};
+use sheet::{OpenSheet, SettledSheet};
 use std::alloc::{AllocError, Global};
 use tables::{Tables, places};
 

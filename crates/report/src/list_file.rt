@@ -16,9 +16,8 @@ ghost use Rattle.report.specs.Listing.{listed, listing_text, Lists};
 use crate::pairing_lines::{MOST_PAIRINGS, cause_line, push_pairing_line, push_total_line};
 use crate::solving::{Solved, solve};
 use cost::Plain;
-use matching::Step;
 use orderfile::loading::{check, load};
-use sheet::state::{OpenSheet, SettledSheet, Walk};
+use sheet::{OpenSheet, SettledSheet, Step, Walk};
 use std::alloc::{AllocError, Global};
 use tables::{Tables, places};
 

@@ -4,7 +4,7 @@ ghost use Rattle.std.specs.Prelude.{◌≡◌, ◌++◌, [], ◌∷◌, IfOk, On
 ghost use Rattle.report.specs.Listing.{cause_line, pairing_line, total_line};
 
 use cost::Plain;
-use sheet::fault::Cause;
+use sheet::Cause;
 use std::alloc::{AllocError, Global};
 
 /// A listing has at most this many pairings.

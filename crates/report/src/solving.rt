@@ -7,8 +7,7 @@ ghost use Rattle.orderfile.specs.Loading.{plain_kind};
 ghost use Rattle.report.specs.Solving.{IsSolved, IsUnsolved};
 
 use cost::Plain;
-use sheet::fault::Fault;
-use sheet::state::{OpenSheet, SettledSheet};
+use sheet::{Fault, OpenSheet, SettledSheet};
 use std::alloc::{AllocError, Global};
 
 /// A settled sheet, with the tables that settling wrote.

@@ -3,7 +3,7 @@
 ghost use Rattle.std.specs.Prelude.{◌≡◌, IfOk, string_bytes};
 ghost use Rattle.report.specs.Words.{meaning_of, remedy_for, is_of_field, explanation};
 
-use sheet::fault::{Cause, Fault};
+use sheet::{Cause, Fault};
 use std::alloc::{AllocError, Global};
 
 /// What a cause means.

@@ -1,8 +1,7 @@
 //! Opening, entering, striking and reading.
 
 use cost::Plain;
-use sheet::fault::Fault;
-use sheet::state::open_calls::open;
+use sheet::{Fault, open};
 use std::test::Fail;
 
 // The number of a refusal at place 0 in layer 3, which all calls on a sheet give; 0 where the call
