@@ -2,7 +2,7 @@
 -- Idea: the buffer is always what was written so far followed by the rest of what it held at first;
 -- the next bytes take the place of the front of that rest.
 use Rattle.std.proofs.Common.{◌≡◌, ℕ, suc, ◌+◌, ◌-◌, ◌<◌, ◌≤◌, true, false, List, ◌++◌, length}
-use Rattle.std.proofs.Common.{get_or, take, drop, sym, refl, ap, ◌∙◌, append_assoc, append-nil}
+use Rattle.std.proofs.Common.{get_or, take, drop, sym, refl, ap, ◌∙◌, append_assoc}
 use Rattle.std.proofs.Common.{arith}
 use Rattle.std.proofs.lemmas.List.{drop-drop, drop_at, take_at, length-append, take-append-drop}
 use Rattle.std.proofs.lemmas.List.{length-take-le}
@@ -106,13 +106,6 @@ module _ (n : ℕ) (costs : List Plain) (standing out₀ : List ℕ) (k at : ℕ
     whole =
         ap (λ t. w.done ++ t) (sym (left_no n costs standing k h e)) ∙ w.whole;
   }
-
-  pub writing_done : places_of n ≤ k → w.done ≡ take 4 out₀ ++ left_bytes n costs standing 0
-  writing_done h =
-      let none : places_of n - k ≡ 0 = omega arith in
-      sym (append-nil w.done)
-      ∙ ap (λ m. w.done ++ flat_map pair_field (pairs_listed n costs standing k m)) (sym none)
-      ∙ w.whole
 
 -- all places are left at first
 pub left_all : (n : ℕ) (costs : List Plain) (standing : List ℕ)

@@ -97,12 +97,6 @@ module _ (n : ℕ) (some : 1 ≤ n) (few : n ≤ 64) where
       (taken_pair m p todo next h.0 s.0 (ap (record_next (Sized m)) (sym h.1) ∙ e))
   left_more (Ended m) rest todo next s h e = let z : ◌≡◌ {A = ℕ} 0 1 = cc in absurd (omega arith)
 
-  pub left_none : (stage : Stage) (rest : List ℕ) (todo : List StatedPair) → Left stage rest n todo
-      → record_next stage rest ≡ None → todo ≡ []
-  left_none Start rest todo h e = let z : ◌≡◌ {A = ℕ} 0 1 = cc in absurd (omega arith)
-  left_none (Sized m) rest todo h e = let z : ◌≡◌ {A = ℕ} 0 1 = cc in absurd (omega arith)
-  left_none (Ended m) rest todo h e = h.1
-
 -- the invariant: of an order that the file states, some pairs were entered and the others are still
 -- to come
 pub record Split (order : Order) (costs₀ : List Plain) (standing₀ : List ℕ) (stage : Stage)
@@ -119,28 +113,10 @@ abbrev pub Entering : List ℕ → ℕ → List Plain → List ℕ → Stage →
 Entering file n costs₀ standing₀ stage rest costs standing = (order : Order) → States file order
     → order.size ≡ n → Split order costs₀ standing₀ stage rest costs standing
 
-pub entering_start : (file : List ℕ) (n : ℕ) (costs : List Plain) (standing : List ℕ)
-    → Entering file n costs standing Start file costs standing
-entering_start file n costs standing order s e =
-    record {
-      done = [];
-      todo = order.pairs;
-      all = refl;
-      left = s.is_file;
-      costs_are =
-          refl;
-      standing_are = refl;
-    }
-
 all_later : {X : Type 0} (P : X → Type 0) (xs ys : List X) → AllByRecursion P (xs ++ ys)
     → AllByRecursion P ys
 all_later P [] ys h = h
 all_later P (x ∷ xs) ys h = all_later P xs ys h.1
-
-all_front : {X : Type 0} (P : X → Type 0) (xs ys : List X) → AllByRecursion P (xs ++ ys)
-    → AllByRecursion P xs
-all_front P [] ys h = tt
-all_front P (x ∷ xs) ys h = (h.0, all_front P xs ys h.1)
 
 module _ (order : Order) (sound : Sound order) (costs₀ : List Plain) (standing₀ : List ℕ)
     (stage : Stage) (rest : List ℕ) (costs : List Plain) (standing : List ℕ)

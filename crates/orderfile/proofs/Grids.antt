@@ -6,10 +6,7 @@
 use Rattle.std.proofs.Common.{◌≡◌, ℕ, ◌<◌, ◌≤◌, Bool, true, false, cond, ◌⊎◌, List, []}
 use Rattle.std.proofs.Common.{◌∷◌, length, get_or, set, replicate, ℤ, pos, nat_abs, Some, None}
 use Rattle.std.proofs.Common.{Option, sym, refl, ap, ◌∙◌, subst, inl, inr, ⊎_elim, arith}
-use Rattle.std.proofs.lemmas.List.{length-set, length-replicate, get_or-map, get_or-replicate}
-use Rattle.std.proofs.lemmas.List.{get_or-set_other}
-use Rattle.std.proofs.lemmas.Grind.{get_or-set_at}
-use Rattle.std.proofs.lemmas.Bool.{cases_eq}
+use Rattle.std.proofs.lemmas.List.{length-set, length-replicate, get_or-map}
 use Rattle.std.specs.Option.{option_map, is_some}
 use Rattle.std.specs.List.{AllByRecursion}
 use Rattle.cost.specs.Columns.{rail_of, Within}
@@ -17,10 +14,11 @@ use Rattle.cost.specs.declared.plain_kind.Plain.{Plain}
 use Rattle.cost.proofs.Exact.{rail_of_same}
 use Rattle.pairing.specs.Inside.{SameInside}
 use Rattle.pairing.specs.Places.{place_of, places_of}
-use Rattle.tables.specs.PairTables.{says_stands, says_disturbed, byte_of}
+use Rattle.tables.specs.PairTables.{says_stands, byte_of}
 use Rattle.tables.specs.Said.{columns_at, IsInOrder}
 use Rattle.tables.specs.Together.{ArePairTables}
 use Rattle.tables.proofs.Cells.{place_below}
+use Rattle.tables.proofs.Writing.{wrote_in_order, blank_in_order}
 use Rattle.orderfile.specs.declared.record.StatedPair.{StatedPair}
 use Rattle.orderfile.specs.Format.{Order, Sound, SoundPair}
 use Rattle.orderfile.specs.Loading.{plain, plain_kind, plain_grid, costs_after, standing_after}
@@ -97,55 +95,10 @@ module _ (order : Order) (sound : AllByRecursion (SoundPair order.size) order.pa
 
 -- ---- Order
 
--- a stated cost and the byte beside it, written at one place of tables that are in order
-module _ (places : ℕ) (costs : List Plain) (standing : List ℕ) (costs_long : length costs ≡ places)
-    (standing_long : length standing ≡ places) (at : ℕ) (z : ℤ) (small : nat_abs z ≤ 1000000000)
-    (o : IsInOrder plain_kind places costs standing) where
-  costs' : List Plain
-  costs' = set costs at (plain z)
-
-  standing' : List ℕ
-  standing' = set standing at 1
-
-  -- what is read at a place afterwards
-  read_here : (k : ℕ) → k < places → k ≡ at
-      → (columns_at plain_kind costs' k ≡ rail_of z ∷ []) × (get_or standing' k 0 ≡ 1)
-  unfolding costs' standing'
-  read_here k h e = (
-    get_or-map plain_kind.meaning (set costs at (plain z)) k (plain (pos 0)) []
-        (omega (arith, length-set costs at (plain z)))
-        ∙ ap plain_kind.meaning (get_or-set_at costs at k (plain z) (plain (pos 0)) e
-        (omega arith)),
-    get_or-set_at standing at k 1 0 e (omega arith),
-  )
-
-  read_elsewhere : (k : ℕ) → k < places → (k ≡ at → ⊥)
-      → (columns_at plain_kind costs' k ≡ columns_at plain_kind costs k)
-      × (get_or standing' k 0 ≡ get_or standing k 0)
-  unfolding costs' standing'
-  read_elsewhere k h differ = (
-    get_or-map plain_kind.meaning (set costs at (plain z)) k (plain (pos 0)) []
-        (omega (arith, length-set costs at (plain z)))
-        ∙ ap plain_kind.meaning (get_or-set_other costs at k (plain z) (plain (pos 0)) differ)
-        ∙ sym (get_or-map plain_kind.meaning costs k (plain (pos 0)) [] (omega arith)),
-    get_or-set_other standing at k 1 0 differ,
-  )
-
-  means_small : Within 1000000000 (rail_of z ∷ [])
-  means_small =
-      (subst (λ x. nat_abs x ≤ 1000000000) (sym (rail_of_same z (omega arith))) small, tt)
-
-  wrote_in_order : IsInOrder plain_kind places costs' standing'
-  wrote_in_order = record {
-    bytes = λ k h. ⊎_elim
-        (λ here. ap says_disturbed (read_here k h here).1)
-        (λ there. ap says_disturbed (read_elsewhere k h there).1 ∙ o.bytes k h) (cases_eq k at);
-    small = λ k h stands. ⊎_elim
-        (λ here. subst (Within 1000000000) (sym (read_here k h here).0) means_small)
-        (λ there. subst (Within 1000000000) (sym (read_elsewhere k h there).0)
-        (o.small k h (ap says_stands (sym (read_elsewhere k h there).1) ∙ stands)))
-        (cases_eq k at);
-  }
+-- a stated cost means a number within the limit
+means_small : (z : ℤ) → nat_abs z ≤ 1000000000 → Within 1000000000 (rail_of z ∷ [])
+means_small z small =
+    (subst (λ x. nat_abs x ≤ 1000000000) (sym (rail_of_same z (omega arith))) small, tt)
 
 after_in_order : (n : ℕ) (ps : List StatedPair) (costs : List Plain) (standing : List ℕ)
     → AllByRecursion (SoundPair n) ps → length costs ≡ places_of n → length standing ≡ places_of n
@@ -154,24 +107,13 @@ after_in_order : (n : ℕ) (ps : List StatedPair) (costs : List Plain) (standing
     × (length (standing_after n ps standing) ≡ places_of n)
     × IsInOrder plain_kind (places_of n) (costs_after n ps costs)
     (standing_after n ps standing)
-unfolding costs' standing'
 after_in_order n [] costs standing s ec eb o = (ec, eb, o)
 after_in_order n (p ∷ ps) costs standing s ec eb o =
     let at = place_of n p.left p.right in
     after_in_order n ps (set costs at (plain p.cost)) (set standing at 1) s.1
     (length-set costs at (plain p.cost) ∙ ec) (length-set standing at 1 ∙ eb)
-    (wrote_in_order (places_of n) costs standing ec eb at p.cost s.0.cost_within o)
-
-blank_in_order : (places : ℕ) → IsInOrder plain_kind places
-    (replicate places (plain (pos 0))) (replicate places 0)
-blank_in_order places = record {
-  bytes = λ k h. ap says_disturbed (get_or-replicate places k 0 0 h);
-  small = λ k h stands.
-      let z : ◌≡◌ {A = Bool} false true =
-      sym (ap says_stands (get_or-replicate places k 0 0 h)) ∙ stands in
-      let one : ◌≡◌ {A = ℕ} 0 1 = cc in
-      absurd (omega arith);
-}
+    (wrote_in_order plain_kind (places_of n) costs standing ec eb at 1 (plain p.cost) refl
+    (λ _. means_small p.cost s.0.cost_within) o)
 
 pub entered_tables : (order : Order) → Sound order → ArePairTables plain_kind order.size
     (costs_after order.size order.pairs (replicate (places_of order.size) (plain (pos 0))))
@@ -180,5 +122,6 @@ entered_tables order s =
     let places = places_of order.size in
     let after = after_in_order order.size order.pairs (replicate places (plain (pos 0)))
     (replicate places 0) s.pairs_sound (length-replicate places (plain (pos 0)))
-    (length-replicate places 0) (blank_in_order places) in
+    (length-replicate places 0) (blank_in_order plain_kind places
+    (replicate places (plain (pos 0)))) in
     record { few = s.few; costs_long = after.0; standing_long = after.1; in_order = after.2 }

@@ -1,4 +1,4 @@
--- The invariant of a loop over a file's records, with its start, its step and its two ends.
+-- The invariant of a loop over a file's records, with its step and its two ends.
 -- Idea: what was read is a sound front, what is left follows it, and the place is the front's
 -- length. A record without a fault makes the front grow; a fault is then the file's first one; and
 -- where no record is left, the front is the whole file.
@@ -32,9 +32,6 @@ abbrev pub Known : Stage → ℕ → Type 0
 Known Start size = size ≡ 0
 Known (Sized n) size = size ≡ n
 Known (Ended n) size = size ≡ n
-
-pub reading_start : (file : List ℕ) → Reading file Start file 0
-reading_start file = record { pairs = []; splits = refl; sound = refl; placed = refl }
 
 -- a record that has no fault lies within what is left
 pub passed-fits : (stage : Stage) (rest : List ℕ) (at : ℕ) → field_fault stage rest at ≡ None

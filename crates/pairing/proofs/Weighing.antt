@@ -75,7 +75,8 @@ module _ (g : Grid) (s : Sane g) where
         (h.standing k (omega arith)) in
         length-columnwise ◌+ℤ◌ (total_of g p k) (g.cost k (at p k)) (ih ∙ sym c) ∙ ih
 
-    total-within : (k : ℕ) → k ≤ g.size → Within (k * 1000000000) (total_of g p k)
+    -- the costs of the first k pairs together are within k times the limit of one
+    pub total-within : (k : ℕ) → k ≤ g.size → Within (k * 1000000000) (total_of g p k)
     total-within zero b = zeros_within 0 g.columns
     total-within (suc k) b =
         within_more (k * 1000000000 + 1000000000) (suc k * 1000000000) (total_of g p (suc k))

@@ -14,8 +14,7 @@ use Rattle.pairing.proofs.Listing.{optima_are}
 use Rattle.matching.specs.Answers.{IsNth, Follows}
 use Rattle.matching.proofs.Nth.{contains_nth}
 use Rattle.matching.specs.declared.stepping.Step.TheVariants.{Next, End}
-use Rattle.sheet.specs.declared.fault.Cause.TheVariants.{NoPerfectPairing}
-use Rattle.report.specs.Listing.{pairing_line, pairing_lines, total_line, cause_line}
+use Rattle.report.specs.Listing.{pairing_line, pairing_lines, total_line}
 use Rattle.report.specs.Listing.{listed, listing_over, listing_text}
 
 -- ---- Places
@@ -93,9 +92,6 @@ module _ (g : Grid) where
   pub listing_first : (p text : List ℕ) → IsNth (optima g) 0 p
       → text ≡ total_line (total g p) ++ listed (optima g) → text ≡ listing_text g
   listing_first p text first e = over_first (optima g) p text first e
-
-  pub listing_none : optima g ≡ [] → listing_text g ≡ cause_line NoPerfectPairing
-  listing_none none = ap (listing_over g) none
 
 -- grids of which the same is told have the same listing
 module _ (g h : Grid) where

@@ -5,3 +5,4 @@ pub mod Tightness
 pub mod Lengths
 pub mod Orders
 pub mod Cells
+pub mod Writing
