@@ -3,5 +3,5 @@ pub mod Describing
 pub mod Listing
 pub mod Mapping
 pub mod Words
-pub mod Solving
+pub mod Settlement
 pub mod Drawing

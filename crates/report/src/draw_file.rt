@@ -12,9 +12,9 @@ ghost use Rattle.orderfile.specs.Loading.{plain_kind, plain_grid};
 ghost use Rattle.report.specs.Text.{cost_in};
 ghost use Rattle.report.specs.Drawing.{map_of, Draws};
 
+use crate::fresh_tables::settle_afresh;
 use crate::pairing_lines::push_total_line;
 use crate::sheet_map::Drawing;
-use crate::solving::{Solved, solve};
 use crate::words::explain;
 use cost::Plain;
 use orderfile::loading::{check, load};
@@ -74,19 +74,19 @@ fn draw_sheet(
     ensures { let n = size_of sheet in IfOk result (λ text. string_bytes text
         ≡ map_of (cost_in n costs.now standing.now) (plain_grid n costs.now standing.now)) }
 {
-    let solved = match solve(heap, sheet, costs, standing)? {
-        Ok(solved) => solved,
+    let settlement = match settle_afresh(heap, sheet, costs, standing)? {
+        Ok(settlement) => settlement,
         Err(fault) => return explain(heap, fault),
     };
     let tables = Tables {
-        size: solved.sheet.size(),
+        size: settlement.sheet.size(),
         costs,
         standing,
-        partners: solved.partners.as_slice(),
-        left: solved.left.as_slice(),
-        right: solved.right.as_slice(),
+        partners: settlement.partners.as_slice(),
+        left: settlement.left.as_slice(),
+        right: settlement.right.as_slice(),
     };
-    draw_settled(heap, &solved.sheet, &tables)
+    draw_settled(heap, &settlement.sheet, &tables)
 }
 
 // Loads a file into tables of the right lengths, and draws the sheet or tells the refusal.

@@ -11,11 +11,11 @@ ghost use Rattle.report.specs.Text.{pair_line, cost_in, row_lines, all_lines, sh
 mod aligned;
 mod draw_file;
 mod form;
+mod fresh_tables;
 mod input;
 mod list_file;
 mod pairing_lines;
 mod sheet_map;
-mod solving;
 mod words;
 
 use cost::Plain;

@@ -13,8 +13,8 @@ ghost use Rattle.orderfile.specs.Format.{Order, States};
 ghost use Rattle.orderfile.specs.Loading.{plain_kind, plain_grid};
 ghost use Rattle.report.specs.Listing.{listed, listing_text, Lists};
 
+use crate::fresh_tables::{Settlement, settle_afresh};
 use crate::pairing_lines::{MOST_PAIRINGS, cause_line, push_pairing_line, push_total_line};
-use crate::solving::{Solved, solve};
 use cost::Plain;
 use orderfile::loading::{check, load};
 use sheet::{OpenSheet, SettledSheet, Step, Walk};
@@ -110,16 +110,16 @@ fn list_sheet(
     ensures { IfOk result (λ text. string_bytes text
         ≡ listing_text (plain_grid (size_of sheet) costs.now standing.now)) }
 {
-    let solved = match solve(heap, sheet, costs, standing)? {
-        Ok(solved) => solved,
+    let settlement = match settle_afresh(heap, sheet, costs, standing)? {
+        Ok(settlement) => settlement,
         Err(fault) => return cause_line(heap, fault.cause),
     };
-    let Solved {
+    let Settlement {
         sheet,
         partners,
         left,
         right,
-    } = solved;
+    } = settlement;
     let tables = Tables {
         size: sheet.size(),
         costs,

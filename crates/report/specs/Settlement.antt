@@ -9,20 +9,21 @@ use Rattle.sheet.specs.Refusals.{fault}
 use Rattle.sheet.specs.declared.fault.Cause.TheVariants.{NoPerfectPairing}
 use Rattle.sheet.specs.declared.fault.Fault.{Fault}
 use Rattle.orderfile.specs.Loading.{plain_kind, plain_grid}
-use Rattle.report.specs.declared.solving.Solved.{Solved}
+use Rattle.report.specs.declared.fresh_tables.Settlement.{Settlement}
 
--- the tables of a solved sheet, beside the pair tables that it was settled over
-abbrev pub solved_tables : ℕ → List Plain → List ℕ → Solved → Lent Plain
-solved_tables n costs standing s =
+-- the tables of a settlement, beside the pair tables that the sheet was settled over
+abbrev pub tables_of : ℕ → List Plain → List ℕ → Settlement → Lent Plain
+tables_of n costs standing s =
     lent n costs standing s.partners.items s.left.items s.right.items
 
 -- they hold together, and their partners are the first optimum pairing
-pub record IsSolved (n : ℕ) (costs : List Plain) (standing : List ℕ) (s : Solved) : Type 0 where
+pub record IsSettlement (n : ℕ) (costs : List Plain) (standing : List ℕ) (s : Settlement)
+    : Type 0 where
   pub size : s.sheet.size ≡ n
-  pub together : Together plain_kind (solved_tables n costs standing s)
-  pub settled : Settled plain_kind (solved_tables n costs standing s)
+  pub together : Together plain_kind (tables_of n costs standing s)
+  pub settled : Settled plain_kind (tables_of n costs standing s)
 
 -- there is no optimum pairing
-pub record IsUnsolved (n : ℕ) (costs : List Plain) (standing : List ℕ) (f : Fault) : Type 0 where
+pub record HasNoPairing (n : ℕ) (costs : List Plain) (standing : List ℕ) (f : Fault) : Type 0 where
   pub fault_is : f ≡ fault NoPerfectPairing 0
   pub none : optima (plain_grid n costs standing) ≡ []

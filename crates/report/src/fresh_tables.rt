@@ -4,7 +4,7 @@ ghost use Rattle.std.specs.Prelude.{IfOk, MatchResult};
 ghost use Rattle.tables.specs.Together.{ArePairTables};
 ghost use Rattle.sheet.specs.Size.{size_of};
 ghost use Rattle.orderfile.specs.Loading.{plain_kind};
-ghost use Rattle.report.specs.Solving.{IsSolved, IsUnsolved};
+ghost use Rattle.report.specs.Settlement.{IsSettlement, HasNoPairing};
 
 use cost::Plain;
 use sheet::{Fault, OpenSheet, SettledSheet};
@@ -12,7 +12,7 @@ use std::alloc::{AllocError, Global};
 
 /// A settled sheet, with the tables that settling wrote.
 #[derive(Drop)]
-pub struct Solved {
+pub struct Settlement {
     pub sheet: SettledSheet,
     pub partners: Vec<u16>,
     pub left: Vec<Plain>,
@@ -21,16 +21,16 @@ pub struct Solved {
 
 /// Settles a sheet with fresh tables, or tells why it cannot be settled: where its pair tables are
 /// in order, for want of a perfect pairing alone.
-pub fn solve(
+pub fn settle_afresh(
     heap: Global,
     sheet: OpenSheet,
     costs: &[Plain],
     standing: &[u8],
-) -> Result<Result<Solved, Fault>, AllocError>
+) -> Result<Result<Settlement, Fault>, AllocError>
     requires { ArePairTables plain_kind (size_of sheet) costs.now standing.now }
     ensures { IfOk result (λ answer. MatchResult answer
-        (λ solved. IsSolved (size_of sheet) costs.now standing.now solved)
-        (λ f. IsUnsolved (size_of sheet) costs.now standing.now f)) }
+        (λ settlement. IsSettlement (size_of sheet) costs.now standing.now settlement)
+        (λ f. HasNoPairing (size_of sheet) costs.now standing.now f)) }
 {
     let size = sheet.size() as usize;
     let mut partners = vec![in heap; 0u16; size]?;
@@ -42,7 +42,7 @@ pub fn solve(
         right.as_mut_slice(),
     );
     match sheet.settle(costs, standing, mates, lefts, rights) {
-        Ok(sheet) => Ok(Ok(Solved {
+        Ok(sheet) => Ok(Ok(Settlement {
             sheet,
             partners,
             left,

@@ -1,7 +1,7 @@
 -- Fresh tables have the right lengths, so only a perfect pairing can be missing.
 use Rattle.std.proofs.Common.{◌∙◌}
 use Rattle.report.proofs.Accepting.{unsettled}
-use Rattle.report.proofs.solving.solve.Goals as goal
+use Rattle.report.proofs.fresh_tables.settle_afresh.Goals as goal
 
 pub returns-in-Err : goal.returns-in-Err
 returns-in-Err c =
