@@ -14,11 +14,11 @@ use Rattle.blockset.specs.declared.BlockSet.{BlockSet}
 use Rattle.pairing.specs.Places.{place_of}
 use Rattle.pairing.specs.Rows.{holds}
 use Rattle.assign.specs.declared.limits.TheConstants.{LEFT_PRICE_LIMIT}
-use Rattle.assign.specs.Weighed.{Lent}
+use Rattle.assign.specs.Weighed.{SearchTables}
 
 -- the place of a pair that stands is in the cost table
 pub place_inside : {K : Type 0} (kind : Ghosts K) (rows : List BlockSet) (costs : List K)
-    → Lent kind rows costs → (l r : ℕ) → l < length rows → holds rows l r ≡ true
+    → SearchTables kind rows costs → (l r : ℕ) → l < length rows → holds rows l r ≡ true
     → place_of (length rows) l r < length costs
 place_inside kind rows costs lent l r h stands =
     omega (

@@ -21,7 +21,7 @@ use Rattle.tables.specs.Lent.{lent}
 use Rattle.pairing.proofs.Alike.{perfect_like}
 use Rattle.tables.proofs.Alike.{rows_alike, unpaired_rows}
 use Rattle.tables.proofs.Orderly.{columns_sized, sane_in_order}
-use Rattle.assign.specs.Weighed.{weight_at, cost_weight, Lent}
+use Rattle.assign.specs.Weighed.{weight_at, cost_weight, SearchTables}
 use Rattle.assign.specs.Prices.{Solution}
 use Rattle.assign.specs.Answer.{Solved}
 use Rattle.assign.proofs.Ending.{perfect_of, greatest}
@@ -72,12 +72,12 @@ module _ {K : Type 0} (kind : Ghosts K)
       }
 
 -- rows of the standing pairs of tables that are in order are what a search is lent
-pub lent_of : {K : Type 0} (kind : Ghosts K) (n : ℕ) (costs : List K) (standing : List ℕ)
+pub search_tables_of : {K : Type 0} (kind : Ghosts K) (n : ℕ) (costs : List K) (standing : List ℕ)
     (rows : List BlockSet) → length rows ≡ n → n ≤ 64 → length costs ≡ n * n
     → IsInOrder kind (n * n) costs standing
     → StandingRows (length rows) (λ l r. says_stands (byte_of (length rows) standing l r)) rows
-    → Lent kind rows costs
-lent_of kind n costs standing rows long few square ordered made = record {
+    → SearchTables kind rows costs
+search_tables_of kind n costs standing rows long few square ordered made = record {
   few = omega arith;
   square = square ∙ ap (λ k. k * k) (sym long);
   inside = λ l c h t. inside l c h t;

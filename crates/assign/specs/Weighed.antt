@@ -26,8 +26,8 @@ BoundedOn kind limit set table = (k : ℕ) → set k ≡ true
 
 -- Rows of the right blocks that stand, and a cost within COST_LIMIT in each column for each of
 -- their pairs: what every search is lent
-pub record Lent {K : Type 0} (kind : Ghosts K) (rows : List BlockSet) (costs : List K) : Type
-    0 where
+pub record SearchTables {K : Type 0} (kind : Ghosts K) (rows : List BlockSet) (costs : List K)
+    : Type 0 where
   pub few : length rows ≤ MOST_BLOCKS
   pub square : length costs ≡ places_of (length rows)
   pub inside : (l c : ℕ) → l < length rows → holds rows l c ≡ true → c < length rows

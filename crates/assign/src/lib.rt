@@ -14,7 +14,7 @@ ghost use Rattle.pairing.specs.Grid.{Perfect};
 ghost use Rattle.pairing.specs.Largest.{Unpaired};
 ghost use Rattle.pairing.specs.Rows.{holds};
 ghost use Rattle.tables.specs.Lent.{lent};
-ghost use Rattle.assign.specs.Weighed.{Lent};
+ghost use Rattle.assign.specs.Weighed.{SearchTables};
 ghost use Rattle.assign.specs.Prices.{Solution};
 ghost use Rattle.assign.specs.Answer.{Answers, Solved};
 
@@ -101,7 +101,7 @@ fn solve<K: Cost>(
     left: &mut [K],
     right: &mut [K],
 )
-    requires lent { Lent K.Cost rows.now costs.now }
+    requires lent { SearchTables K.Cost rows.now costs.now }
     requires partnered { length partners.old ≡ length rows.now }
     requires lefts { length left.old ≡ length rows.now }
     requires rights { length right.old ≡ length rows.now }

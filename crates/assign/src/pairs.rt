@@ -5,7 +5,7 @@ ghost use Rattle.blockset.specs.declared.TheConstants.{MOST_BLOCKS};
 ghost use Rattle.blockset.specs.Has.{has};
 ghost use Rattle.pairing.specs.Grid.{at, Perfect};
 ghost use Rattle.pairing.specs.Rows.{holds};
-ghost use Rattle.assign.specs.Weighed.{Lent};
+ghost use Rattle.assign.specs.Weighed.{SearchTables};
 ghost use Rattle.matching.specs.Exchange.{without};
 ghost use Rattle.assign.specs.Pairs.{Chosen, PricedPairing};
 
@@ -55,7 +55,7 @@ pub fn pair_row<K: Cost>(
     left: &mut [K],
     right: &mut [K],
 )
-    requires lent { Lent K.Cost rows.now costs.now }
+    requires lent { SearchTables K.Cost rows.now costs.now }
     requires partnered { length partners.old ≡ length rows.now }
     requires lefts { length left.old ≡ length rows.now }
     requires rights { length right.old ≡ length rows.now }
@@ -83,7 +83,7 @@ pub fn pair_rest<K: Cost>(
     left: &mut [K],
     right: &mut [K],
 ) -> Holders
-    requires lent { Lent K.Cost rows.now costs.now }
+    requires lent { SearchTables K.Cost rows.now costs.now }
     requires partnered { length partners.old ≡ length rows.now }
     requires lefts { length left.old ≡ length rows.now }
     requires rights { length right.old ≡ length rows.now }

@@ -10,7 +10,7 @@ ghost use Rattle.pairing.specs.Rows.{holds};
 ghost use Rattle.tables.specs.Said.{Bounded, columns_at};
 ghost use Rattle.assign.specs.declared.limits.TheConstants.{DISTANCE_LIMIT, LEFT_PRICE_LIMIT};
 ghost use Rattle.assign.specs.declared.limits.TheConstants.{INNER_PRICE_LIMIT};
-ghost use Rattle.assign.specs.Weighed.{weight_at, cost_weight, BoundedOn, Lent};
+ghost use Rattle.assign.specs.Weighed.{weight_at, cost_weight, BoundedOn, SearchTables};
 ghost use Rattle.assign.specs.Pairs.{CheapestOf, PricedPairing};
 ghost use Rattle.assign.specs.Prices.{Topmost};
 
@@ -31,7 +31,7 @@ fn clear<K: Cost>(table: &mut [K])
 
 /// Makes the price of each right block the least cost that it stands at.
 pub fn price_cheapest<K: Cost>(costs: &[K], rows: &[BlockSet], right: &mut [K]) -> Cheapest
-    requires lent { Lent K.Cost rows.now costs.now }
+    requires lent { SearchTables K.Cost rows.now costs.now }
     requires rights { length right.old ≡ length rows.now }
     ensures cheapest { CheapestOf (length rows.now) (length rows.now) (holds rows.now)
         (cost_weight K.Cost (length rows.now) costs.now) (has result.priced) (at result.row)
@@ -88,7 +88,7 @@ fn price_rows<K: Cost>(
     left: &mut [K],
     right: &[K],
 )
-    requires lent { Lent K.Cost rows.now costs.now }
+    requires lent { SearchTables K.Cost rows.now costs.now }
     requires partnered { length partners.now ≡ length rows.now }
     requires lefts { length left.old ≡ length rows.now }
     requires rights { length right.now ≡ length rows.now }
@@ -116,7 +116,7 @@ pub fn price_greatest<K: Cost>(
     left: &mut [K],
     right: &mut [K],
 )
-    requires lent { Lent K.Cost rows.now costs.now }
+    requires lent { SearchTables K.Cost rows.now costs.now }
     requires partnered { length partners.now ≡ length rows.now }
     requires lefts { length left.old ≡ length rows.now }
     requires rights { length right.old ≡ length rows.now }

@@ -15,7 +15,7 @@ ghost use Rattle.pairing.specs.Rows.{holds};
 ghost use Rattle.tables.specs.Said.{columns_at, Bounded};
 ghost use Rattle.assign.specs.declared.limits.TheConstants.{DISTANCE_LIMIT, SHIFT_LIMIT};
 ghost use Rattle.assign.specs.declared.limits.TheConstants.{INNER_PRICE_LIMIT};
-ghost use Rattle.assign.specs.Weighed.{weight_at, BoundedOn, Lent};
+ghost use Rattle.assign.specs.Weighed.{weight_at, BoundedOn, SearchTables};
 ghost use Rattle.assign.specs.Offers.{Offered, Nearest};
 ghost use Rattle.assign.specs.Trees.{Grows, GrowsFrom};
 
@@ -93,7 +93,7 @@ pub fn grow<K: Cost>(
     via: [u8; SET_WIDTH],
     dist: &mut [K],
 ) -> Tree
-    requires lent { Lent K.Cost rows.now costs.now }
+    requires lent { SearchTables K.Cost rows.now costs.now }
     requires rights { length right.now ≡ length rows.now }
     requires dists { length dist.old ≡ length rows.now }
     requires begins { (c : ℕ) → has start c ≡ true → c < length rows.now }
@@ -146,7 +146,7 @@ pub fn grow_from<K: Cost>(
     right: &[K],
     dist: &mut [K],
 ) -> Tree
-    requires lent { Lent K.Cost rows.now costs.now }
+    requires lent { SearchTables K.Cost rows.now costs.now }
     requires rights { length right.now ≡ length rows.now }
     requires dists { length dist.old ≡ length rows.now }
     requires room { k < length rows.now }

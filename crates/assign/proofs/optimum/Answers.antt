@@ -8,8 +8,8 @@ use Rattle.tables.specs.PairTables.{byte_of, says_stands}
 use Rattle.tables.specs.PairRows.{StandingRows}
 use Rattle.tables.specs.Lent.{lent, IsUsable}
 use Rattle.assign.specs.Prices.{Solution}
-use Rattle.assign.specs.Weighed.{Lent}
-use Rattle.assign.proofs.Solving.{lent_of, unpaired_of, solved_of}
+use Rattle.assign.specs.Weighed.{SearchTables}
+use Rattle.assign.proofs.Solving.{search_tables_of, unpaired_of, solved_of}
 use Rattle.assign.proofs.optimum.Goals as goal
 
 -- rows that were made for n blocks, told by their own number
@@ -54,8 +54,8 @@ solve-requires g c =
     let possible : (q : List ℕ) × Perfect (length c.as_slice.result.now)
     (holds c.as_slice.result.now) q = search rules in
     record {
-      lent = subst (λ rs. Lent g.K.Cost rs costs) (sym same)
-          (lent_of g.K.Cost n costs standing rows long usable.few lengths.room.costs_long
+      lent = subst (λ rs. SearchTables g.K.Cost rs costs) (sym same)
+          (search_tables_of g.K.Cost n costs standing rows long usable.few lengths.room.costs_long
           usable.in_order (made_own n standing rows long c.standing-rows.ensures.rows));
       partnered = lengths.partners_long ∙ sym own;
       lefts = lengths.room.left_long ∙ sym own;
