@@ -11,18 +11,19 @@ ghost use Rattle.matching.specs.declared.stepping.Step.{Step};
 ghost use Rattle.matching.specs.declared.fitting.Unfit.{Unfit};
 ghost use Rattle.matching.specs.Fit.{Fits, Unfits};
 ghost use Rattle.matching.specs.Answers.{IsNth, Follows};
+ghost use Rattle.matching.specs.Numbers.{step_number};
 ghost use Rattle.tables.specs.declared.flaw.Flaw.{Flaw};
 ghost use Rattle.tables.specs.Lent.{lent, grid};
 ghost use Rattle.tables.specs.Together.{Together};
 ghost use Rattle.assign.specs.declared.Outcome.{Outcome};
 ghost use Rattle.assign.specs.Answer.{Answers, Settled, Solved};
-ghost use Rattle.bench_calls.specs.Codes.{step_code, outcome_code};
+ghost use Rattle.bench_calls.specs.Codes.{outcome_code};
 
 use assign::{Outcome, optimum, settle};
 use blockset::BlockSet;
 use cost::{Cost, Plain};
-use matching::{Step, first};
-use tables::Flaw;
+use matching::first;
+use tables::{Flaw, MOST_BLOCKS};
 
 /// 0 where `p` is now the first perfect pairing, and 1 where the tables were refused.
 #[unsafe(no_mangle)]
@@ -36,26 +37,16 @@ pub extern "C" fn bench_first(rows: &[BlockSet], p: &mut [u16]) -> u32
     }
 }
 
-/// The number for an answer of either `next`.
-fn step_number(step: Step) -> u32
-    ensures { result ≡ step_code step }
-{
-    match step {
-        Step::Next => 0,
-        Step::End => 100,
-    }
-}
-
 /// 0 where `p` is now the next perfect pairing, 100 at the last one, and 1 where the tables were
 /// refused.
 #[unsafe(no_mangle)]
 pub extern "C" fn bench_next(rows: &[BlockSet], p: &mut [u16]) -> u32
-    ensures { ((s : Step) × (result ≡ step_code s) × Fits rows.now p.old
+    ensures { ((s : Step) × (result ≡ step_number s) × Fits rows.now p.old
         × Follows (pairings rows.now) p.old p.new s)
         ⊎ ((result ≡ 1) × ((e : Unfit) × Unfits rows.now p.old e) × (p.new ≡ p.old)) }
 {
     match matching::next(rows, p) {
-        Ok(step) => step_number(step),
+        Ok(step) => u32::from(step.number()),
         Err(_) => 1,
     }
 }
@@ -88,7 +79,7 @@ pub extern "C" fn bench_optimum(
         (r : Result Outcome Flaw) × (result ≡ outcome_code r)
         × Answers kind old new (Solved kind new) r }
 {
-    if partners.len() > 64 {
+    if partners.len() > MOST_BLOCKS as usize {
         return 1;
     }
     let n = partners.len() as u16;
@@ -112,7 +103,7 @@ pub extern "C" fn bench_settle(
         (r : Result Outcome Flaw) × (result ≡ outcome_code r)
         × Answers kind old new (Settled kind new) r }
 {
-    if partners.len() > 64 {
+    if partners.len() > MOST_BLOCKS as usize {
         return 1;
     }
     let n = partners.len() as u16;
@@ -132,17 +123,17 @@ pub extern "C" fn bench_cost_next(
 ) -> u32
     ensures { let kind = ⟦<Plain as Cost>⟧ in let n = length partners.now in
         let t = lent n costs.now standing.now partners.now left.now right.now in
-        ((s : Step) × (result ≡ step_code s) × Together kind t × Optimum (grid kind t) walk.old
+        ((s : Step) × (result ≡ step_number s) × Together kind t × Optimum (grid kind t) walk.old
         × Follows (optima (grid kind t)) walk.old walk.new s)
         ⊎ ((result ≡ 1) × (Together kind t × Optimum (grid kind t) walk.old → ⊥)
         × (walk.new ≡ walk.old)) }
 {
-    if partners.len() > 64 {
+    if partners.len() > MOST_BLOCKS as usize {
         return 1;
     }
     let n = partners.len() as u16;
     match walk::next(n, costs, standing, partners, left, right, walk) {
-        Ok(step) => step_number(step),
+        Ok(step) => u32::from(step.number()),
         Err(_) => 1,
     }
 }
