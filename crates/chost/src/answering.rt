@@ -17,9 +17,10 @@ use orderfile::loading::{check, load};
 use sheet::{Cause, Fault, SettledSheet, Step};
 use tables::{MOST_BLOCKS, places};
 
-/// The most blocks of a plane, and the most pairs of two planes.
+/// The most blocks of a plane, as the length of a table with a place for each.
 const MOST: usize = MOST_BLOCKS as usize;
 
+/// The most pairs of two planes: the length of a pair table with a place for each.
 const MOST_PLACES: usize = MOST * MOST;
 
 /// Which of the two calls is made.
