@@ -140,14 +140,20 @@ def long_file():
     return size(64) + b"".join(pairs) + END
 
 
-def main():
-    files = list(damaged()) + list(random_files(500))
-    with open("crates/orderfile_trial/stdin", "wb") as out:
+def write_trial(crate, files, told):
+    """Writes what a trial crate reads, each file behind its length, and what it has to print: what
+    is told of each file."""
+    with open("crates/%s/stdin" % crate, "wb") as out:
         for data in files:
             out.write(struct.pack(">I", len(data)) + data)
-    with open("crates/orderfile_trial/stdout", "w") as out:
+    with open("crates/%s/stdout" % crate, "w") as out:
         for data in files:
-            out.write(text(data))
+            out.write(told(data))
+
+
+def main():
+    files = list(damaged()) + list(random_files(500))
+    write_trial("orderfile_trial", files, text)
     long = long_file()
     assert len(long) > CUT and len(first_fault(long)) == 2
     with open("crates/inspect_trial/stdin", "wb") as out:

@@ -6,9 +6,8 @@ pairings by going through all perfect ones, so the comparison in the gate is wit
 """
 import itertools
 import random
-import struct
 
-from order_files import END, LIMIT, first_fault, pair, size
+from order_files import END, LIMIT, first_fault, pair, size, write_trial
 
 # a listing has at most so many pairings
 MOST = 1000
@@ -160,12 +159,7 @@ def random_sheets(count):
 
 def main():
     files = list(sheets()) + list(refused()) + list(random_sheets(300))
-    with open("crates/report_trial/stdin", "wb") as out:
-        for data in files:
-            out.write(struct.pack(">I", len(data)) + data)
-    with open("crates/report_trial/stdout", "w") as out:
-        for data in files:
-            out.write(told(data))
+    write_trial("report_trial", files, told)
     print(len(files), "files")
 
 
