@@ -1,5 +1,6 @@
 //! A whole caller: it lends tables for three blocks a plane, enters costs, settles, and prints the
-//! total, the pairs that occur in any least-cost pairing, and all of these pairings.
+//! total, the pairs that occur in any least-cost pairing, and all of these pairings; then it
+//! strikes a pair and settles again.
 #![tactic(auto)]
 
 use cost::Plain;
@@ -36,6 +37,10 @@ fn run(rt: &impl Print) -> anyhow::Result<()> {
             break;
         }
     }
+    let sheet = walk.close().reopen();
+    sheet.strike(&mut costs, &mut standing, 0, 0)?;
+    sheet.settle(&costs, &standing, &mut partners, &mut left, &mut right)?;
+    println!(rt; "without the pair 0 0: {partners:?}")?;
     Ok(())
 }
 

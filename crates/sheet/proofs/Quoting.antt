@@ -1,4 +1,4 @@
--- What a quote reads and works out is the pair's cost and its excess.
+-- What a quote reads and works out is the pair's cost and its slack.
 -- Idea: costs are within 10^9 and prices within 10^12, so no sum or difference is stopped.
 use Rattle.std.proofs.Common.{◌≡◌, ℕ, ◌*◌, ◌<◌, true, List, [], length, cond, get_or, ℤ, Some, None}
 use Rattle.std.proofs.Common.{refl, sym, ap, ◌∙◌, subst, arith}
@@ -30,14 +30,14 @@ module _ {K : Type 0} (kind : Ghosts K) (t : Lent K) (together : Together kind t
   unfolding at_place
   inside = place_below t.size l r are.left_below are.right_below
 
-  pub quoted : (cost lp rp prices excess : K)
+  pub quoted : (cost lp rp prices slack : K)
       → cost ≡ get_or t.costs (place_of t.size l r) cost → lp ≡ get_or t.left l lp
       → rp ≡ get_or t.right r rp
       → kind.meaning prices ≡ sums (kind.meaning lp) (kind.meaning rp)
-      → kind.meaning excess ≡ differences (kind.meaning cost) (kind.meaning prices)
-      → IsQuote kind t l r (cost, excess)
+      → kind.meaning slack ≡ differences (kind.meaning cost) (kind.meaning prices)
+      → IsQuote kind t l r (cost, slack)
   unfolding at_place
-  quoted cost lp rp prices excess ec el er ep ex =
+  quoted cost lp rp prices slack ec el er ep ex =
       let m = kind.meaning in
       let in_costs : place_of t.size l r < length t.costs =
       omega (arith, inside, together.pair_tables.costs_long) in
@@ -63,7 +63,7 @@ module _ {K : Type 0} (kind : Ghosts K) (t : Lent K) (together : Together kind t
         cost = ap (λ b. cond b (Some (get_or t.costs (place_of t.size l r) kind.zero)) None) stands
             ∙ ap Some (get_or_default t.costs (place_of t.size l r) kind.zero cost in_costs)
             ∙ ap Some (sym ec);
-        excess =
+        slack =
             ex ∙ ap (differences (m cost)) (ep ∙ sum_is) ∙ gone
             ∙ ap (λ p. minus (m cost) (plus p (m rp))) (sym left_is)
             ∙ ap (λ p. minus (m cost) (plus (left_price kind t l) p)) (sym right_is);

@@ -34,7 +34,7 @@ module _ {K : Type 0} (kind : Ghosts K) (t : Lent K) where
   -- the pair's cost, and what it exceeds the pair's two prices by, column by column
   pub record IsQuote (l r : ℕ) (quote : K × K) : Type 0 where
     pub cost : cell kind.zero t.size t.costs t.standing l r ≡ Some quote.0
-    pub excess : kind.meaning quote.1
+    pub slack : kind.meaning quote.1
         ≡ minus (kind.meaning quote.0) (plus (left_price kind t l) (right_price kind t r))
 
   abbrev pub total_needs : Needs

@@ -1,10 +1,9 @@
 //! The states of a sheet: a state is moved from call to call, and the tables stay with the caller.
 //!
 //! An open sheet becomes a settled one by `settle`, and a settled one a walk by `start`; there is
-//! no other way to make one.
+//! no other way to make one. `close` leads back from a walk, and `reopen` from a settled sheet.
 
-ghost use Rattle.std.specs.Prelude.{◌≡◌};
-ghost use Rattle.sheet.specs.Size.{Sheet, sheet_of, sheet_code, IsSize, size_of};
+ghost use Rattle.sheet.specs.Size.{Sheet, sheet_of, sheet_code, IsSize};
 
 pub mod open_calls;
 pub mod settled_calls;

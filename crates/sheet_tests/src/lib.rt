@@ -1,10 +1,12 @@
-//! Examples of the calls on a sheet in each of its states, of loading and of saving, with every
-//! refusal; a crate of their own, since a crate with tests is proved twice.
+//! Examples of the calls on a sheet in each of its states, of runs of calls, of loading and of
+//! saving, with every refusal; a crate of their own, since a crate with tests is proved twice.
 #![tactic(auto)]
 
 #[cfg(test)]
 mod calls;
 #[cfg(test)]
 mod files;
+#[cfg(test)]
+mod runs;
 #[cfg(test)]
 mod settling;

@@ -1,10 +1,9 @@
 //! The calls on a settled sheet: quote a pair, total the partners, mark the pairs that occur, start
-//! a walk.
+//! a walk, reopen the sheet.
 
 ghost use Rattle.std.specs.Prelude.{◌≡◌, ⊤, length, None};
-ghost use Rattle.tables.specs.Lent.{lent};
+ghost use Rattle.tables.specs.Lent.{lent, grid};
 ghost use Rattle.pairing.specs.Grid.{total};
-ghost use Rattle.tables.specs.Lent.{grid};
 ghost use Rattle.sheet.specs.Needs.{Responds};
 ghost use Rattle.sheet.specs.Size.{IsSize, size_of};
 ghost use Rattle.sheet.specs.Walking.{quote_needs, IsQuote, total_needs, marks_needs, AreMarks};
@@ -162,6 +161,14 @@ impl SettledSheet {
             Ok(()) => Ok(Walk { settled: self }),
             Err(apart) => Err(self.unstarted(Fault::from(apart))),
         }
+    }
+
+    /// Gives the open sheet back, of which pairs may be entered and struck again.
+    pub fn reopen(self) -> OpenSheet
+        ensures { result ≡ self }
+    {
+        let SettledSheet { open } = self;
+        open
     }
 
     // The refusal to start a walk.

@@ -1,4 +1,4 @@
-//! The call on a walk: on to the next optimum pairing.
+//! The calls on a walk: on to the next optimum pairing, and close the walk.
 
 ghost use Rattle.std.specs.Prelude.{◌≡◌, length};
 ghost use Rattle.tables.specs.Lent.{lent};
@@ -6,7 +6,7 @@ ghost use Rattle.sheet.specs.Needs.{Responds};
 ghost use Rattle.sheet.specs.Size.{IsSize, size_of};
 ghost use Rattle.sheet.specs.Walking.{next_needs, IsStep};
 
-use super::Walk;
+use super::{SettledSheet, Walk};
 use crate::fault::{Cause, Fault};
 use cost::Cost;
 use matching::Step;
@@ -45,5 +45,13 @@ impl Walk {
             return Err(Cause::TableLength.at(0));
         }
         Ok(next(n, costs, standing, partners, left, right, list)?)
+    }
+
+    /// Ends the walk, and gives the settled sheet back.
+    pub fn close(self) -> SettledSheet
+        ensures { result ≡ self }
+    {
+        let Walk { settled } = self;
+        settled
     }
 }

@@ -1,4 +1,4 @@
--- What is read and worked out is the pair's cost and its excess.
+-- What is read and worked out is the pair's cost and its slack.
 use Rattle.std.proofs.Common.{◌≡◌, ℕ, true, get_or, sym, ap, ◌∙◌, subst}
 use Rattle.pairing.specs.Places.{place_of}
 use Rattle.tables.specs.PairTables.{says_stands, byte_of}

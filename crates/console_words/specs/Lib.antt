@@ -1,0 +1,8 @@
+-- What the names of calls and tables mean, how a call is handed its tables, what a line does to a
+-- sheet, which sizes a word can tell, and refusals in words.
+pub mod Naming
+pub mod Handing
+pub mod Moving
+pub mod Conversing
+pub mod Sizing
+pub mod Refusing

@@ -1,0 +1,46 @@
+-- What a line does to a sheet.
+use Rattle.std.specs.Prelude.{◌≡◌, ◌⊎◌, ℕ, Option}
+use Rattle.cost.specs.declared.Cost.{Ghosts}
+use Rattle.tables.specs.PairTables.{AllAbsent, cell}
+use Rattle.sheet.specs.Size.{IsSize, sheet_of}
+use Rattle.session.specs.declared.answer.Answer.{Answer}
+use Rattle.session.specs.declared.call.Act.{Act}
+use Rattle.session.specs.Book.{opened}
+use Rattle.session.specs.Program.{state_at}
+use Rattle.session.specs.Runs.{state_of, tables_of, WasMade}
+use Rattle.console_words.specs.declared.desk.Desk.{Desk}
+use Rattle.console_words.specs.declared.request.Request.{Request}
+use Rattle.console_words.specs.declared.request.Request.TheVariants.{Make, Help, Quit}
+use Rattle.console_words.specs.declared.table_name.TableName.{TableName}
+use Rattle.console_words.specs.declared.turn.Turn.{Turn}
+use Rattle.console_words.specs.declared.turn.Turn.TheVariants.{Said, Over}
+use Rattle.console_words.specs.Handing.{call_on}
+
+-- there is a text to print
+abbrev pub IsSaid : Turn → Type 0
+IsSaid (Said text) = Unit {0}
+IsSaid Over = ⊥
+
+module _ {K : Type 0} (kind : Ghosts K) where
+  -- a sheet of n blocks a plane that was just opened: every pair is absent
+  pub record IsBlank (n : ℕ) (desk : Desk K) : Type 0 where
+    pub sized : IsSize n
+    pub state : state_of desk.state ≡ state_at opened (sheet_of n)
+    pub cells : AllAbsent n (cell kind.zero n desk.tables.costs.items desk.tables.standing.items)
+
+  -- the call was made on the sheet, and this is its answer
+  abbrev pub Makes : Desk K → Act K → Option TableName → Answer K → Desk K → Type 0
+  Makes desk act short answer desk' = WasMade kind desk.state (tables_of desk.tables)
+      (call_on desk.state act short) answer desk'.state (tables_of desk'.tables)
+
+  -- what a request does: the call that it asks for is made, once; help and the end change nothing
+  abbrev pub Answers : Desk K → Request K → Desk K → Turn → Type 0
+  Answers desk (Make act short) desk' turn =
+      ((answer : Answer K) × Makes desk act short answer desk') × IsSaid turn
+  Answers desk Help desk' turn = (desk' ≡ desk) × IsSaid turn
+  Answers desk Quit desk' turn = (desk' ≡ desk) × (turn ≡ Over)
+
+  -- what a line does: nothing, or what some request does
+  abbrev pub Moves : Desk K → Desk K → Turn → Type 0
+  Moves desk desk' turn = ((desk' ≡ desk) × IsSaid turn)
+      ⊎ ((request : Request K) × Answers desk request desk' turn)

@@ -1,0 +1,48 @@
+//! Costs as they are typed and printed: one whole number, or two.
+
+use crate::complaint::Complaint;
+use crate::words::Words;
+use cost::{Cost, Plain, TwoStep};
+use std::alloc::AllocError;
+
+/// A kind of costs that can be typed.
+pub trait TypedCost: Cost {
+    /// The form of a line that enters a pair.
+    const ENTER_FORM: &'static str;
+
+    /// Takes the words of a cost.
+    fn take_from<'a>(words: &mut Words<'a>) -> Result<Self, Complaint<'a>>;
+
+    /// Appends the cost.
+    fn push_to(self, text: &mut String) -> Result<(), AllocError>;
+}
+
+/// A plain cost is its number.
+impl TypedCost for Plain {
+    const ENTER_FORM: &'static str = "enter L R COST";
+
+    fn take_from<'a>(words: &mut Words<'a>) -> Result<Plain, Complaint<'a>> {
+        Ok(Plain(words.number()?))
+    }
+
+    fn push_to(self, text: &mut String) -> Result<(), AllocError> {
+        let Plain(number) = self;
+        write!(text, "{number}")
+    }
+}
+
+/// A cost of two steps is typed as two numbers, and printed as `(FIRST, SECOND)`.
+impl TypedCost for TwoStep<Plain, Plain> {
+    const ENTER_FORM: &'static str = "enter L R COST COST";
+
+    fn take_from<'a>(words: &mut Words<'a>) -> Result<TwoStep<Plain, Plain>, Complaint<'a>> {
+        let first = Plain(words.number()?);
+        let second = Plain(words.number()?);
+        Ok(TwoStep(first, second))
+    }
+
+    fn push_to(self, text: &mut String) -> Result<(), AllocError> {
+        let TwoStep(Plain(first), Plain(second)) = self;
+        write!(text, "({first}, {second})")
+    }
+}

@@ -1,0 +1,218 @@
+-- A run is a program: opening begins it, and each call that is made is one step more.
+-- Idea: the calls so far with what came of each are the exchanges of a program that has come to the
+-- state and the tables as they are; the law is then cited for it as a whole.
+use Rattle.std.proofs.Common.{◌≡◌, ℕ, ◌+◌, ◌<◌, ◌≤◌, false, List, [], ◌∷◌, ◌++◌, length}
+use Rattle.std.proofs.Common.{take, Ok, Err, Some, None, Option, Result, inl, inr, get_or, sym}
+use Rattle.std.proofs.Common.{refl, ap, ◌∙◌, subst, arith}
+use Rattle.std.specs.Vec.{with_items}
+use Rattle.std.proofs.lemmas.List.{length-take-le, take_all, take_more, with_items_is}
+use Rattle.cost.specs.declared.Cost.{Ghosts}
+use Rattle.sheet.specs.declared.fault.Fault.{Fault}
+use Rattle.sheet.specs.declared.fault.Refusal.{Refusal}
+use Rattle.sheet.specs.Opening.{open_refusal, Opened}
+use Rattle.sheet.proofs.Opening.{open_accepts}
+use Rattle.sheet.proofs.Refused.{from_err, from_ok}
+use Rattle.sheet.specs.Settling.{Settles}
+use Rattle.sheet.specs.Size.{Sheet, sheet_of, size_of}
+use Rattle.sheet.specs.Walking.{Starts}
+use Rattle.tables.specs.Lent.{Lent}
+use Rattle.session.specs.declared.answer.Answer.{Answer}
+use Rattle.session.specs.declared.call.Act.{Act}
+use Rattle.session.specs.declared.call.Act.TheVariants.{Enter, Strike, Read, Settle, Quote, Total}
+use Rattle.session.specs.declared.call.Act.TheVariants.{Marks, Start, Next, Close, Reopen}
+use Rattle.session.specs.declared.call.Call.{Call}
+use Rattle.session.specs.declared.sheet_tables.SheetTables.{SheetTables}
+use Rattle.session.specs.declared.state.State.{State as InState}
+use Rattle.session.specs.declared.state.State.TheVariants.{Open}
+use Rattle.session.specs.Exchange.{Told, Outcome, Exchange, call_of}
+use Rattle.session.specs.Book.{Phase}
+use Rattle.session.specs.Program.{State, Tables, lengths, moved_to, Answers, Meets, Program, opens}
+use Rattle.session.specs.Program.{calls, EveryProgramKeeps}
+use Rattle.session.specs.Runs.{state_of, right_lengths, Says, AllSay, WasMade, WereMade, Begins}
+use Rattle.session.specs.Runs.{tables_of}
+use Rattle.session.proofs.Handing.{same_lengths}
+
+-- ---- The size stays
+
+module _ {K : Type 0} (kind : Ghosts K) where
+  settle_size : (sheet : Sheet) (x x' : Lent K) (next back : Phase)
+      (a : Result Sheet (Refusal Sheet)) → Settles kind sheet x x' a
+      → size_of (moved_to next back a).sheet ≡ size_of sheet
+  settle_size sheet x x' next back (Ok s) h = ap size_of h.same
+  settle_size sheet x x' next back (Err r) h = ap size_of h.same
+
+  start_size : (sheet : Sheet) (x : Lent K) (list list' : List ℕ) (next back : Phase)
+      (a : Result Sheet (Refusal Sheet)) → Starts kind x sheet list list' a
+      → size_of (moved_to next back a).sheet ≡ size_of sheet
+  start_size sheet x list list' next back (Ok s) h = ap size_of h.same
+  start_size sheet x list list' next back (Err r) h = ap size_of h.same
+
+  answers_size : (s : State) (act : Act K) (o : Outcome (Told K act)) (x x' : Tables K) (s' : State)
+      → Answers kind s act o x x' s' → size_of s'.sheet ≡ size_of s.sheet
+  answers_size s (Enter l r c) o x x' s' m = ap (λ t. size_of t.sheet) m.4
+  answers_size s (Strike l r) o x x' s' m = ap (λ t. size_of t.sheet) m.4
+  answers_size s (Read l r) o x x' s' m = ap (λ t. size_of t.sheet) m.4
+  answers_size s Settle o x x' s' m = ap (λ t. size_of t.sheet) m.4
+      ∙ settle_size s.sheet _ _ _ _ m.0 m.2
+  answers_size s (Quote l r) o x x' s' m = ap (λ t. size_of t.sheet) m.4
+  answers_size s Total o x x' s' m = ap (λ t. size_of t.sheet) m.4
+  answers_size s Marks o x x' s' m = ap (λ t. size_of t.sheet) m.4
+  answers_size s Start o x x' s' m = ap (λ t. size_of t.sheet) m.4
+      ∙ start_size s.sheet _ _ _ _ _ m.0 m.2
+  answers_size s Next o x x' s' m = ap (λ t. size_of t.sheet) m.4
+  answers_size s Close o x x' s' m = ap (λ t. size_of t.sheet) m.2
+  answers_size s Reopen o x x' s' m = ap (λ t. size_of t.sheet) m.2
+
+  meets_size : (s : State) (act : Act K) (o : Outcome (Told K act)) (x x' : Tables K) (s' : State)
+      → Meets kind s act o x x' s' → size_of s'.sheet ≡ size_of s.sheet
+  meets_size s act o x x' s' (inl m) = answers_size s act o x x' s' m.1
+  meets_size s act o x x' s' (inr m) = ap (λ t. size_of t.sheet) m.3
+
+-- ---- Lists
+
+say_more : {K : Type 0} (cs : List (Call K)) (answers : List (Answer K))
+    (es : List (Exchange K)) (call : Call K) (answer : Answer K) (e : Exchange K)
+    → AllSay cs answers es → call_of e ≡ call → Says e.act e.outcome answer
+    → AllSay (cs ++ call ∷ []) (answers ++ answer ∷ []) (es ++ e ∷ [])
+say_more [] [] [] call answer e h is says = (is, says, tt)
+say_more (c ∷ cs) (a ∷ answers) (x ∷ es) call answer e h is says =
+    (h.0, h.1, say_more cs answers es call answer e h.2 is says)
+say_more [] [] (x ∷ es) call answer e h is says = absurd h
+say_more [] (a ∷ answers) es call answer e h is says = absurd h
+say_more (c ∷ cs) [] es call answer e h is says = absurd h
+say_more (c ∷ cs) (a ∷ answers) [] call answer e h is says = absurd h
+
+say_long : {K : Type 0} (cs : List (Call K)) (answers : List (Answer K))
+    (es : List (Exchange K)) → AllSay cs answers es → length answers ≡ length cs
+say_long [] [] [] h = refl
+say_long (c ∷ cs) (a ∷ answers) (x ∷ es) h = omega (arith, say_long cs answers es h.2)
+say_long [] [] (x ∷ es) h = absurd h
+say_long [] (a ∷ answers) es h = absurd h
+say_long (c ∷ cs) [] es h = absurd h
+say_long (c ∷ cs) (a ∷ answers) [] h = absurd h
+
+-- ---- A run that goes on
+
+module _ {K : Type 0} (kind : Ghosts K) (n : ℕ) where
+  -- `open` at a sound size and over tables of the right lengths: it is never refused, and a program
+  -- begins
+  module _ (t : SheetTables K) (xs costs : List K) (ys standing : List ℕ) (a : Result Sheet Fault)
+      (some : 1 ≤ n) (few : n ≤ 64) (right : lengths (tables_of t) ≡ right_lengths n)
+      (ex : xs ≡ t.costs.items) (ey : ys ≡ t.standing.items)
+      (o : Opened kind.zero n xs ys a costs standing) where
+    accepts : open_refusal n (length xs) (length ys) ≡ None
+    accepts = open_accepts n (length xs) (length ys) some few (record {
+      costs = ap length ex ∙ ap (λ l. l.costs) right;
+      standing = ap length ey ∙ ap (λ l. l.standing) right;
+    })
+
+    pub opens_always : (f : Fault) → a ≡ Err f → ⊥
+    opens_always f e =
+        let z : ◌≡◌ {A = Option Fault} None (Some f) = sym accepts
+        ∙ from_err (open_refusal n (length xs) (length ys)) (sheet_of n) f (sym e ∙ o.answers) in
+        let y : ◌≡◌ {A = ℕ} 0 1 = cc in
+        omega arith
+
+    pub begun : length costs ≡ length xs → length standing ≡ length ys → (sheet : Sheet)
+        → a ≡ Ok sheet → Begins kind n (tables_of t) (Open sheet) (tables_of (record t {
+          costs = with_items t.costs costs;
+          standing = with_items t.standing standing;
+        }))
+    begun ec es sheet e =
+        let same : sheet ≡ sheet_of n = (from_ok (open_refusal n (length xs) (length ys))
+        (sheet_of n) sheet (sym e ∙ o.answers)).1 in
+        let wc : (with_items t.costs costs).items ≡ costs =
+        with_items_is t.costs costs (ec ∙ ap length ex ∙ sym t.costs.ok.0) in
+        let ws : (with_items t.standing standing).items ≡ standing =
+        with_items_is t.standing standing (es ∙ ap length ey ∙ sym t.standing.ok.0) in
+        record {
+          program = opens sheet xs ys _ (record {
+            answers = sym e ∙ o.answers;
+            blanks = wc ∙ o.blanks;
+            clears = ws ∙ o.clears;
+          });
+          sized = ap size_of same;
+          right = right;
+          long = same_lengths _ _ _ _ _ _ _ _ _ _ _ _ _ _ (ap length wc ∙ ec ∙ ap length ex)
+              (ap length ws ∙ es ∙ ap length ey) refl refl refl refl refl;
+        }
+
+  -- the calls that were made so far, and what came of them
+  pub record Going (made : List (Call K)) (answers : List (Answer K)) (state : InState)
+      (own : Tables K) : Type 0 where
+    pub exchanges : List (Exchange K)
+    pub say : AllSay made answers exchanges
+    pub program : Program kind false n exchanges (state_of state) own
+    pub sized : size_of (state_of state).sheet ≡ n
+    pub long : lengths own ≡ right_lengths n
+
+  pub going_none : (old : Tables K) (state : InState) (answers : List (Answer K)) (own : Tables K)
+      → answers ≡ [] → Begins kind n old state own → Going [] answers state own
+  going_none old state answers own e b =
+      subst (λ (zs : List (Answer K)). Going [] zs state own) (sym e) (record {
+        exchanges = [];
+        say = tt;
+        program = b.program;
+        sized = b.sized;
+        long = b.long ∙ b.right;
+      })
+
+  -- one call more
+  pub going_on : (cs : List (Call K)) (i : ℕ) (call : Call K)
+      (answers reserved answers' : List (Answer K)) (answer : Answer K) (state state' : InState)
+      (own own' : Tables K) → i < length cs → call ≡ get_or cs i call → reserved ≡ answers
+      → answers' ≡ reserved ++ answer ∷ [] → WasMade kind state own call answer state' own'
+      → Going (take i cs) answers state own
+      → Going (take (i + 1) cs) answers' state' own'
+  going_on cs i call answers reserved answers' answer state state' own own' inside at er ea made g
+      =
+      let e : Exchange K =
+      record { act = call.act; handed = call.handed; outcome = made.outcome } in
+      let cs_more : take (i + 1) cs ≡ take i cs ++ call ∷ [] =
+      take_more cs i call inside ∙ ap (λ c. take i cs ++ c ∷ []) (sym at) in
+      subst (λ (zs : List (Answer K)). Going (take (i + 1) cs) zs state' own')
+      (sym (ea ∙ ap (λ zs. zs ++ answer ∷ []) er))
+      (subst (λ (xs : List (Call K)). Going xs (answers ++ answer ∷ []) state' own') (sym cs_more)
+      (record {
+        exchanges = g.exchanges ++ e ∷ [];
+        say = say_more (take i cs) answers g.exchanges call answer e g.say refl made.says;
+        program = calls g.program made.makes;
+        sized = meets_size kind (state_of state) call.act made.outcome made.makes.x made.makes.x'
+            (state_of state') made.makes.meets ∙ g.sized;
+        long = made.long ∙ g.long;
+      }))
+
+  -- the calls that were made kept the promise
+  were_made : EveryProgramKeeps kind → (made : List (Call K)) (answers : List (Answer K))
+      (state : InState) (own : Tables K) → Going made answers state own
+      → WereMade kind n made answers own
+  were_made law made answers state own g =
+      let kept = law false n g.exchanges (state_of state) own g.program in
+      record {
+        exchanges = g.exchanges;
+        say = g.say;
+        state = state_of state;
+        program = g.program;
+        keeps = kept.0;
+        shows = kept.1;
+      }
+
+  -- all calls were made; or memory ran out before the call at i
+  pub finished : EveryProgramKeeps kind → (cs : List (Call K)) (i : ℕ) (answers : List (Answer K))
+      (state : InState) (own : Tables K) → length cs ≤ i → Going (take i cs) answers state own
+      → WereMade kind n cs answers own
+  finished law cs i answers state own all g =
+      subst (λ (xs : List (Call K)). WereMade kind n xs answers own) (take_all i cs all)
+      (were_made law (take i cs) answers state own g)
+
+  pub stopped : EveryProgramKeeps kind → (cs : List (Call K)) (i : ℕ)
+      (answers answers' : List (Answer K)) (state : InState) (own own' : Tables K) → i < length cs
+      → answers' ≡ answers → own' ≡ own → Going (take i cs) answers state own
+      → WereMade kind n (take (length answers') cs) answers' own'
+  stopped law cs i answers answers' state own own' inside ea eo g =
+      let count : length answers ≡ i = say_long (take i cs) answers g.exchanges g.say
+      ∙ length-take-le i cs (omega arith) in
+      subst (λ (zs : List (Answer K)). WereMade kind n (take (length zs) cs) zs own') (sym ea)
+      (subst (λ (y : Tables K). WereMade kind n (take (length answers) cs) answers y) (sym eo)
+      (subst (λ (j : ℕ). WereMade kind n (take j cs) answers own) (sym count)
+      (were_made law (take i cs) answers state own g)))

@@ -1,0 +1,17 @@
+pub mod Walks
+pub mod Needs
+pub mod Held
+pub mod Judging
+pub mod Theorem
+pub mod Fits
+pub mod Cells
+pub mod Opened
+pub mod Settles
+pub mod Resting
+pub mod Asked
+pub mod Walked
+pub mod Shown
+pub mod Handing
+pub mod Saying
+pub mod Allowing
+pub mod Going

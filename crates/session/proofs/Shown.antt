@@ -1,0 +1,277 @@
+-- A whole list of calls keeps the promise.
+-- Idea: each verdict, walk and mark is computed from its definition; the greatest prices are shown
+-- by a test that passes.
+use Rattle.std.proofs.Common.{◌≡◌, ◌≢◌, ℕ, zero, suc, ◌<◌, false, List, [], ◌∷◌, ◌++◌, length}
+use Rattle.std.proofs.Common.{ℤ, Option, Some, None, cond, refl, sym, ◌∙◌, inl, ap, arith}
+use Rattle.std.proofs.lemmas.Bool.{false≢true}
+use Rattle.cost.specs.Columns.{Within}
+use Rattle.pairing.specs.Grid.{Grid, PerfectIn, at}
+use Rattle.pairing.specs.Optima.{optima, has_pair}
+use Rattle.pairing.specs.Places.{place_of}
+use Rattle.pairing.proofs.Listing.{In, in_optima}
+use Rattle.pairing.proofs.Tests.{sane_is, greatest_is}
+use Rattle.matching.specs.Answers.{MarksOf}
+use Rattle.tables.specs.Said.{columns_at, Bounded}
+use Rattle.sheet.specs.declared.fault.Cause.{Cause}
+use Rattle.sheet.specs.declared.fault.Cause.TheVariants.{NoPerfectPairing, Inconsistent}
+use Rattle.sheet.specs.declared.fault.Cause.TheVariants.{TableLength}
+use Rattle.sheet.specs.declared.fault.Fault.{Fault}
+use Rattle.sheet.specs.Refusals.{fault}
+use Rattle.session.specs.Book.{Book, blank, step, grid_in, with_cell}
+use Rattle.session.specs.Example.{whole_numbers, first, second, with_prices, entries, marks}
+use Rattle.session.specs.Example.{refusals, settled_calls, walk_calls, calls_again, full, since}
+use Rattle.session.specs.Example.{settled_book}
+use Rattle.session.specs.Exchange.{Exchange, call_of}
+use Rattle.session.specs.Promise.{AgreesWith, IsSettlement, IsMarked, IsRefusal, IsSound, ended}
+use Rattle.session.specs.Promise.{KeepsPromise, AllRight, Settling, fresh, noted_of}
+use Rattle.session.specs.Promise.{settling_of, book_after}
+use Rattle.session.proofs.Theorem.{told_after}
+use Rattle.session.proofs.Judging.{length_not_six, block_not_six, absent_not_six, length_not}
+use Rattle.session.proofs.Judging.{block_not, absent_not}
+
+-- what is in the list is perfect
+perfect : (g : Grid) (p : List ℕ) → In p (optima g) → PerfectIn g p
+perfect g p i = ((in_optima g p).0 i).perfect
+
+-- what holds of the numbers below three
+pub below_three : (P : ℕ → Type 0) → P 0 → P 1 → P 2 → (k : ℕ) → k < 3 → P k
+below_three P a b c zero h = a
+below_three P a b c (suc zero) h = b
+below_three P a b c (suc (suc zero)) h = c
+below_three P a b c (suc (suc (suc k))) h = absurd (omega (arith, h))
+
+-- ---- Refusals that are not for want of a perfect pairing
+
+refusal : (b : Book ℤ) (cause : Cause) → cause ≢ NoPerfectPairing → cause ≢ Inconsistent
+    → IsRefusal whole_numbers 3 b (fault cause 0) None
+refusal b cause six seven = record {
+  explained = λ e. six (ap (λ (f : Fault). f.cause) e);
+  never_seven = seven;
+}
+
+too_short : IsRefusal whole_numbers 3 full (fault TableLength 0) None
+too_short = refusal full TableLength length_not_six length_not
+
+-- ---- What the two settles wrote
+
+near : (table : List ℤ) → Within 1000000000000 (columns_at whole_numbers table 0)
+    → Within 1000000000000 (columns_at whole_numbers table 1)
+    → Within 1000000000000 (columns_at whole_numbers table 2)
+    → Bounded whole_numbers 1000000000000 3 table
+near table a b c = below_three (λ k. Within 1000000000000 (columns_at whole_numbers table k)) a b c
+
+left_near : Bounded whole_numbers 1000000000000 3 (with_prices first).left
+left_near = near (with_prices first).left (omega arith, tt) (omega arith, tt) (omega arith, tt)
+
+right_near : Bounded whole_numbers 1000000000000 3 (with_prices first).right
+right_near = near (with_prices first).right (omega arith, tt) (omega arith, tt) (omega arith, tt)
+
+abbrev grid : Grid
+grid = grid_in whole_numbers 3 full
+
+-- the same without the pair of the blocks 0
+abbrev struck_grid : Grid
+struck_grid = grid_in whole_numbers 3 (record full { cells = with_cell full.cells 0 0 None })
+
+settled_first : IsSettlement whole_numbers 3 grid (with_prices first)
+settled_first = record {
+  first = (omega (arith, ap length (let e : optima grid ≡ first ∷ second ∷ [] = refl in e)), refl);
+  partners_long = refl;
+  greatest = greatest_is grid _ _ _ (0 ∷ 1 ∷ 0 ∷ []) (sane_is grid refl)
+      (perfect grid first (inl refl)) refl;
+  left_long = refl;
+  right_long = refl;
+  left_near = left_near;
+  right_near = right_near;
+}
+
+settled_second : IsSettlement whole_numbers 3 struck_grid (with_prices second)
+settled_second = record {
+  first = (omega (arith, ap length (let e : optima struck_grid ≡ second ∷ [] = refl in e)), refl);
+  partners_long = refl;
+  greatest = greatest_is struck_grid _ _ _ (0 ∷ 1 ∷ 0 ∷ []) (sane_is struck_grid refl)
+      (perfect struck_grid second (inl refl)) refl;
+  left_long = refl;
+  right_long = refl;
+  left_near = left_near;
+  right_near = right_near;
+}
+
+-- ---- Marks and walks
+
+marked : MarksOf 3 (first ∷ second ∷ []) marks
+marked l r i j = below_three
+    (λ l. at marks (place_of 3 l r) ≡ cond (has_pair l r (first ∷ second ∷ [])) 1 0)
+    (below_three (λ r. at marks (place_of 3 0 r) ≡ cond (has_pair 0 r (first ∷ second ∷ [])) 1 0)
+    refl refl refl r j)
+    (below_three (λ r. at marks (place_of 3 1 r) ≡ cond (has_pair 1 r (first ∷ second ∷ [])) 1 0)
+    refl refl refl r j)
+    (below_three (λ r. at marks (place_of 3 2 r) ≡ cond (has_pair 2 r (first ∷ second ∷ [])) 1 0)
+    refl refl refl r j) l i
+
+marked_is : IsMarked whole_numbers 3 grid marks
+marked_is = record { long = refl; marks = marked }
+
+-- a walk that was not carried to its end agrees with any marks
+unended : (walk : List (Option (List ℕ))) → ended walk ≡ false → AgreesWith 3 marks walk
+unended walk e k = absurd (false≢true (sym e ∙ k))
+
+-- what was told when the walk began, and when it was closed
+abbrev told_settled : Settling ℤ
+told_settled = record since { marks = marks ∷ [] }
+
+abbrev told_walked : Settling ℤ
+told_walked = record told_settled {
+  walk = Some first ∷ Some second ∷ None ∷ None ∷ [];
+  earlier = [] ∷ [];
+}
+
+-- ---- What was told is right as a whole, at each point of the list
+
+sound_fresh : IsSound whole_numbers 3 (fresh whole_numbers 3)
+sound_fresh = record { walks = (refl, tt); agree = tt }
+
+sound_since : IsSound whole_numbers 3 since
+sound_since = record { walks = (refl, tt); agree = tt }
+
+sound_marked : IsSound whole_numbers 3 told_settled
+sound_marked = record { walks = (refl, tt); agree = ((unended [] refl, tt), tt) }
+
+-- on a walk that handed out so much
+abbrev on_walk : List (Option (List ℕ)) → Settling ℤ
+on_walk walk = record told_settled { walk = walk; earlier = [] ∷ [] }
+
+sound_begun : IsSound whole_numbers 3 (on_walk (Some first ∷ []))
+sound_begun = record {
+  walks = (refl, (refl, tt));
+  agree = ((unended (Some first ∷ []) refl, (unended [] refl, tt)), tt);
+}
+
+sound_went_on : IsSound whole_numbers 3 (on_walk (Some first ∷ Some second ∷ []))
+sound_went_on = record {
+  walks = (refl, (refl, tt));
+  agree = ((unended (Some first ∷ Some second ∷ []) refl, (unended [] refl, tt)), tt);
+}
+
+sound_ended : IsSound whole_numbers 3 (on_walk (Some first ∷ Some second ∷ None ∷ []))
+sound_ended = record {
+  walks = (refl, (refl, tt));
+  agree = (((λ _. marked), (unended [] refl, tt)), tt);
+}
+
+sound_walked : IsSound whole_numbers 3 told_walked
+sound_walked = record {
+  walks = (refl, (refl, tt));
+  agree = (((λ _. marked), (unended [] refl, tt)), tt);
+}
+
+sound_again : IsSound whole_numbers 3 (settling_of whole_numbers 3 struck_grid (with_prices second))
+sound_again = record { walks = (refl, tt); agree = tt }
+
+-- ---- The list, part by part
+
+entries_right : AllRight whole_numbers 3 blank (fresh whole_numbers 3) entries
+entries_right = (
+  record { verdict_is = refl; told = tt; sound = sound_fresh },
+  (
+    record { verdict_is = refl; told = tt; sound = sound_fresh },
+    (
+      record { verdict_is = refl; told = tt; sound = sound_fresh },
+      (
+        record { verdict_is = refl; told = tt; sound = sound_fresh },
+        (
+          record { verdict_is = refl; told = tt; sound = sound_fresh },
+          (
+            record { verdict_is = refl; told = tt; sound = sound_fresh },
+            (
+              record { verdict_is = refl; told = tt; sound = sound_fresh },
+              tt,
+            ),
+          ),
+        ),
+      ),
+    ),
+  ),
+)
+
+refusals_right : AllRight whole_numbers 3 full (fresh whole_numbers 3) refusals
+refusals_right = (
+  record { verdict_is = refl; told = refusal _ _ block_not_six block_not; sound = sound_fresh },
+  (
+    record { verdict_is = refl; told = refusal _ _ absent_not_six absent_not; sound = sound_fresh },
+    (
+      record { verdict_is = refl; told = too_short; sound = sound_fresh },
+      tt,
+    ),
+  ),
+)
+
+settled_right : AllRight whole_numbers 3 full (fresh whole_numbers 3) settled_calls
+settled_right = (
+  record { verdict_is = refl; told = settled_first; sound = sound_since },
+  (
+    record { verdict_is = refl; told = record { cost = refl; slack = refl }; sound = sound_since },
+    (
+      record { verdict_is = refl; told = tt; sound = sound_since },
+      (
+        record { verdict_is = refl; told = refl; sound = sound_since },
+        (
+          record { verdict_is = refl; told = marked_is; sound = sound_marked },
+          tt,
+        ),
+      ),
+    ),
+  ),
+)
+
+walk_right : AllRight whole_numbers 3 settled_book told_settled walk_calls
+walk_right = (
+  record { verdict_is = refl; told = tt; sound = sound_begun },
+  (
+    record { verdict_is = refl; told = tt; sound = sound_went_on },
+    (
+      record { verdict_is = refl; told = tt; sound = sound_ended },
+      (
+        record { verdict_is = refl; told = tt; sound = sound_walked },
+        (
+          record { verdict_is = refl; told = tt; sound = sound_walked },
+          tt,
+        ),
+      ),
+    ),
+  ),
+)
+
+again_right : AllRight whole_numbers 3 settled_book told_walked calls_again
+again_right = (
+  record { verdict_is = refl; told = tt; sound = sound_walked },
+  (
+    record { verdict_is = refl; told = tt; sound = sound_walked },
+    (
+      record { verdict_is = refl; told = settled_second; sound = sound_again },
+      tt,
+    ),
+  ),
+)
+
+joined : (b : Book ℤ) (s : Settling ℤ) (es ds : List (Exchange ℤ))
+    → AllRight whole_numbers 3 b s es
+    → AllRight whole_numbers 3 (book_after whole_numbers 3 b es)
+    (told_after whole_numbers 3 b s es) ds
+    → AllRight whole_numbers 3 b s (es ++ ds)
+joined b s [] ds h i = i
+joined b s (e ∷ es) ds h i = (
+  h.0,
+  joined (step whole_numbers 3 b (call_of e))
+      (noted_of whole_numbers 3 b s e.act e.outcome) es ds h.1 i,
+)
+
+pub whole : KeepsPromise whole_numbers 3
+    (entries ++ (refusals ++ (settled_calls ++ (walk_calls ++ calls_again))))
+whole =
+    joined blank (fresh whole_numbers 3) entries
+    (refusals ++ (settled_calls ++ (walk_calls ++ calls_again))) entries_right
+    (joined full (fresh whole_numbers 3) refusals
+    (settled_calls ++ (walk_calls ++ calls_again)) refusals_right
+    (joined full (fresh whole_numbers 3) settled_calls (walk_calls ++ calls_again) settled_right
+    (joined settled_book told_settled walk_calls calls_again walk_right again_right)))

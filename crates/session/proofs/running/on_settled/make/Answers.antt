@@ -1,0 +1,34 @@
+-- A call on a settled sheet is a step of a program, or is not made.
+-- Idea: a call that none of the arms takes is one that the state does not have.
+use Rattle.std.proofs.Common.{inl, refl, ap}
+use Rattle.session.specs.declared.answer.Answer.TheVariants.{Done}
+use Rattle.session.specs.declared.call.Act.TheVariants.{Marks, Reopen}
+use Rattle.session.specs.declared.state.State.TheVariants.{Open, Settled}
+use Rattle.session.specs.Book.{opened}
+use Rattle.session.specs.Exchange.{tells}
+use Rattle.session.specs.Program.{Tables, state_at}
+use Rattle.session.specs.Runs.{tables_of}
+use Rattle.session.proofs.Allowing.{settled_allows}
+use Rattle.session.proofs.Handing.{cut, parts_kept, was_made, not_made, made_for}
+use Rattle.session.proofs.running.on_settled.make.Goals as goal
+
+pub returns-in_ok-answer-in-Marks : goal.returns-in_ok-answer-in-Marks
+returns-in_ok-answer-in-Marks g c =
+    made_for g.K.Cost (Settled c.args.sheet) (tables_of c.args.tables.now) c.args.call Marks _
+    (Settled c.args.sheet) _ c.in-Marks.is c.in_ok-answer-in-Marks.ensures
+
+pub returns-in-Reopen : goal.returns-in-Reopen
+returns-in-Reopen g c =
+    let h = c.args.call.handed in
+    let own : Tables g.row.K.Denot = tables_of c.args.tables.now in
+    let state = Settled c.args.sheet in
+    made_for g.K.Cost state own c.args.call Reopen Done (Open c.reopen.result) own c.in-Reopen.is
+    (was_made g.K.Cost state own Reopen h (tells tt) Done (Open c.reopen.result) (cut h own)
+    (cut h own) own c.requires.right (parts_kept h own own c.requires.lent refl) refl
+    (inl (refl, (refl, refl, ap (state_at opened) c.reopen.ensures))))
+
+pub returns-in_default : goal.returns-in_default
+returns-in_default g c =
+    not_made g.K.Cost (Settled c.args.sheet) (tables_of c.args.tables.now) c.args.call
+    c.requires.right c.requires.lent (settled_allows c.args.call.act c.in_default.not-Quote
+    c.in_default.not-Total c.in_default.not-Marks c.in_default.not-Start c.in_default.not-Reopen)

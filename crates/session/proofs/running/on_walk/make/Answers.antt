@@ -1,0 +1,34 @@
+-- A call on a walk is a step of a program, or is not made.
+-- Idea: a call that none of the arms takes is one that the state does not have.
+use Rattle.std.proofs.Common.{inl, refl, ap}
+use Rattle.session.specs.declared.answer.Answer.TheVariants.{Done}
+use Rattle.session.specs.declared.call.Act.TheVariants.{Next, Close}
+use Rattle.session.specs.declared.state.State.TheVariants.{Settled, Walking}
+use Rattle.session.specs.Book.{settled}
+use Rattle.session.specs.Exchange.{tells}
+use Rattle.session.specs.Program.{Tables, state_at}
+use Rattle.session.specs.Runs.{tables_of}
+use Rattle.session.proofs.Allowing.{walk_allows}
+use Rattle.session.proofs.Handing.{cut, parts_kept, was_made, not_made, made_for}
+use Rattle.session.proofs.running.on_walk.make.Goals as goal
+
+pub returns-in_ok-answer-in-Next : goal.returns-in_ok-answer-in-Next
+returns-in_ok-answer-in-Next g c =
+    made_for g.K.Cost (Walking c.args.walk) (tables_of c.args.tables.now) c.args.call Next _
+    (Walking c.args.walk) _ c.in-Next.is c.in_ok-answer-in-Next.ensures
+
+pub returns-in-Close : goal.returns-in-Close
+returns-in-Close g c =
+    let h = c.args.call.handed in
+    let own : Tables g.row.K.Denot = tables_of c.args.tables.now in
+    let state = Walking c.args.walk in
+    made_for g.K.Cost state own c.args.call Close Done (Settled c.close.result) own c.in-Close.is
+    (was_made g.K.Cost state own Close h (tells tt) Done (Settled c.close.result) (cut h own)
+    (cut h own) own c.requires.right (parts_kept h own own c.requires.lent refl) refl
+    (inl (refl, (refl, refl, ap (state_at settled) c.close.ensures))))
+
+pub returns-in_default : goal.returns-in_default
+returns-in_default g c =
+    not_made g.K.Cost (Walking c.args.walk) (tables_of c.args.tables.now) c.args.call
+    c.requires.right c.requires.lent (walk_allows c.args.call.act c.in_default.not-Next
+    c.in_default.not-Close)

@@ -1,0 +1,149 @@
+-- The promise on three blocks a plane: a whole list of calls that keeps it, and answers that do
+-- not. A cost is a whole number here, in one column.
+use Rattle.std.specs.Prelude.{ℕ, List, [], ◌∷◌, ◌++◌, replicate, ℤ, pos, negsuc, Some, None, Option}
+use Rattle.cost.specs.declared.Cost.{Ghosts}
+use Rattle.matching.specs.declared.augmenting.Shortfall.{Shortfall}
+use Rattle.sheet.specs.declared.fault.Cause.{Cause}
+use Rattle.sheet.specs.declared.fault.Cause.TheVariants.{TableLength, Block, Absent}
+use Rattle.sheet.specs.declared.fault.Cause.TheVariants.{NoPerfectPairing, Inconsistent}
+use Rattle.sheet.specs.Refusals.{fault}
+use Rattle.session.specs.declared.call.Act.{Act}
+use Rattle.session.specs.declared.call.Act.TheVariants.{Enter, Strike, Read, Settle, Quote, Total}
+use Rattle.session.specs.declared.call.Act.TheVariants.{Marks, Start, Next, Close, Reopen}
+use Rattle.session.specs.declared.call.Lengths.{Lengths}
+use Rattle.session.specs.Book.{Book, blank, grid_in}
+use Rattle.session.specs.Exchange.{Told, Written, not_made, turned_down, tells, Exchange}
+use Rattle.session.specs.Promise.{Settling, settling_of, AllRight, KeepsPromise, book_after}
+
+abbrev pub whole_numbers : Ghosts ℤ
+whole_numbers = record { columns = 1; meaning = λ z. z ∷ []; zero = pos 0 }
+
+-- ---- Calls with what came of them, over tables of the right lengths
+
+abbrev pub right : Lengths
+right = record {
+  costs = 9;
+  standing = 9;
+  partners = 3;
+  left = 3;
+  right = 3;
+  walk = 3;
+  marks = 9;
+}
+
+abbrev pub said : (act : Act ℤ) → Told ℤ act → Exchange ℤ
+said act x = record { act = act; handed = right; outcome = tells x }
+
+abbrev pub refused : Act ℤ → Cause → Option Shortfall → Exchange ℤ
+refused act cause shortfall =
+    record { act = act; handed = right; outcome = turned_down (fault cause 0) shortfall }
+
+abbrev pub declined : Act ℤ → Exchange ℤ
+declined act = record { act = act; handed = right; outcome = not_made }
+
+abbrev pub entered : ℕ → ℕ → ℕ → Exchange ℤ
+entered l r cost = said (Enter l r (pos cost)) tt
+
+-- ---- A whole list
+
+abbrev pub first : List ℕ
+first = 0 ∷ 1 ∷ 2 ∷ []
+
+abbrev pub second : List ℕ
+second = 1 ∷ 0 ∷ 2 ∷ []
+
+-- the sheet's greatest prices
+abbrev pub with_prices : List ℕ → Written ℤ
+with_prices partners = record {
+  partners = partners;
+  left = pos 4 ∷ pos 3 ∷ pos 2 ∷ [];
+  right = pos 0 ∷ negsuc 1 ∷ pos 0 ∷ [];
+}
+
+abbrev pub entries : List (Exchange ℤ)
+entries = entered 0 0 4 ∷ entered 0 1 2 ∷ entered 1 0 3 ∷ entered 1 1 1 ∷ entered 1 2 5
+    ∷ entered 2 1 6 ∷ entered 2 2 2 ∷ []
+
+abbrev pub marks : List ℕ
+marks = 1 ∷ 1 ∷ 0 ∷ 1 ∷ 1 ∷ 0 ∷ 0 ∷ 0 ∷ 1 ∷ []
+
+-- calls that are refused
+abbrev pub refusals : List (Exchange ℤ)
+refusals =
+    refused (Enter 3 0 (pos 1)) Block None
+    ∷ refused (Strike 0 2) Absent None
+    ∷ record {
+      act = Settle;
+      handed = record right { left = 2 };
+      outcome = turned_down (fault TableLength 0) None;
+    }
+    ∷ []
+
+-- the sheet is settled, quoted and marked; the open sheet's calls are not to be had
+abbrev pub settled_calls : List (Exchange ℤ)
+settled_calls =
+    said Settle (with_prices first)
+    ∷ said (Quote 1 2) (pos 5, pos 2)
+    ∷ declined (Enter 0 2 (pos 1))
+    ∷ said Total (pos 7)
+    ∷ said Marks marks
+    ∷ []
+
+-- a walk is carried to its end and closed
+abbrev pub walk_calls : List (Exchange ℤ)
+walk_calls =
+    said Start first
+    ∷ said Next (Some second)
+    ∷ said Next None
+    ∷ said Next None
+    ∷ said Close tt
+    ∷ []
+
+-- and the sheet is settled again without one of its pairs
+abbrev pub calls_again : List (Exchange ℤ)
+calls_again =
+    said Reopen tt
+    ∷ said (Strike 0 0) tt
+    ∷ said Settle (with_prices second)
+    ∷ []
+
+-- ---- What is shown
+
+-- the book after the entries, and after a settle; and what was told since
+abbrev pub full : Book ℤ
+full = book_after whole_numbers 3 blank entries
+
+abbrev pub settled_book : Book ℤ
+settled_book = book_after whole_numbers 3 full (said Settle (with_prices first) ∷ [])
+
+abbrev pub since : Settling ℤ
+since = settling_of whole_numbers 3 (grid_in whole_numbers 3 full) (with_prices first)
+
+-- answers to calls on the settled sheet that are right
+abbrev pub Right : List (Exchange ℤ) → Type 0
+Right es = AllRight whole_numbers 3 settled_book since es
+
+pub record Shown : Type 0 where
+  pub whole : KeepsPromise whole_numbers 3
+      (entries ++ (refusals ++ (settled_calls ++ (walk_calls ++ calls_again))))
+  -- a walk that repeats, one that skips, one that ends early, and one that goes on past its end
+  pub repeats : Right (said Start first ∷ said Next (Some first) ∷ []) → ⊥
+  pub skips : Right (said Start second ∷ []) → ⊥
+  pub ends_early : Right (said Start first ∷ said Next None ∷ []) → ⊥
+  pub goes_on : Right (said Start first ∷ said Next (Some second) ∷ said Next (Some second) ∷ [])
+      → ⊥
+  -- marks that are all yes, all no, or too few
+  pub all_yes : Right (said Marks (replicate 9 1) ∷ []) → ⊥
+  pub all_no : Right (said Marks (replicate 9 0) ∷ []) → ⊥
+  pub too_few : Right (said Marks (1 ∷ 1 ∷ 0 ∷ []) ∷ []) → ⊥
+  -- an enter that stores nothing, as a read tells
+  pub stores_nothing : KeepsPromise whole_numbers 3
+      (entered 0 0 4 ∷ refused (Read 0 0) Absent None ∷ []) → ⊥
+  -- a settle that refuses what can be paired, and one that writes no prices
+  pub refuses_all : AllRight whole_numbers 3 full since
+      (refused Settle NoPerfectPairing (Some (record { crowd = 7; short = 3 })) ∷ []) → ⊥
+  pub no_prices : AllRight whole_numbers 3 full since
+      (said Settle (record { partners = first; left = []; right = [] }) ∷ []) → ⊥
+  -- a quote by other prices, and a refusal for tables that do not hold together
+  pub other_prices : Right (said (Quote 1 2) (pos 5, pos 3) ∷ []) → ⊥
+  pub seven : Right (refused Total Inconsistent None ∷ []) → ⊥

@@ -1,0 +1,6 @@
+pub mod Book
+pub mod Exchange
+pub mod Promise
+pub mod Program
+pub mod Runs
+pub mod Example

@@ -1,0 +1,186 @@
+-- What one call of a run, and a whole run, answer and leave in the tables.
+use Rattle.std.specs.Prelude.{◌≡◌, ℕ, ◌≤◌, false, ◌⊎◌, List, [], ◌∷◌, length, take, Ok, Err, Some}
+use Rattle.std.specs.Prelude.{None, Option, Result, Contains, MatchOption, MatchResult}
+use Rattle.std.specs.declared.alloc.AllocError.{AllocError}
+use Rattle.std.specs.declared.alloc.Global.{Global}
+use Rattle.std.specs.declared.vec.Vec.{Vec}
+use Rattle.cost.specs.declared.Cost.{Ghosts}
+use Rattle.pairing.specs.Places.{places_of}
+use Rattle.matching.specs.declared.augmenting.Shortfall.{Shortfall}
+use Rattle.matching.specs.declared.stepping.Step.{Step}
+use Rattle.matching.specs.declared.stepping.Step.TheVariants.{Next as Onward, End as Last}
+use Rattle.sheet.specs.declared.fault.Fault.{Fault}
+use Rattle.sheet.specs.declared.fault.Refusal.{Refusal}
+use Rattle.sheet.specs.declared.fault.Cause.TheVariants.{Size, TableLength}
+use Rattle.sheet.specs.Refusals.{fault}
+use Rattle.sheet.specs.Size.{Sheet as OneSheet, size_of, IsSize}
+use Rattle.session.specs.declared.answer.Answer.{Answer}
+use Rattle.session.specs.declared.answer.Answer.TheVariants.{NotMade, Refused, Unmatched, Done}
+use Rattle.session.specs.declared.answer.Answer.TheVariants.{Settled, Quoted, Amount, Marked}
+use Rattle.session.specs.declared.answer.Answer.TheVariants.{Pairing, End}
+use Rattle.session.specs.declared.call.Act.{Act}
+use Rattle.session.specs.declared.call.Act.TheVariants.{Enter, Strike, Read, Settle, Quote, Total}
+use Rattle.session.specs.declared.call.Act.TheVariants.{Marks, Start, Next, Close, Reopen}
+use Rattle.session.specs.declared.call.Call.{Call}
+use Rattle.session.specs.declared.call.Lengths.{Lengths}
+use Rattle.session.specs.declared.running.Stopped.{Stopped}
+use Rattle.session.specs.declared.running.Stopped.TheVariants.{Sheet, NotLent, Memory}
+use Rattle.session.specs.declared.state.State.{State as InState}
+use Rattle.session.specs.declared.state.State.TheVariants.{Open, Settled as IsSettled, Walking}
+use Rattle.session.specs.declared.sheet_tables.SheetTables.{SheetTables}
+use Rattle.session.specs.Book.{opened, settled, walking, blank}
+use Rattle.session.specs.Exchange.{Told, Outcome, not_made, turned_down, tells, Exchange}
+use Rattle.session.specs.Exchange.{call_of}
+use Rattle.session.specs.Program.{State, state_at, Tables, lengths, Makes, Program, ShowCells}
+use Rattle.session.specs.Promise.{KeepsPromise, book_after}
+
+-- ---- States and tables as a program sees them
+
+abbrev pub state_of : InState → State
+state_of (Open sheet) = state_at opened sheet
+state_of (IsSettled sheet) = state_at settled sheet
+state_of (Walking sheet) = state_at walking sheet
+
+abbrev pub tables_of : {K : Type 0} → SheetTables K → Tables K
+tables_of t = record {
+  costs = t.costs.items;
+  standing = t.standing.items;
+  partners = t.partners.items;
+  left = t.left.items;
+  right = t.right.items;
+  walk = t.walk.items;
+  marks = t.marks.items;
+}
+
+-- the lengths that n blocks a plane ask for
+abbrev pub right_lengths : ℕ → Lengths
+right_lengths n = record {
+  costs = places_of n;
+  standing = places_of n;
+  partners = n;
+  left = n;
+  right = n;
+  walk = n;
+  marks = places_of n;
+}
+
+-- a call that asks for this and is handed tables of these lengths
+abbrev pub call_for : {K : Type 0} → Act K → Lengths → Call K
+call_for act h = record { act = act; handed = h }
+
+-- no more places than there are
+pub record IsWithin (h most : Lengths) : Type 0 where
+  pub costs : h.costs ≤ most.costs
+  pub standing : h.standing ≤ most.standing
+  pub partners : h.partners ≤ most.partners
+  pub left : h.left ≤ most.left
+  pub right : h.right ≤ most.right
+  pub walk : h.walk ≤ most.walk
+  pub marks : h.marks ≤ most.marks
+
+-- ---- Answers
+
+-- the answer says what came of the call
+abbrev pub Says : {K : Type 0} (act : Act K) → Outcome (Told K act) → Answer K → Type 0
+Says act not_made a = a ≡ NotMade
+Says act (turned_down f None) a = a ≡ Refused f
+Says act (turned_down f (Some s)) a = a ≡ Unmatched f s
+Says (Enter l r c) (tells x) a = a ≡ Done
+Says (Strike l r) (tells x) a = a ≡ Done
+Says (Read l r) (tells x) a = a ≡ Amount x
+Says {K = K} Settle (tells x) a = (p : Vec ℕ Global) × (q r : Vec K Global) × (a ≡ Settled p q r)
+    × (p.items ≡ x.partners) × (q.items ≡ x.left) × (r.items ≡ x.right)
+Says (Quote l r) (tells x) a = a ≡ Quoted x.0 x.1
+Says Total (tells x) a = a ≡ Amount x
+Says Marks (tells x) a = (v : Vec ℕ Global) × (a ≡ Marked v) × (v.items ≡ x)
+Says Start (tells x) a = (v : Vec ℕ Global) × (a ≡ Pairing v) × (v.items ≡ x)
+Says Next (tells (Some x)) a = (v : Vec ℕ Global) × (a ≡ Pairing v) × (v.items ≡ x)
+Says Next (tells None) a = a ≡ End
+Says Close (tells x) a = a ≡ Done
+Says Reopen (tells x) a = a ≡ Done
+
+-- the answer tells a refusal, with the crowd set where there is one
+abbrev pub TellsRefusal : {K : Type 0} → Fault → Option Shortfall → Answer K → Type 0
+TellsRefusal f shortfall a = MatchOption shortfall (a ≡ Refused f) (λ s. a ≡ Unmatched f s)
+
+-- the answer tells what came of a step of a walk, of a start and of a settle, with these copies of
+-- the tables that the call wrote
+abbrev pub TellsOnward : {K : Type 0} → Step → Vec ℕ Global → Answer K → Type 0
+TellsOnward Onward list a = a ≡ Pairing list
+TellsOnward Last list a = a ≡ End
+
+abbrev pub TellsStep : {K : Type 0} → Result Step Fault → Vec ℕ Global → Answer K → Type 0
+TellsStep outcome list a =
+    MatchResult outcome (λ step. TellsOnward step list a) (λ f. a ≡ Refused f)
+
+abbrev pub TellsStart : {K : Type 0} → Result OneSheet (Refusal OneSheet) → Vec ℕ Global
+    → Answer K → Type 0
+TellsStart outcome list a =
+    MatchResult outcome (λ walk. a ≡ Pairing list) (λ r. TellsRefusal r.fault r.shortfall a)
+
+abbrev pub TellsSettle : {K : Type 0} → Result OneSheet (Refusal OneSheet) → Vec ℕ Global
+    → (left right : Vec K Global) → Answer K → Type 0
+TellsSettle outcome partners left right a =
+    MatchResult outcome (λ sheet. a ≡ Settled partners left right)
+    (λ r. TellsRefusal r.fault r.shortfall a)
+
+-- the answers to the calls of a list say what came of each
+abbrev pub AllSay : {K : Type 0} → List (Call K) → List (Answer K) → List (Exchange K) → Type 0
+AllSay [] [] [] = Unit {0}
+AllSay (call ∷ calls) (a ∷ answers) (e ∷ es) = (call_of e ≡ call) × Says e.act e.outcome a
+    × AllSay calls answers es
+AllSay _ _ _ = ⊥
+
+module _ {K : Type 0} (kind : Ghosts K) where
+  -- ---- One call
+
+  -- the call was made, and this is its answer: a step of a program over the tables, which keep
+  -- their lengths
+  pub record WasMade (state : InState) (old : Tables K) (call : Call K) (answer : Answer K)
+      (state' : InState) (new : Tables K) : Type 0 where
+    pub outcome : Outcome (Told K call.act)
+    pub says : Says call.act outcome answer
+    pub makes : Makes kind false (state_of state) old
+        (record { act = call.act; handed = call.handed; outcome = outcome }) (state_of state') new
+    pub long : lengths new ≡ lengths old
+
+  -- want of memory is found before the call is made
+  abbrev pub MakesOne : (state : InState) (old : Tables K) → Call K
+      → Result (InState × Answer K) AllocError → (new : Tables K) → Type 0
+  MakesOne state old call answer new =
+      MatchResult answer (λ r. WasMade state old call r.1 r.0 new) (λ e. new ≡ old)
+
+  -- ---- A run
+
+  -- the calls were made and have these answers, and the tables hold what the last call left: the
+  -- calls are a program, so they keep the promise
+  pub record WereMade (n : ℕ) (calls : List (Call K)) (answers : List (Answer K)) (new : Tables K)
+      : Type 0 where
+    pub exchanges : List (Exchange K)
+    pub say : AllSay calls answers exchanges
+    pub state : State
+    pub program : Program kind false n exchanges state new
+    pub keeps : KeepsPromise kind n exchanges
+    pub shows : ShowCells kind n (book_after kind n blank exchanges).cells new
+
+  -- no sheet is opened: the size is wrong, or the lengths are
+  abbrev pub IsNoSheet : ℕ → Lengths → Fault → Type 0
+  IsNoSheet n h f = (IsSize n → ⊥) × (f ≡ fault Size 0)
+      ⊎ (IsSize n × (h ≡ right_lengths n → ⊥) × (f ≡ fault TableLength 0))
+
+  -- a sheet is open over the tables, which had the right lengths and keep them: a program begins
+  pub record Begins (n : ℕ) (old : Tables K) (state : InState) (new : Tables K) : Type 0 where
+    pub program : Program kind false n [] (state_of state) new
+    pub sized : size_of (state_of state).sheet ≡ n
+    pub right : lengths old ≡ right_lengths n
+    pub long : lengths new ≡ lengths old
+
+  -- every call is made; or none is, and the tables are as they were; or memory ran out after some
+  abbrev pub Runs : ℕ → (old : Tables K) → List (Call K)
+      → Result (Vec (Answer K) Global) (Stopped K) → (new : Tables K) → Type 0
+  Runs n old calls (Ok answers) new = WereMade n calls answers.items new
+  Runs n old calls (Err (Sheet f)) new = IsNoSheet n (lengths old) f × (new ≡ old)
+  Runs n old calls (Err NotLent) new = ((call : Call K) × Contains calls call
+      × (IsWithin call.handed (lengths old) → ⊥)) × (new ≡ old)
+  Runs n old calls (Err (Memory answers)) new =
+      WereMade n (take (length answers.items) calls) answers.items new

@@ -1,0 +1,131 @@
+//! A call on an open sheet.
+
+ghost use Rattle.std.specs.Prelude.{◌≡◌};
+ghost use Rattle.sheet.specs.Size.{size_of};
+ghost use Rattle.session.specs.declared.call.Act.TheVariants.{Enter, Strike, Read, Settle};
+ghost use Rattle.session.specs.declared.state.State.TheVariants.{Open};
+ghost use Rattle.session.specs.Program.{lengths};
+ghost use Rattle.session.specs.Runs.{tables_of, right_lengths, IsWithin, MakesOne, WasMade};
+ghost use Rattle.session.specs.Runs.{call_for};
+
+use super::answers::{amount, done, settled};
+use crate::answer::Answer;
+use crate::call::{Act, Call, Lengths};
+use crate::sheet_tables::SheetTables;
+use crate::state::State;
+use cost::Cost;
+use sheet::OpenSheet;
+use std::alloc::{AllocError, Global};
+
+pub(super) fn make<K: Cost>(
+    heap: Global,
+    sheet: OpenSheet,
+    tables: &mut SheetTables<K>,
+    call: Call<K>,
+) -> Result<(State, Answer<K>), AllocError>
+    requires right { lengths (tables_of tables.old) ≡ right_lengths (size_of sheet) }
+    requires lent { IsWithin call.handed (lengths (tables_of tables.old)) }
+    ensures { MakesOne K.Cost (Open sheet) (tables_of tables.old) call result
+        (tables_of tables.new) }
+{
+    let h = call.handed;
+    match call.act {
+        Act::Enter { left, right, cost } => {
+            let answer = enter(&sheet, tables, h, left, right, cost);
+            Ok((State::Open(sheet), answer))
+        }
+        Act::Strike { left, right } => {
+            let answer = strike(&sheet, tables, h, left, right);
+            Ok((State::Open(sheet), answer))
+        }
+        Act::Read { left, right } => {
+            let answer = read(&sheet, tables, h, left, right);
+            Ok((State::Open(sheet), answer))
+        }
+        Act::Settle => settle(heap, sheet, tables, h),
+        _ => Ok((State::Open(sheet), Answer::NotMade)),
+    }
+}
+
+fn enter<K: Cost>(
+    sheet: &OpenSheet,
+    tables: &mut SheetTables<K>,
+    h: Lengths,
+    left: u16,
+    right: u16,
+    cost: K,
+) -> Answer<K>
+    requires right { lengths (tables_of tables.old) ≡ right_lengths (size_of sheet.now) }
+    requires lent { IsWithin h (lengths (tables_of tables.old)) }
+    ensures { WasMade K.Cost (Open sheet.now) (tables_of tables.old)
+        (call_for (Enter left right cost) h) result (Open sheet.now) (tables_of tables.new) }
+{
+    let costs = &mut tables.costs.as_mut_slice()[0..h.costs];
+    let standing = &mut tables.standing.as_mut_slice()[0..h.standing];
+    done(sheet.enter(costs, standing, left, right, cost))
+}
+
+fn strike<K: Cost>(
+    sheet: &OpenSheet,
+    tables: &mut SheetTables<K>,
+    h: Lengths,
+    left: u16,
+    right: u16,
+) -> Answer<K>
+    requires right { lengths (tables_of tables.old) ≡ right_lengths (size_of sheet.now) }
+    requires lent { IsWithin h (lengths (tables_of tables.old)) }
+    ensures { WasMade K.Cost (Open sheet.now) (tables_of tables.old)
+        (call_for (Strike left right) h) result (Open sheet.now) (tables_of tables.new) }
+{
+    let costs = &mut tables.costs.as_mut_slice()[0..h.costs];
+    let standing = &mut tables.standing.as_mut_slice()[0..h.standing];
+    done(sheet.strike(costs, standing, left, right))
+}
+
+fn read<K: Cost>(
+    sheet: &OpenSheet,
+    tables: &SheetTables<K>,
+    h: Lengths,
+    left: u16,
+    right: u16,
+) -> Answer<K>
+    requires right { lengths (tables_of tables.now) ≡ right_lengths (size_of sheet.now) }
+    requires lent { IsWithin h (lengths (tables_of tables.now)) }
+    ensures { WasMade K.Cost (Open sheet.now) (tables_of tables.now) (call_for (Read left right) h)
+        result (Open sheet.now) (tables_of tables.now) }
+{
+    let costs = &tables.costs.as_slice()[0..h.costs];
+    let standing = &tables.standing.as_slice()[0..h.standing];
+    amount(sheet.read(costs, standing, left, right))
+}
+
+// The copies that the answer needs are made first.
+fn settle<K: Cost>(
+    heap: Global,
+    sheet: OpenSheet,
+    tables: &mut SheetTables<K>,
+    h: Lengths,
+) -> Result<(State, Answer<K>), AllocError>
+    requires right { lengths (tables_of tables.old) ≡ right_lengths (size_of sheet) }
+    requires lent { IsWithin h (lengths (tables_of tables.old)) }
+    ensures { MakesOne K.Cost (Open sheet) (tables_of tables.old) (call_for Settle h) result
+        (tables_of tables.new) }
+{
+    let partners = &mut tables.partners.as_mut_slice()[0..h.partners];
+    let left = &mut tables.left.as_mut_slice()[0..h.left];
+    let right = &mut tables.right.as_mut_slice()[0..h.right];
+    let mut partners_told = Vec::from_slice(heap, partners)?;
+    let mut left_told = Vec::from_slice(heap, left)?;
+    let mut right_told = Vec::from_slice(heap, right)?;
+    let outcome = sheet.settle(
+        &tables.costs.as_slice()[0..h.costs],
+        &tables.standing.as_slice()[0..h.standing],
+        partners,
+        left,
+        right,
+    );
+    partners_told.copy_from_slice(partners);
+    left_told.copy_from_slice(left);
+    right_told.copy_from_slice(right);
+    Ok(settled(outcome, partners_told, left_told, right_told))
+}

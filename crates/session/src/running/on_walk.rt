@@ -1,0 +1,67 @@
+//! A call on a walk.
+
+ghost use Rattle.std.specs.Prelude.{◌≡◌, MatchResult};
+ghost use Rattle.sheet.specs.Size.{size_of};
+ghost use Rattle.session.specs.declared.call.Act.TheVariants.{Next};
+ghost use Rattle.session.specs.declared.state.State.TheVariants.{Walking};
+ghost use Rattle.session.specs.Program.{lengths};
+ghost use Rattle.session.specs.Runs.{tables_of, right_lengths, IsWithin, MakesOne, WasMade};
+ghost use Rattle.session.specs.Runs.{call_for};
+
+use super::answers::stepped;
+use crate::answer::Answer;
+use crate::call::{Act, Call, Lengths};
+use crate::sheet_tables::SheetTables;
+use crate::state::State;
+use cost::Cost;
+use sheet::Walk;
+use std::alloc::{AllocError, Global};
+
+pub(super) fn make<K: Cost>(
+    heap: Global,
+    walk: Walk,
+    tables: &mut SheetTables<K>,
+    call: Call<K>,
+) -> Result<(State, Answer<K>), AllocError>
+    requires right { lengths (tables_of tables.old) ≡ right_lengths (size_of walk) }
+    requires lent { IsWithin call.handed (lengths (tables_of tables.old)) }
+    ensures { MakesOne K.Cost (Walking walk) (tables_of tables.old) call result
+        (tables_of tables.new) }
+{
+    match call.act {
+        Act::Next => {
+            let answer = next(heap, &walk, tables, call.handed)?;
+            Ok((State::Walking(walk), answer))
+        }
+        Act::Close => Ok((State::Settled(walk.close()), Answer::Done)),
+        _ => Ok((State::Walking(walk), Answer::NotMade)),
+    }
+}
+
+// One step of a walk. The copy that the answer needs is made first.
+fn next<K: Cost>(
+    heap: Global,
+    walk: &Walk,
+    tables: &mut SheetTables<K>,
+    h: Lengths,
+) -> Result<Answer<K>, AllocError>
+    requires right { lengths (tables_of tables.old) ≡ right_lengths (size_of walk.now) }
+    requires lent { IsWithin h (lengths (tables_of tables.old)) }
+    ensures { MatchResult result
+        (λ answer. WasMade K.Cost (Walking walk.now) (tables_of tables.old) (call_for Next h) answer
+        (Walking walk.now) (tables_of tables.new))
+        (λ e. tables_of tables.new ≡ tables_of tables.old) }
+{
+    let list = &mut tables.walk.as_mut_slice()[0..h.walk];
+    let mut told = Vec::from_slice(heap, list)?;
+    let outcome = walk.next(
+        &tables.costs.as_slice()[0..h.costs],
+        &tables.standing.as_slice()[0..h.standing],
+        &tables.partners.as_slice()[0..h.partners],
+        &tables.left.as_slice()[0..h.left],
+        &tables.right.as_slice()[0..h.right],
+        list,
+    );
+    told.copy_from_slice(list);
+    Ok(stepped(outcome, told))
+}

@@ -1,0 +1,89 @@
+//! The tables of one sheet as one value, and their lengths.
+
+ghost use Rattle.std.specs.Prelude.{◌≡◌, IfOk, ◌↔◌, IsTrue};
+ghost use Rattle.session.specs.Runs.{tables_of, right_lengths, IsWithin};
+ghost use Rattle.session.specs.Program.{lengths};
+
+use crate::call::Lengths;
+use cost::Cost;
+use std::alloc::{AllocError, Global};
+use tables::places;
+
+/// The tables of a sheet of n left and n right blocks: a cost, a standing byte and a mark for each
+/// pair, n * n; a partner, a left price, a right price and a place of the walk for each block, n.
+#[derive(Drop, Debug)]
+pub struct SheetTables<K> {
+    pub costs: Vec<K>,
+    pub standing: Vec<u8>,
+    pub partners: Vec<u16>,
+    pub left: Vec<K>,
+    pub right: Vec<K>,
+    pub walk: Vec<u16>,
+    pub marks: Vec<u8>,
+}
+
+impl<K: Cost> SheetTables<K> {
+    /// Tables of the right lengths for n blocks a plane, with zero in every place.
+    pub fn new(heap: Global, n: u16) -> Result<SheetTables<K>, AllocError>
+        ensures { IfOk result (λ made. lengths (tables_of made) ≡ right_lengths n) }
+    {
+        let blocks = n as usize;
+        let pairs = places(n);
+        Ok(SheetTables {
+            costs: vec![in heap; K::zero(); pairs]?,
+            standing: vec![in heap; 0u8; pairs]?,
+            partners: vec![in heap; 0u16; blocks]?,
+            left: vec![in heap; K::zero(); blocks]?,
+            right: vec![in heap; K::zero(); blocks]?,
+            walk: vec![in heap; 0u16; blocks]?,
+            marks: vec![in heap; 0u8; pairs]?,
+        })
+    }
+
+    /// How long the tables are.
+    pub fn lengths(&self) -> Lengths
+        ensures { result ≡ lengths (tables_of self.now) }
+    {
+        Lengths {
+            costs: self.costs.len(),
+            standing: self.standing.len(),
+            partners: self.partners.len(),
+            left: self.left.len(),
+            right: self.right.len(),
+            walk: self.walk.len(),
+            marks: self.marks.len(),
+        }
+    }
+}
+
+impl Lengths {
+    /// The right lengths for n blocks a plane.
+    pub fn right(n: u16) -> Lengths
+        ensures { result ≡ right_lengths n }
+    {
+        let blocks = n as usize;
+        let pairs = places(n);
+        Lengths {
+            costs: pairs,
+            standing: pairs,
+            partners: blocks,
+            left: blocks,
+            right: blocks,
+            walk: blocks,
+            marks: pairs,
+        }
+    }
+
+    /// Whether each length is at most the other.
+    pub fn within(self, most: Lengths) -> bool
+        ensures { IsTrue result ↔ IsWithin self most }
+    {
+        self.costs <= most.costs
+            && self.standing <= most.standing
+            && self.partners <= most.partners
+            && self.left <= most.left
+            && self.right <= most.right
+            && self.walk <= most.walk
+            && self.marks <= most.marks
+    }
+}
