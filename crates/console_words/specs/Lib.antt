@@ -6,3 +6,4 @@ pub mod Moving
 pub mod Conversing
 pub mod Sizing
 pub mod Refusing
+pub mod Answering

@@ -1,5 +1,5 @@
 -- What a line does to a sheet.
-use Rattle.std.specs.Prelude.{◌≡◌, ◌⊎◌, ℕ, Option}
+use Rattle.std.specs.Prelude.{◌≡◌, ◌⊎◌, ℕ, List, Option, string_bytes}
 use Rattle.cost.specs.declared.Cost.{Ghosts}
 use Rattle.tables.specs.PairTables.{AllAbsent, cell}
 use Rattle.sheet.specs.Size.{IsSize, sheet_of}
@@ -14,12 +14,17 @@ use Rattle.console_words.specs.declared.request.Request.TheVariants.{Make, Help,
 use Rattle.console_words.specs.declared.table_name.TableName.{TableName}
 use Rattle.console_words.specs.declared.turn.Turn.{Turn}
 use Rattle.console_words.specs.declared.turn.Turn.TheVariants.{Said, Over}
+use Rattle.console_words.specs.Answering.{answer_words}
 use Rattle.console_words.specs.Handing.{call_on}
 
--- there is a text to print
+-- there is a text to print; and this is the text
 abbrev pub IsSaid : Turn → Type 0
 IsSaid (Said text) = Unit {0}
 IsSaid Over = ⊥
+
+abbrev pub Says : List ℕ → Turn → Type 0
+Says words (Said text) = string_bytes text ≡ words
+Says words Over = ⊥
 
 module _ {K : Type 0} (kind : Ghosts K) where
   -- a sheet of n blocks a plane that was just opened: every pair is absent
@@ -33,14 +38,17 @@ module _ {K : Type 0} (kind : Ghosts K) where
   Makes desk act short answer desk' = WasMade kind desk.state (tables_of desk.tables)
       (call_on desk.state act short) answer desk'.state (tables_of desk'.tables)
 
-  -- what a request does: the call that it asks for is made, once; help and the end change nothing
-  abbrev pub Answers : Desk K → Request K → Desk K → Turn → Type 0
-  Answers desk (Make act short) desk' turn =
-      ((answer : Answer K) × Makes desk act short answer desk') × IsSaid turn
-  Answers desk Help desk' turn = (desk' ≡ desk) × IsSaid turn
-  Answers desk Quit desk' turn = (desk' ≡ desk) × (turn ≡ Over)
+  module _ (written : K → List ℕ) where
+    -- what a request does: the call that it asks for is made, once, and its answer is told in
+    -- words; help and the end change nothing
+    abbrev pub Answers : Desk K → Request K → Desk K → Turn → Type 0
+    Answers desk (Make act short) desk' turn = (answer : Answer K)
+        × Makes desk act short answer desk'
+        × Says (answer_words written act desk'.state answer) turn
+    Answers desk Help desk' turn = (desk' ≡ desk) × IsSaid turn
+    Answers desk Quit desk' turn = (desk' ≡ desk) × (turn ≡ Over)
 
-  -- what a line does: nothing, or what some request does
-  abbrev pub Moves : Desk K → Desk K → Turn → Type 0
-  Moves desk desk' turn = ((desk' ≡ desk) × IsSaid turn)
-      ⊎ ((request : Request K) × Answers desk request desk' turn)
+    -- what a line does: nothing, or what some request does
+    abbrev pub Moves : Desk K → Desk K → Turn → Type 0
+    Moves desk desk' turn = ((desk' ≡ desk) × IsSaid turn)
+        ⊎ ((request : Request K) × Answers desk request desk' turn)

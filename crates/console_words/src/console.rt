@@ -94,7 +94,7 @@ fn take_opened<K: TypedCost>(
     number: usize,
     line: &str,
 ) -> Result<(Desk<K>, Turn), AllocError>
-    ensures { IfOk result (λ taken. Moves K.Cost desk taken.0 taken.1) }
+    ensures { IfOk result (λ taken. Moves K.Cost K.written desk taken.0 taken.1) }
 {
     match Request::parse(line) {
         Ok(request) => desk.answer(heap, request),

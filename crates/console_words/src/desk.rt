@@ -64,7 +64,7 @@ impl<K: TypedCost> Desk<K> {
         heap: Global,
         request: Request<K>,
     ) -> Result<(Desk<K>, Turn), AllocError>
-        ensures { IfOk result (λ made. Answers K.Cost self request made.0 made.1) }
+        ensures { IfOk result (λ made. Answers K.Cost K.written self request made.0 made.1) }
     {
         let mut text = String::new(heap);
         match request {

@@ -1,5 +1,8 @@
 //! Costs as they are typed and printed: one whole number, or two.
 
+ghost use Rattle.std.specs.Prelude.{◌≡◌, ℕ, List, ◌++◌, codes, OnOk, string_bytes};
+ghost use Rattle.std.specs.Fmt.{signed_decimal};
+
 use crate::complaint::Complaint;
 use crate::words::Words;
 use cost::{Cost, Plain, TwoStep};
@@ -7,6 +10,9 @@ use std::alloc::AllocError;
 
 /// A kind of costs that can be typed.
 pub trait TypedCost: Cost {
+    // How a cost is written.
+    ghost written: { Self → List ℕ };
+
     /// The form of a line that enters a pair.
     const ENTER_FORM: &'static str;
 
@@ -14,11 +20,14 @@ pub trait TypedCost: Cost {
     fn take_from<'a>(words: &mut Words<'a>) -> Result<Self, Complaint<'a>>;
 
     /// Appends the cost.
-    fn push_to(self, text: &mut String) -> Result<(), AllocError>;
+    fn push_to(self, text: &mut String) -> Result<(), AllocError>
+        ensures { OnOk result (string_bytes text.new ≡ string_bytes text.old ++ written self) };
 }
 
 /// A plain cost is its number.
 impl TypedCost for Plain {
+    ghost written = { λ cost. signed_decimal cost.0 };
+
     const ENTER_FORM: &'static str = "enter L R COST";
 
     fn take_from<'a>(words: &mut Words<'a>) -> Result<Plain, Complaint<'a>> {
@@ -33,6 +42,9 @@ impl TypedCost for Plain {
 
 /// A cost of two steps is typed as two numbers, and printed as `(FIRST, SECOND)`.
 impl TypedCost for TwoStep<Plain, Plain> {
+    ghost written = { λ cost. codes "(" ++ (signed_decimal cost.0.0
+        ++ (codes ", " ++ (signed_decimal cost.1.0 ++ codes ")"))) };
+
     const ENTER_FORM: &'static str = "enter L R COST COST";
 
     fn take_from<'a>(words: &mut Words<'a>) -> Result<TwoStep<Plain, Plain>, Complaint<'a>> {
