@@ -8,7 +8,7 @@ use Rattle.std.specs.declared.cmp.Ordering.{Ordering}
 use Rattle.std.proofs.Common.{sym, ap, ◌∙◌, arith}
 use Rattle.std.proofs.lemmas.List.Folds.{list_all-append}
 use Rattle.std.specs.Ordering.{ordering_then}
-use Rattle.cost.specs.Columns.{within, columnwise, lex}
+use Rattle.cost.specs.Columns.{Within, within, columnwise, lex}
 
 -- two values of one kind have equally many columns
 pub same_length : {K : Type 0} (columns : ℕ) (meaning : K → List ℤ)
@@ -46,3 +46,8 @@ then_keeps Greater p h = refl
 
 pub within-append : (k : ℕ) (a b : List ℤ) → within k (a ++ b) ≡ (within k a && within k b)
 within-append k a b = list_all-append (λ x. nat_le (unsigned_abs x) k) a b
+
+-- all columns are within a limit just where those of both parts are
+pub within_parts : (k : ℕ) (a b : List ℤ) → Within k (a ++ b) → Within k a × Within k b
+within_parts k [] b h = (tt, h)
+within_parts k (x ∷ a) b h = let rest = within_parts k a b h.1 in ((h.0, rest.0), rest.1)

@@ -2,7 +2,8 @@
 #![tactic(auto)]
 
 ghost use Rattle.std.specs.Prelude.{◌≡◌, ℕ, List, ℤ};
-ghost use Rattle.cost.specs.Columns.{within, sums, differences, lex};
+ghost use Rattle.cost.specs.declared.TheConstants.{HALF_RAIL};
+ghost use Rattle.cost.specs.Columns.{Within, within, sums, differences, lex};
 ghost use Rattle.cost.specs.Kind.{KindLaws};
 
 mod free_kind;
@@ -21,6 +22,10 @@ pub use two_step_kind::TwoStep;
 /// The rail: each column of a value is from -RAIL to RAIL.
 pub const RAIL: u64 = 1_000_000_000_000_000;
 
+/// Half of the rail. A value within it is near: the sum and the difference of two near values lie on
+/// the rail, so that nothing is stopped at its ends.
+pub const HALF_RAIL: u64 = 500_000_000_000_000;
+
 /// The cost of a pair is within this in each column.
 pub const COST_LIMIT: u64 = 1_000_000_000;
 
@@ -30,8 +35,10 @@ pub const PRICE_LIMIT: u64 = 1_000_000_000_000;
 /// A cost kind. A value means a list of whole numbers, its columns: all values of a kind have the
 /// same number of columns, and each column lies on the rail, from -10^15 to 10^15.
 ///
-/// A kind answers the five questions below about the columns alone, so code that is generic over
-/// the kind is proved once, for kinds that were written elsewhere too.
+/// A kind answers five questions about the columns alone, so code that is generic over the kind is
+/// proved once, for kinds that were written elsewhere too. Three of them come again for near values,
+/// for callers that know how far their values can get: a kind that has nothing faster to offer there
+/// leaves them out.
 pub trait Cost: Copy {
     // How many columns a value has.
     ghost columns: { ℕ };
@@ -57,6 +64,33 @@ pub trait Cost: Copy {
     /// The order of two values: the first column that differs decides.
     fn compare(self, other: Self) -> Ordering
         ensures { result ≡ lex (meaning self) (meaning other) };
+
+    /// The sum of two near values: nothing is stopped.
+    fn add_near(self, other: Self) -> Self
+        requires first { Within HALF_RAIL (meaning self) }
+        requires second { Within HALF_RAIL (meaning other) }
+        ensures { meaning result ≡ sums (meaning self) (meaning other) }
+    {
+        self.add(other)
+    }
+
+    /// The difference of two near values: nothing is stopped.
+    fn take_away_near(self, other: Self) -> Self
+        requires first { Within HALF_RAIL (meaning self) }
+        requires second { Within HALF_RAIL (meaning other) }
+        ensures { meaning result ≡ differences (meaning self) (meaning other) }
+    {
+        self.take_away(other)
+    }
+
+    /// The order of two near values.
+    fn compare_near(self, other: Self) -> Ordering
+        requires first { Within HALF_RAIL (meaning self) }
+        requires second { Within HALF_RAIL (meaning other) }
+        ensures { result ≡ lex (meaning self) (meaning other) }
+    {
+        self.compare(other)
+    }
 
     /// Whether each column is from -limit to limit.
     fn within(self, limit: u64) -> bool

@@ -1,7 +1,8 @@
 //! The plain kind: one column, a signed 64-bit number.
 
 ghost use Rattle.std.specs.Prelude.{◌≡◌, ◌≤◌, ◌↔◌, [], ◌∷◌, pos, ◌+ℤ◌, ◌-ℤ◌, unsigned_abs, IsTrue};
-ghost use Rattle.cost.specs.Columns.{rail_of, sums, differences};
+ghost use Rattle.cost.specs.declared.TheConstants.{HALF_RAIL};
+ghost use Rattle.cost.specs.Columns.{Within, rail_of, sums, differences};
 ghost use Rattle.std.proofs.Common.{rules};
 
 use crate::Cost;
@@ -10,7 +11,7 @@ use std::cmp::Ordering;
 const RAIL: i64 = crate::RAIL as i64;
 
 /// Half of the rail: sums and differences of numbers within it lie on the rail.
-const HALF: i64 = RAIL / 2;
+const HALF: i64 = crate::HALF_RAIL as i64;
 
 /// A plain cost. The type has no invariant, since plain costs lie in tables that anybody may have
 /// written: a number beyond the rail means the nearer end of the rail.
@@ -52,7 +53,7 @@ impl Cost for Plain {
         ensures bounded { result.0 ≡ rail_of (rail_of self.0 +ℤ rail_of other.0) }
     {
         if is_near(self.0) && is_near(other.0) {
-            Plain(self.0 + other.0)
+            self.add_near(other)
         } else {
             Plain(on_rail(on_rail(self.0) + on_rail(other.0)))
         }
@@ -65,7 +66,7 @@ impl Cost for Plain {
         ensures bounded { result.0 ≡ rail_of (rail_of self.0 -ℤ rail_of other.0) }
     {
         if is_near(self.0) && is_near(other.0) {
-            Plain(self.0 - other.0)
+            self.take_away_near(other)
         } else {
             Plain(on_rail(on_rail(self.0) - on_rail(other.0)))
         }
@@ -75,7 +76,32 @@ impl Cost for Plain {
         on_rail(self.0).cmp(&on_rail(other.0))
     }
 
+    // A near number means itself.
+    fn add_near(self, other: Plain) -> Plain
+        requires first { Within HALF_RAIL (rail_of self.0 ∷ []) }
+        requires second { Within HALF_RAIL (rail_of other.0 ∷ []) }
+        ensures means { rail_of result.0 ∷ [] ≡ sums (rail_of self.0 ∷ []) (rail_of other.0 ∷ []) }
+        ensures exact { result.0 ≡ self.0 +ℤ other.0 }
+    {
+        Plain(self.0 + other.0)
+    }
+
+    fn take_away_near(self, other: Plain) -> Plain
+        requires first { Within HALF_RAIL (rail_of self.0 ∷ []) }
+        requires second { Within HALF_RAIL (rail_of other.0 ∷ []) }
+        ensures means { rail_of result.0 ∷ [] ≡ differences (rail_of self.0 ∷ [])
+            (rail_of other.0 ∷ []) }
+        ensures exact { result.0 ≡ self.0 -ℤ other.0 }
+    {
+        Plain(self.0 - other.0)
+    }
+
+    fn compare_near(self, other: Plain) -> Ordering {
+        self.0.cmp(&other.0)
+    }
+
+    // Where the limit is short of the rail, what lies beyond the rail is beyond the limit too.
     fn within(self, limit: u64) -> bool {
-        on_rail(self.0).unsigned_abs() <= limit
+        limit >= crate::RAIL || self.0.unsigned_abs() <= limit
     }
 }

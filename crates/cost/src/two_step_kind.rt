@@ -52,7 +52,24 @@ impl<A: Cost, B: Cost> Cost for TwoStep<A, B> {
         }
     }
 
+    fn add_near(self, other: TwoStep<A, B>) -> TwoStep<A, B> {
+        TwoStep(self.0.add_near(other.0), self.1.add_near(other.1))
+    }
+
+    fn take_away_near(self, other: TwoStep<A, B>) -> TwoStep<A, B> {
+        TwoStep(
+            self.0.take_away_near(other.0),
+            self.1.take_away_near(other.1),
+        )
+    }
+
+    // Both steps are compared, so that a loop over many pairs has no branch here.
+    fn compare_near(self, other: TwoStep<A, B>) -> Ordering {
+        let first = self.0.compare_near(other.0);
+        first.then(self.1.compare_near(other.1))
+    }
+
     fn within(self, limit: u64) -> bool {
-        self.0.within(limit) && self.1.within(limit)
+        self.0.within(limit) & self.1.within(limit)
     }
 }

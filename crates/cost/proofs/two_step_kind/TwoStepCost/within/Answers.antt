@@ -3,10 +3,6 @@ use Rattle.std.proofs.Common.{rules}
 use Rattle.cost.proofs.Append.{within-append}
 use Rattle.cost.proofs.two_step_kind.TwoStepCost.within.Goals as goal
 
-pub returns-then-within : goal.returns-then-within
-returns-then-within g c = let h = within-append c.args.limit (g.A.Cost.meaning c.args.self.0)
-    (g.B.Cost.meaning c.args.self.1) in search (rules, h)
-
-pub returns-else-within : goal.returns-else-within
-returns-else-within g c = let h = within-append c.args.limit (g.A.Cost.meaning c.args.self.0)
+pub returns : goal.returns
+returns g c = let h = within-append c.args.limit (g.A.Cost.meaning c.args.self.0)
     (g.B.Cost.meaning c.args.self.1) in search (rules, h)
