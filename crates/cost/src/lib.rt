@@ -22,8 +22,8 @@ pub use two_step_kind::TwoStep;
 /// The rail: each column of a value is from -RAIL to RAIL.
 pub const RAIL: u64 = 1_000_000_000_000_000;
 
-/// Half of the rail. A value within it is near: the sum and the difference of two near values lie on
-/// the rail, so that nothing is stopped at its ends.
+/// Half of the rail. A value within it is near: sum and difference of two near values lie on the
+/// rail, so that nothing is stopped at its ends.
 pub const HALF_RAIL: u64 = 500_000_000_000_000;
 
 /// The cost of a pair is within this in each column.
@@ -36,9 +36,9 @@ pub const PRICE_LIMIT: u64 = 1_000_000_000_000;
 /// same number of columns, and each column lies on the rail, from -10^15 to 10^15.
 ///
 /// A kind answers five questions about the columns alone, so code that is generic over the kind is
-/// proved once, for kinds that were written elsewhere too. Three of them come again for near values,
-/// for callers that know how far their values can get: a kind that has nothing faster to offer there
-/// leaves them out.
+/// proved once, for kinds that were written elsewhere too. Three of them come again for near values:
+/// their callers know how far their values can get. A kind that has nothing faster to offer there
+/// leaves these out.
 pub trait Cost: Copy {
     // How many columns a value has.
     ghost columns: { ℕ };

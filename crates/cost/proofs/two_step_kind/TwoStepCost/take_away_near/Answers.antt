@@ -1,5 +1,5 @@
--- A difference of two steps is the two differences, one behind the other; where all columns are near, so are
--- those of each step.
+-- A difference of two steps is the two differences, one behind the other; where all columns are
+-- near, so are those of each step.
 use Rattle.std.proofs.Common.{sym}
 use Rattle.cost.specs.declared.TheConstants.{HALF_RAIL}
 use Rattle.cost.proofs.Append.{columnwise-append, same_length, within_parts}
