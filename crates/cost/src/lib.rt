@@ -36,9 +36,9 @@ pub const PRICE_LIMIT: u64 = 1_000_000_000_000;
 /// same number of columns, and each column lies on the rail, from -10^15 to 10^15.
 ///
 /// A kind answers five questions about the columns alone, so code that is generic over the kind is
-/// proved once, for kinds that were written elsewhere too. Three of them come again for near values:
-/// their callers know how far their values can get. A kind that has nothing faster to offer leaves
-/// these out.
+/// proved once, for kinds that were written elsewhere too. Three of them come again for near
+/// values: their callers know how far their values can get. A kind that has nothing faster to
+/// offer leaves these out.
 pub trait Cost: Copy {
     // How many columns a value has.
     ghost columns: { ℕ };
