@@ -1,17 +1,16 @@
 //! Loading: an order file is read whole, and then entered into the caller's tables.
 
-ghost use Rattle.std.specs.Prelude.{◌≡◌, length, Ok as Done};
-ghost use Rattle.std.specs.List.{AllByRecursion};
-ghost use Rattle.tables.specs.PairTables.{HavePlaces};
-ghost use Rattle.sheet.specs.Size.{size_of};
-ghost use Rattle.orderfile.specs.Format.{Order, States, SoundPair};
-ghost use Rattle.orderfile.specs.Records.{pairs_stated};
-ghost use Rattle.orderfile.specs.Loading.{Checked, costs_after, standing_after, Loaded};
+ghost use Rattle.std.specs.Prelude.{◌≡◌, ◌<◌, length};
+ghost use Rattle.tables.specs.PairTables.{HavePlaces, costs_entered, standing_entered};
+ghost use Rattle.orderfile.specs.Format.{Order, States};
+ghost use Rattle.orderfile.specs.Loading.{Checked, plain, costs_after, standing_after, Loaded};
 
-use crate::record::Record;
-use crate::record_reader::RecordReader;
+use crate::field::{END_FIELD, FIELD_HEAD, PAIR_FIELD, SIZE_FIELD};
+use crate::record::{Record, StatedPair};
+use crate::record_reader::{RecordReader, stated_pair};
 use cost::Plain;
 use sheet::{Fault, OpenSheet, open};
+use tables::place;
 
 /// The size that a file states, once all of the file has been read; or its first fault.
 pub fn check(file: &[u8]) -> Result<u16, Fault>
@@ -36,53 +35,40 @@ pub fn load(file: &[u8], costs: &mut [Plain], standing: &mut [u8]) -> Result<Ope
 {
     let n = check(file)?;
     let sheet = open(n, costs, standing)?;
-    enter_all(&sheet, file, costs, standing)?;
+    enter_all(n, file, costs, standing);
     Ok(sheet)
 }
 
-// Enters the pairs of a file that has no fault into a sheet of the size that it states.
-fn enter_all(
-    sheet: &OpenSheet,
-    file: &[u8],
-    costs: &mut [Plain],
-    standing: &mut [u8],
-) -> Result<(), Fault>
-    requires stated { (order : Order) × States file.now order × (order.size ≡ size_of sheet.now) }
-    requires places { HavePlaces (size_of sheet.now) (length costs.old) (length standing.old) }
-    ensures answers { result ≡ Done tt }
-    ensures enters { (order : Order) → States file.now order
+// Enters the pairs of a file into tables of the size that it states. The file is known to have no
+// fault, so its fields need no reader and are not checked again.
+fn enter_all(n: u16, file: &[u8], costs: &mut [Plain], standing: &mut [u8])
+    requires stated { (order : Order) × States file.now order × (order.size ≡ n) }
+    requires places { HavePlaces n (length costs.old) (length standing.old) }
+    ensures { (order : Order) → States file.now order
         → (costs.new ≡ costs_after order.size order.pairs costs.old)
         × (standing.new ≡ standing_after order.size order.pairs standing.old) }
 {
-    let mut records = RecordReader::new(file);
-    while let Some(record) = records.next()? {
-        enter(sheet, costs, standing, record)?;
+    let mut rest = &file[SIZE_FIELD..];
+    while rest.len() > END_FIELD {
+        enter(
+            n,
+            costs,
+            standing,
+            stated_pair(&rest[FIELD_HEAD..PAIR_FIELD]),
+        );
+        rest = &rest[PAIR_FIELD..];
     }
-    Ok(())
 }
 
-// Enters the pair that a record states, if it states one.
-fn enter(
-    sheet: &OpenSheet,
-    costs: &mut [Plain],
-    standing: &mut [u8],
-    stated: Record,
-) -> Result<(), Fault>
-    requires places { HavePlaces (size_of sheet.now) (length costs.old) (length standing.old) }
-    requires sound { AllByRecursion (SoundPair (size_of sheet.now)) (pairs_stated stated) }
-    ensures answers { result ≡ Done tt }
-    ensures stores { costs.new ≡ costs_after (size_of sheet.now) (pairs_stated stated) costs.old }
-    ensures raises { standing.new ≡ standing_after (size_of sheet.now) (pairs_stated stated)
-        standing.old }
+// Enters a pair whose blocks are in the tables.
+fn enter(n: u16, costs: &mut [Plain], standing: &mut [u8], pair: StatedPair)
+    requires places { HavePlaces n (length costs.old) (length standing.old) }
+    requires left_inside { pair.left < n }
+    requires right_inside { pair.right < n }
+    ensures stores { costs.new ≡ costs_entered n pair.left pair.right (plain pair.cost) costs.old }
+    ensures raises { standing.new ≡ standing_entered n pair.left pair.right standing.old }
 {
-    let Record::Pair(pair) = stated else {
-        return Ok(());
-    };
-    sheet.enter(
-        costs,
-        standing,
-        pair.left as u16,
-        pair.right as u16,
-        Plain(pair.cost),
-    )
+    let at = place(n, u16::from(pair.left), u16::from(pair.right));
+    costs[at] = Plain(pair.cost);
+    standing[at] = 1;
 }

@@ -11,17 +11,11 @@ ghost use Rattle.sheet.specs.Size.{size_of};
 ghost use Rattle.orderfile.specs.Format.{pair_field, eight_bytes, file_of};
 ghost use Rattle.orderfile.specs.Saving.{saved_length, pair_at, pairs_listed, Saved};
 
+use crate::field::{END_FIELD, PAIR_FIELD, SIZE_FIELD};
 use crate::record::StatedPair;
 use cost::Plain;
 use sheet::{Cause, Fault, OpenSheet};
 use tables::{have_places, in_order, place, standing_pairs, stands};
-
-// The lengths of the three kinds of field.
-const SIZE_FIELD: usize = 4;
-
-const PAIR_FIELD: usize = 13;
-
-const END_FIELD: usize = 3;
 
 /// Writes the sheet as an order file to the front of `out` and answers the file's length, which is
 /// 7 and 13 for each standing pair; the bytes behind it stay.
