@@ -50,12 +50,8 @@ fn enter_all(n: u16, file: &[u8], costs: &mut [Plain], standing: &mut [u8])
 {
     let mut rest = &file[SIZE_FIELD..];
     while rest.len() > END_FIELD {
-        enter(
-            n,
-            costs,
-            standing,
-            stated_pair(&rest[FIELD_HEAD..PAIR_FIELD]),
-        );
+        let pair = stated_pair(&rest[FIELD_HEAD..PAIR_FIELD]);
+        enter(n, costs, standing, pair);
         rest = &rest[PAIR_FIELD..];
     }
 }

@@ -21,7 +21,7 @@ enter-requires c =
     let sound = (entering_field c.args.file.now c.args.n c.args.costs.now c.args.standing.now
     c.loop-rest.rest.now c.loop-rest.costs c.loop-rest.standing c.loop-rest.invariant
     c.requires.stated c.loop-rest-test.true).1 in
-    let is = c.stated_pair.ensures in
+    let is = c.stated_pair-pair.ensures in
     record {
       places = record {
         costs = c.loop-rest.auto.costs ∙ c.requires.places.costs;
@@ -42,8 +42,8 @@ pub loop-rest-preserved : goal.loop-rest-preserved
 loop-rest-preserved c =
     entering_more c.args.file.now c.args.n c.args.costs.now c.args.standing.now
     c.loop-rest.rest.now c.loop-rest.costs c.loop-rest.standing c.loop-rest.invariant
-    c.stated_pair.result _ c.enter.new.costs c.enter.new.standing c.loop-rest-test.true
-    c.stated_pair.ensures (take_rest c.loop-rest.rest.now 13) c.enter.ensures.stores
+    c.stated_pair-pair.result _ c.enter.new.costs c.enter.new.standing c.loop-rest-test.true
+    c.stated_pair-pair.ensures (take_rest c.loop-rest.rest.now 13) c.enter.ensures.stores
     c.enter.ensures.raises
 
 pub returns : goal.returns

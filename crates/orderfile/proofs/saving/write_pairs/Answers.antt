@@ -1,5 +1,5 @@
 -- A row goes behind the rows before it, and there is room for it since it is a part of the whole.
-use Rattle.std.proofs.Common.{◌≡◌, ◌+◌, ◌≤◌, ◌++◌, length, take, drop, ap, ◌∙◌, sym, arith}
+use Rattle.std.proofs.Common.{◌≡◌, ◌+◌, ◌≤◌, length, ap, arith}
 use Rattle.pairing.specs.Places.{place_of, places_of}
 use Rattle.orderfile.proofs.Buffer.{left_all, writing_at, writing_start, writing_room_more}
 use Rattle.orderfile.proofs.Buffer.{writing_more, writing_end, row_inside}

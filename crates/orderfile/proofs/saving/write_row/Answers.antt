@@ -1,14 +1,10 @@
 -- Each standing pair's field goes behind what was written, and there is room for it since it is a
 -- part of the row.
 use Rattle.std.proofs.Common.{◌≡◌, ◌+◌, ◌<◌, Bool, true, false, ◌++◌, length, get_or, take, drop}
-use Rattle.std.proofs.Common.{pos, ap, sym, ◌∙◌, arith}
+use Rattle.std.proofs.Common.{ap, sym, ◌∙◌, arith}
 use Rattle.pairing.specs.Places.{place_of}
 use Rattle.tables.specs.PairTables.{says_stands}
-use Rattle.tables.proofs.Cells.{place_left, place_right}
-use Rattle.orderfile.specs.declared.record.StatedPair.{StatedPair}
 use Rattle.orderfile.specs.Format.{pair_field}
-use Rattle.orderfile.specs.Loading.{plain}
-use Rattle.orderfile.specs.Saving.{pair_at}
 use Rattle.orderfile.proofs.Buffer.{left_all, writing_at, writing_start, writing_room}
 use Rattle.orderfile.proofs.Buffer.{writing_yes, writing_no, writing_end}
 use Rattle.orderfile.proofs.saving.write_row.Goals as goal
