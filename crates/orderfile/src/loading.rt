@@ -1,16 +1,16 @@
 //! Loading: an order file is read whole, and then entered into the caller's tables.
 
-ghost use Rattle.std.specs.Prelude.{◌≡◌, ◌<◌, length};
-ghost use Rattle.tables.specs.PairTables.{HavePlaces, costs_entered, standing_entered};
+ghost use Rattle.std.specs.Prelude.{◌≡◌, length};
+ghost use Rattle.tables.specs.PairTables.{HavePlaces};
+ghost use Rattle.sheet.specs.Size.{size_of};
 ghost use Rattle.orderfile.specs.Format.{Order, States};
-ghost use Rattle.orderfile.specs.Loading.{Checked, plain, costs_after, standing_after, Loaded};
+ghost use Rattle.orderfile.specs.Loading.{Checked, costs_after, standing_after, Loaded};
 
 use crate::field::{END_FIELD, FIELD_HEAD, PAIR_FIELD, SIZE_FIELD};
-use crate::record::{Record, StatedPair};
+use crate::record::Record;
 use crate::record_reader::{RecordReader, stated_pair};
 use cost::Plain;
 use sheet::{Fault, OpenSheet, open};
-use tables::place;
 
 /// The size that a file states, once all of the file has been read; or its first fault.
 pub fn check(file: &[u8]) -> Result<u16, Fault>
@@ -35,15 +35,15 @@ pub fn load(file: &[u8], costs: &mut [Plain], standing: &mut [u8]) -> Result<Ope
 {
     let n = check(file)?;
     let sheet = open(n, costs, standing)?;
-    enter_all(n, file, costs, standing);
+    enter_all(&sheet, file, costs, standing);
     Ok(sheet)
 }
 
-// Enters the pairs of a file into tables of the size that it states. The file is known to have no
+// Enters the pairs of a file into a sheet of the size that it states. The file is known to have no
 // fault, so its fields need no reader and are not checked again.
-fn enter_all(n: u16, file: &[u8], costs: &mut [Plain], standing: &mut [u8])
-    requires stated { (order : Order) × States file.now order × (order.size ≡ n) }
-    requires places { HavePlaces n (length costs.old) (length standing.old) }
+fn enter_all(sheet: &OpenSheet, file: &[u8], costs: &mut [Plain], standing: &mut [u8])
+    requires stated { (order : Order) × States file.now order × (order.size ≡ size_of sheet.now) }
+    requires places { HavePlaces (size_of sheet.now) (length costs.old) (length standing.old) }
     ensures { (order : Order) → States file.now order
         → (costs.new ≡ costs_after order.size order.pairs costs.old)
         × (standing.new ≡ standing_after order.size order.pairs standing.old) }
@@ -51,20 +51,8 @@ fn enter_all(n: u16, file: &[u8], costs: &mut [Plain], standing: &mut [u8])
     let mut rest = &file[SIZE_FIELD..];
     while rest.len() > END_FIELD {
         let pair = stated_pair(&rest[FIELD_HEAD..PAIR_FIELD]);
-        enter(n, costs, standing, pair);
+        let (left, right) = (pair.left as u16, pair.right as u16);
+        sheet.enter_known(costs, standing, left, right, Plain(pair.cost));
         rest = &rest[PAIR_FIELD..];
     }
-}
-
-// Enters a pair whose blocks are in the tables.
-fn enter(n: u16, costs: &mut [Plain], standing: &mut [u8], pair: StatedPair)
-    requires places { HavePlaces n (length costs.old) (length standing.old) }
-    requires left_inside { pair.left < n }
-    requires right_inside { pair.right < n }
-    ensures stores { costs.new ≡ costs_entered n pair.left pair.right (plain pair.cost) costs.old }
-    ensures raises { standing.new ≡ standing_entered n pair.left pair.right standing.old }
-{
-    let at = place(n, u16::from(pair.left), u16::from(pair.right));
-    costs[at] = Plain(pair.cost);
-    standing[at] = 1;
 }

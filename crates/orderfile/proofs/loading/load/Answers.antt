@@ -33,9 +33,9 @@ enter_all-requires c =
     let o = checked_ok c.args.file.now c.in_ok-n.n c.in_ok-n.ensures in
     let h = c.in_ok-sheet.ensures.call in
     record {
-      stated = o;
-      places = subst (λ (k : ℕ). HavePlaces k (length c.open.new.costs)
-          (length c.open.new.standing)) (opened_size _ _ _ _ _ _ h) (opened_have _ _ _ _ _ _ h);
+      stated = (o.0, o.1, o.2 ∙ sym (opened_size _ _ _ _ _ _ h));
+      places =
+          opened_have _ _ _ _ _ _ h;
     }
 
 pub returns : goal.returns
