@@ -1,31 +1,17 @@
 -- Entering the pairs of a file that has no fault: what is left to read, and what the tables hold.
--- Idea: what is left of the file is always the bytes of the pairs that are still to come, and the
--- tables are those after the pairs that came. A sound field has no fault and states what was
--- written, so each step takes one pair over from the first list to the second.
-use Rattle.std.proofs.Common.{◌≡◌, ℕ, ◌≤◌, true, ◌&&◌, leb, List, [], ◌∷◌, ◌++◌, drop, set, ℤ}
-use Rattle.std.proofs.Common.{nat_abs, Some, None, sym, refl, ap, ◌∙◌, subst, append_assoc, arith}
-use Rattle.std.proofs.lemmas.Bool.Decides.{nat_tests}
+-- Idea: what is left of the file is always the bytes of the pairs that are still to come and of the
+-- end, and the tables are those after the pairs that came. A pair's field states the pair that it
+-- was written for, so each step takes one pair over from the first list to the second.
+use Rattle.std.proofs.Common.{◌≡◌, ℕ, ◌+◌, ◌<◌, ◌≤◌, List, [], ◌∷◌, ◌++◌, length, take, drop, set}
+use Rattle.std.proofs.Common.{sym, refl, ap, ◌∙◌, subst, append_assoc, arith}
+use Rattle.std.proofs.lemmas.List.{append-nil, length-append}
 use Rattle.std.specs.List.{flat_map, AllByRecursion}
-use Rattle.cost.specs.Columns.{rail_of, within}
 use Rattle.cost.specs.declared.plain_kind.Plain.{Plain}
-use Rattle.cost.proofs.Exact.{rail_of_same}
 use Rattle.pairing.specs.Places.{place_of}
 use Rattle.orderfile.specs.declared.record.StatedPair.{StatedPair}
-use Rattle.orderfile.specs.declared.record.Record.{Record}
-use Rattle.orderfile.specs.declared.record.Record.TheVariants.{Size, Pair, End}
-use Rattle.orderfile.specs.declared.record.Stage.{Stage}
-use Rattle.orderfile.specs.declared.record.Stage.TheVariants.{Start, Sized, Ended}
-use Rattle.orderfile.specs.Format.{Order, States, Sound, SoundPair, pair_field, end_field, file_of}
-use Rattle.orderfile.specs.Faults.{field_fault}
-use Rattle.orderfile.specs.Records.{pairs_stated, record_next, stage_next, record_length}
+use Rattle.orderfile.specs.Format.{Order, States, Sound, SoundPair, pair_field, end_field, pair_in}
 use Rattle.orderfile.specs.Loading.{plain, costs_after, standing_after}
-use Rattle.orderfile.proofs.Fields.{size_sound, pair_sound, pair_stated, end_sound}
-
--- a plain cost within 10^9 passes the test of its kind
-pub plain_fits : (z : ℤ) → nat_abs z ≤ 1000000000 → within 1000000000 (rail_of z ∷ []) ≡ true
-plain_fits z h =
-    let e : rail_of z ≡ z = rail_of_same z (omega arith) in
-    ap (λ x. leb (nat_abs x) 1000000000 && true) e ∙ grind (arith, nat_tests)
+use Rattle.orderfile.proofs.Fields.{pair_stated}
 
 -- entering some pairs and then others
 pub costs_append : (n : ℕ) (ps qs : List StatedPair) (costs : List Plain)
@@ -40,149 +26,157 @@ standing_append n [] qs standing = refl
 standing_append n (p ∷ ps) qs standing =
     standing_append n ps qs (set standing (place_of n p.left p.right) 1)
 
--- what is left of the file of a sheet of n blocks, where these pairs are still to come
-abbrev pub Left : Stage → List ℕ → ℕ → List StatedPair → Type 0
-Left Start rest n todo = rest ≡ file_of (record { size = n; pairs = todo })
-Left (Sized m) rest n todo = (m ≡ n) × (rest ≡ flat_map pair_field todo ++ end_field)
-Left (Ended m) rest n todo = (rest ≡ []) × (todo ≡ [])
-
-module _ (n : ℕ) (some : 1 ≤ n) (few : n ≤ 64) where
-  pub left_sound : (stage : Stage) (rest : List ℕ) (at : ℕ) (todo : List StatedPair)
-      → AllByRecursion (SoundPair n) todo → Left stage rest n todo
-      → field_fault stage rest at ≡ None
-  left_sound Start rest at todo s h = ap (λ t. field_fault Start t at) h
-      ∙ size_sound n (flat_map pair_field todo ++ end_field) at some few
-  left_sound (Sized m) rest at [] s h = ap (λ t. field_fault (Sized m) t at) h.1 ∙ end_sound m [] at
-  left_sound (Sized m) rest at (p ∷ todo) s h =
-      ap (λ t. field_fault (Sized m) t at) h.1
-      ∙ ap (λ k. field_fault (Sized k) (pair_field p ++ (flat_map pair_field todo ++ end_field))
-      at) h.0 ∙ pair_sound n p (flat_map pair_field todo ++ end_field) at s.0
-  left_sound (Ended m) rest at todo s h = ap (λ t. field_fault (Ended m) t at) h.0
-
-  -- the next record takes its pairs off those to come
-  abbrev pub Taken : Stage → List ℕ → List StatedPair → Record → Type 0
-  Taken stage rest todo next = (later : List StatedPair) × (todo ≡ pairs_stated next ++ later)
-      × Left (stage_next stage rest) (drop (record_length stage rest) rest) n later
-
-  taken_size : (todo : List StatedPair) (next : Record)
-      → record_next Start (file_of (record { size = n; pairs = todo })) ≡ Some next
-      → Taken Start (file_of (record { size = n; pairs = todo })) todo next
-  taken_size todo next e = let is : Size n ≡ next = cc in
-      (todo, ap (λ t. pairs_stated t ++ todo) is, (refl, refl))
-
-  taken_end : (m : ℕ) (next : Record) → m ≡ n → record_next (Sized m) end_field ≡ Some next
-      → Taken (Sized m) end_field [] next
-  taken_end m next same e = let is : End ≡ next = cc in
-      ([], ap (λ t. pairs_stated t ++ []) is, (refl, refl))
-
-  taken_pair : (m : ℕ) (p : StatedPair) (todo : List StatedPair) (next : Record) → m ≡ n
-      → SoundPair n p → record_next (Sized m)
-      (pair_field p ++ (flat_map pair_field todo ++ end_field)) ≡ Some next
-      → Taken (Sized m) (pair_field p ++ (flat_map pair_field todo ++ end_field)) (p ∷ todo) next
-  taken_pair m p todo next same s e =
-      let tail : List ℕ = flat_map pair_field todo ++ end_field in
-      let is : Pair p ≡ next = let stated = pair_stated p tail s.cost_within in cc in
-      (todo, ap (λ t. pairs_stated t ++ todo) is, (same, refl))
-
-  pub left_more : (stage : Stage) (rest : List ℕ) (todo : List StatedPair) (next : Record)
-      → AllByRecursion (SoundPair n) todo → Left stage rest n todo
-      → record_next stage rest ≡ Some next → Taken stage rest todo next
-  left_more Start rest todo next s h e =
-      subst (λ (t : List ℕ). Taken Start t todo next) (sym h)
-      (taken_size todo next (ap (record_next Start) (sym h) ∙ e))
-  left_more (Sized m) rest [] next s h e = subst (λ (t : List ℕ). Taken (Sized m) t [] next)
-      (sym h.1) (taken_end m next h.0 (ap (record_next (Sized m)) (sym h.1) ∙ e))
-  left_more (Sized m) rest (p ∷ todo) next s h e =
-      subst (λ (t : List ℕ). Taken (Sized m) t (p ∷ todo) next) (sym h.1)
-      (taken_pair m p todo next h.0 s.0 (ap (record_next (Sized m)) (sym h.1) ∙ e))
-  left_more (Ended m) rest todo next s h e = let z : ◌≡◌ {A = ℕ} 0 1 = cc in absurd (omega arith)
-
 -- the invariant: of an order that the file states, some pairs were entered and the others are still
 -- to come
-pub record Split (order : Order) (costs₀ : List Plain) (standing₀ : List ℕ) (stage : Stage)
-    (rest : List ℕ) (costs : List Plain) (standing : List ℕ) : Type 0 where
+pub record Split (order : Order) (costs₀ : List Plain) (standing₀ : List ℕ) (rest : List ℕ)
+    (costs : List Plain) (standing : List ℕ) : Type 0 where
   pub done : List StatedPair
   pub todo : List StatedPair
   pub all : order.pairs ≡ done ++ todo
-  pub left : Left stage rest order.size todo
+  pub left : rest ≡ flat_map pair_field todo ++ end_field
   pub costs_are : costs ≡ costs_after order.size done costs₀
   pub standing_are : standing ≡ standing_after order.size done standing₀
 
-abbrev pub Entering : List ℕ → ℕ → List Plain → List ℕ → Stage → List ℕ → List Plain → List ℕ
-    → Type 0
-Entering file n costs₀ standing₀ stage rest costs standing = (order : Order) → States file order
-    → order.size ≡ n → Split order costs₀ standing₀ stage rest costs standing
+abbrev pub Entering : List ℕ → ℕ → List Plain → List ℕ → List ℕ → List Plain → List ℕ → Type 0
+Entering file n costs₀ standing₀ rest costs standing = (order : Order) → States file order
+    → order.size ≡ n → Split order costs₀ standing₀ rest costs standing
+
+-- behind the size all pairs are still to come
+pub entering_start : (file : List ℕ) (n : ℕ) (costs₀ : List Plain) (standing₀ rest : List ℕ)
+    → rest ≡ drop 4 file → Entering file n costs₀ standing₀ rest costs₀ standing₀
+entering_start file n costs₀ standing₀ rest e order s size = record {
+  done = [];
+  todo = order.pairs;
+  all = refl;
+  left = e ∙ ap (drop 4) s.is_file;
+  costs_are = refl;
+  standing_are = refl;
+}
 
 all_later : {X : Type 0} (P : X → Type 0) (xs ys : List X) → AllByRecursion P (xs ++ ys)
     → AllByRecursion P ys
 all_later P [] ys h = h
 all_later P (x ∷ xs) ys h = all_later P xs ys h.1
 
-module _ (order : Order) (sound : Sound order) (costs₀ : List Plain) (standing₀ : List ℕ)
-    (stage : Stage) (rest : List ℕ) (costs : List Plain) (standing : List ℕ)
-    (split : Split order costs₀ standing₀ stage rest costs standing) where
-  todo_sound : AllByRecursion (SoundPair order.size) split.todo
-  todo_sound = all_later (SoundPair order.size) split.done split.todo
+-- the pair that comes next
+pub record NextPair (n : ℕ) (rest : List ℕ) (todo : List StatedPair) : Type 0 where
+  pub pair : StatedPair
+  pub later : List StatedPair
+  pub first : todo ≡ pair ∷ later
+  pub splits : rest ≡ pair_field pair ++ (flat_map pair_field later ++ end_field)
+  pub sound : SoundPair n pair
+
+next_pair : (n : ℕ) (rest : List ℕ) (todo : List StatedPair) → AllByRecursion (SoundPair n) todo
+    → rest ≡ flat_map pair_field todo ++ end_field → 3 < length rest → NextPair n rest todo
+next_pair n rest [] sound e long = let short : length rest ≡ 3 = ap length e in absurd (omega arith)
+next_pair n rest (p ∷ todo) sound e long = record {
+  pair = p;
+  later = todo;
+  first = refl;
+  splits = e ∙ append_assoc (pair_field p) (flat_map pair_field todo) end_field;
+  sound = sound.0;
+}
+
+-- nothing is to come where only the end is left
+no_pair : (rest : List ℕ) (todo : List StatedPair) → rest ≡ flat_map pair_field todo ++ end_field
+    → length rest ≤ 3 → todo ≡ []
+no_pair rest [] e short = refl
+no_pair rest (p ∷ todo) e short =
+    let long : length rest ≡ 13 + length (flat_map pair_field todo ++ end_field) =
+    ap length (e ∙ append_assoc (pair_field p) (flat_map pair_field todo) end_field)
+    ∙ length-append (pair_field p) (flat_map pair_field todo ++ end_field) in
+    absurd (omega arith)
+
+module _ (order : Order) (sound : Sound order) (costs₀ : List Plain) (standing₀ rest : List ℕ)
+    (costs : List Plain) (standing : List ℕ)
+    (split : Split order costs₀ standing₀ rest costs standing) where
+  split_next : 3 < length rest → NextPair order.size rest split.todo
+  split_next long = next_pair order.size rest split.todo
+      (all_later (SoundPair order.size) split.done split.todo
       (subst (λ (ps : List StatedPair). AllByRecursion (SoundPair order.size) ps) split.all
-      sound.pairs_sound)
+      sound.pairs_sound)) split.left long
 
-  pub split_sound : (at : ℕ) → field_fault stage rest at ≡ None
-  split_sound at = left_sound order.size sound.some sound.few stage rest at split.todo todo_sound
-      split.left
+  -- its field is the pair's
+  next_stated : (next : NextPair order.size rest split.todo)
+      → pair_in (take 10 (drop 3 rest)) ≡ next.pair
+  next_stated next = ap (λ t. pair_in (take 10 (drop 3 t))) next.splits
+      ∙ pair_stated next.pair (flat_map pair_field next.later ++ end_field) next.sound.cost_within
 
-  taken : (next : Record) → record_next stage rest ≡ Some next
-      → Taken order.size sound.some sound.few stage rest split.todo next
-  taken next e = left_more order.size sound.some sound.few stage rest split.todo next todo_sound
-      split.left e
+  next_long : NextPair order.size rest split.todo → 13 ≤ length rest
+  next_long next =
+      let long : length rest ≡ 13 + length (flat_map pair_field next.later ++ end_field) =
+      ap length next.splits
+      ∙ length-append (pair_field next.pair) (flat_map pair_field next.later ++ end_field) in
+      omega arith
 
-  -- the pairs of the next record are entered
-  pub split_more : (next : Record) → record_next stage rest ≡ Some next
-      → Split order costs₀ standing₀ (stage_next stage rest) (drop (record_length stage rest) rest)
-      (costs_after order.size (pairs_stated next) costs)
-      (standing_after order.size (pairs_stated next) standing)
-  split_more next e =
-      let t = taken next e in
+  split_more : (next : NextPair order.size rest split.todo)
+      → Split order costs₀ standing₀ (drop 13 rest)
+      (costs_after order.size (next.pair ∷ []) costs)
+      (standing_after order.size (next.pair ∷ []) standing)
+  split_more next = record {
+    done = split.done ++ next.pair ∷ [];
+    todo = next.later;
+    all = split.all ∙ ap (λ ps. split.done ++ ps) next.first
+        ∙ sym (append_assoc split.done (next.pair ∷ []) next.later);
+    left = ap (drop 13) next.splits;
+    costs_are = ap (costs_after order.size (next.pair ∷ [])) split.costs_are
+        ∙ sym (costs_append order.size split.done (next.pair ∷ []) costs₀);
+    standing_are = ap (standing_after order.size (next.pair ∷ [])) split.standing_are
+        ∙ sym (standing_append order.size split.done (next.pair ∷ []) standing₀);
+  }
+
+  split_end : length rest ≤ 3 → order.pairs ≡ split.done
+  split_end short = split.all
+      ∙ ap (λ ps. split.done ++ ps) (no_pair rest split.todo split.left short)
+      ∙ append-nil split.done
+
+-- one turn of the loop: the pair that the next field states was entered
+module _ (file : List ℕ) (n : ℕ) (costs₀ : List Plain) (standing₀ rest : List ℕ)
+    (costs : List Plain) (standing : List ℕ)
+    (entering : Entering file n costs₀ standing₀ rest costs standing) where
+  -- more than the end is left: it begins with the whole field of a sound pair
+  pub entering_field : (order : Order) × States file order × (order.size ≡ n) → 3 < length rest
+      → (13 ≤ length rest) × SoundPair n (pair_in (take 10 (drop 3 rest)))
+  entering_field stated long =
+      let order = stated.0 in
+      let sound = stated.1.sound in
+      let split = entering order stated.1 stated.2 in
+      let next = split_next order sound costs₀ standing₀ rest costs standing split long in (
+        next_long order sound costs₀ standing₀ rest costs standing split next,
+        subst (λ (p : StatedPair). SoundPair n p)
+            (sym (next_stated order sound costs₀ standing₀ rest costs standing split next))
+            (subst (λ (k : ℕ). SoundPair k next.pair) stated.2 next.sound),
+      )
+
+  pub entering_more : (pair : StatedPair) (rest' : List ℕ) (costs' : List Plain)
+      (standing' : List ℕ) → 3 < length rest → pair ≡ pair_in (take 10 (drop 3 rest))
+      → rest' ≡ drop 13 rest → costs' ≡ costs_after n (pair ∷ []) costs
+      → standing' ≡ standing_after n (pair ∷ []) standing
+      → Entering file n costs₀ standing₀ rest' costs' standing'
+  entering_more pair rest' costs' standing' long states er ec eb order s size =
+      let split = entering order s size in
+      let next = split_next order s.sound costs₀ standing₀ rest costs standing split long in
+      let is : next.pair ≡ pair =
+      sym (next_stated order s.sound costs₀ standing₀ rest costs standing split next)
+      ∙ sym states in
+      let more = split_more order s.sound costs₀ standing₀ rest costs standing split next in
       record {
-        done = split.done ++ pairs_stated next;
-        todo = t.0;
-        all = split.all ∙ ap (λ ps. split.done ++ ps) t.1
-            ∙ sym (append_assoc split.done (pairs_stated next) t.0);
-        left = t.2;
-        costs_are = ap (costs_after order.size (pairs_stated next)) split.costs_are
-            ∙ sym (costs_append order.size split.done (pairs_stated next) costs₀);
-        standing_are = ap (standing_after order.size (pairs_stated next)) split.standing_are
-            ∙ sym (standing_append order.size split.done (pairs_stated next) standing₀);
+        done = more.done;
+        todo = more.todo;
+        all = more.all;
+        left = er ∙ more.left;
+        costs_are = ec ∙ ap (λ k. costs_after k (pair ∷ []) costs) (sym size)
+            ∙ ap (λ p. costs_after order.size (p ∷ []) costs) (sym is) ∙ more.costs_are;
+        standing_are = eb ∙ ap (λ k. standing_after k (pair ∷ []) standing) (sym size)
+            ∙ ap (λ p. standing_after order.size (p ∷ []) standing) (sym is) ∙ more.standing_are;
       }
 
--- one turn of the loop: the reader moved on by the next record, and its pairs were entered
-pub entering_more : (file : List ℕ) (n : ℕ) (costs₀ : List Plain) (standing₀ : List ℕ)
-    (stage : Stage) (rest : List ℕ) (costs : List Plain) (standing : List ℕ)
-    (stage' : Stage) (rest' : List ℕ) (costs' : List Plain) (standing' : List ℕ) (next : Record)
-    → Entering file n costs₀ standing₀ stage rest costs standing
-    → record_next stage rest ≡ Some next
-    → stage' ≡ stage_next stage rest → rest' ≡ drop (record_length stage rest) rest
-    → costs' ≡ costs_after n (pairs_stated next) costs → standing' ≡ standing_after n
-    (pairs_stated next) standing
-    → Entering file n costs₀ standing₀ stage' rest' costs' standing'
-entering_more file n costs₀ standing₀ stage rest costs standing stage' rest' costs' standing' next
-    entering e es er ec eb order s size =
-    let a = split_more order s.sound costs₀ standing₀ stage rest costs standing
-    (entering order s size) next e in
-    let m = order.size in
-    let b : Split order costs₀ standing₀ stage' (drop (record_length stage rest) rest)
-    (costs_after m (pairs_stated next) costs) (standing_after m (pairs_stated next) standing) =
-    subst (λ (t : Stage). Split order costs₀ standing₀ t (drop (record_length stage rest) rest)
-    (costs_after m (pairs_stated next) costs) (standing_after m (pairs_stated next) standing))
-    (sym es) a in
-    let c : Split order costs₀ standing₀ stage' rest' (costs_after m (pairs_stated next) costs)
-    (standing_after m (pairs_stated next) standing) =
-    subst (λ (t : List ℕ). Split order costs₀ standing₀ stage' t
-    (costs_after m (pairs_stated next) costs) (standing_after m (pairs_stated next) standing))
-    (sym er) b in
-    let d : Split order costs₀ standing₀ stage' rest' costs'
-    (standing_after m (pairs_stated next) standing) =
-    subst (λ (t : List Plain). Split order costs₀ standing₀ stage' rest' t
-    (standing_after m (pairs_stated next) standing))
-    (ap (λ k. costs_after k (pairs_stated next) costs) size ∙ sym ec) c in
-    subst (λ (t : List ℕ). Split order costs₀ standing₀ stage' rest' costs' t)
-    (ap (λ k. standing_after k (pairs_stated next) standing) size ∙ sym eb) d
+  pub entering_end : length rest ≤ 3 → (order : Order) → States file order → order.size ≡ n
+      → (costs ≡ costs_after order.size order.pairs costs₀)
+      × (standing ≡ standing_after order.size order.pairs standing₀)
+  entering_end short order s size =
+      let split = entering order s size in
+      let all = split_end order s.sound costs₀ standing₀ rest costs standing split short in (
+        split.costs_are ∙ ap (λ ps. costs_after order.size ps costs₀) (sym all),
+        split.standing_are ∙ ap (λ ps. standing_after order.size ps standing₀) (sym all),
+      )

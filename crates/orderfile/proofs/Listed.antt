@@ -2,8 +2,9 @@
 -- Idea: they are taken from the places one after another, and a place tells its pair. So a pair of
 -- blocks is named at its own place and at no other, and there exactly if it stands.
 use Rattle.std.proofs.Common.{◌≡◌, ℕ, zero, suc, ◌+◌, ◌/◌, ◌%◌, ◌<◌, ◌≤◌, true, false, cond}
-use Rattle.std.proofs.Common.{◌&&◌, eqb, leb, List, [], ◌∷◌, length, get_or, drop, ℤ, pos, negsuc}
-use Rattle.std.proofs.Common.{nat_abs, Some, None, sym, refl, ap, ◌∙◌, subst, ⊎_elim, zero-add}
+use Rattle.std.proofs.Common.{◌&&◌, eqb, leb, List, [], ◌∷◌, ◌++◌, length, get_or, drop, ℤ, pos}
+use Rattle.std.proofs.Common.{negsuc, nat_abs, Some, None, sym, refl, ap, ◌∙◌, subst, ⊎_elim}
+use Rattle.std.proofs.Common.{zero-add, add-zero}
 use Rattle.std.proofs.Common.{count_by, arith}
 use Rattle.std.proofs.lemmas.Nat.{div-add-mod', div_below, mod_below, mul-add-lt}
 use Rattle.std.proofs.lemmas.Bool.{cases_Bool, cases_eq, cond-true, cond-false, and_parts, eqb-true}
@@ -57,6 +58,29 @@ module _ (n : ℕ) (some : 1 ≤ n) (costs : List Plain) (standing : List ℕ) w
       → pairs_listed n costs standing k
       (suc m) ≡ pairs_listed n costs standing (k + 1) m
   pairs_listed_no k m e = cond-false _ _ _ e
+
+  -- the pairs of some places and then of those behind them
+  pub listed_append : (k m j : ℕ) → pairs_listed n costs standing k (m + j)
+      ≡ pairs_listed n costs standing k m ++ pairs_listed n costs standing (k + m) j
+  listed_append k zero j =
+      let none : 0 + j ≡ j = omega arith in
+      ap (pairs_listed n costs standing k) none
+      ∙ ap (λ i. pairs_listed n costs standing i j) (sym (add-zero k))
+  listed_append k (suc m) j =
+      let rest = listed_append (k + 1) m j in
+      let there : (k + 1) + m ≡ k + suc m = omega arith in
+      let all : suc m + j ≡ suc (m + j) = omega arith in
+      ap (pairs_listed n costs standing k) all
+      ∙ ⊎_elim
+      (λ yes'. pairs_listed_yes k (m + j) yes' ∙ ap (λ t. pair_at n costs k ∷ t) rest
+      ∙ ap (λ i. pair_at n costs k ∷ (pairs_listed n costs standing (k + 1) m
+      ++ pairs_listed n costs standing i j)) there
+      ∙ ap (λ t. t ++ pairs_listed n costs standing (k + suc m) j)
+      (sym (pairs_listed_yes k m yes')))
+      (λ no'. pairs_listed_no k (m + j) no' ∙ rest
+      ∙ ap (λ i. pairs_listed n costs standing (k + 1) m ++ pairs_listed n costs standing i j) there
+      ∙ ap (λ t. t ++ pairs_listed n costs standing (k + suc m) j) (sym (pairs_listed_no k m no')))
+      (cases_Bool (says_stands (get_or standing k 0)))
 
   -- places behind the pair's do not name it
   named_not : (l r : ℕ) → r < n → (k m : ℕ) → place_of n l r < k

@@ -2,7 +2,7 @@
 -- Idea: what was read is a sound front, what is left follows it, and the place is the front's
 -- length. A record without a fault makes the front grow; a fault is then the file's first one; and
 -- where no record is left, the front is the whole file.
-use Rattle.std.proofs.Common.{◌≡◌, ℕ, ◌+◌, ◌<◌, ◌≤◌, eqb, List, [], ◌++◌, length, get_or, drop}
+use Rattle.std.proofs.Common.{◌≡◌, ℕ, ◌+◌, ◌≤◌, eqb, List, [], ◌++◌, length, get_or, drop}
 use Rattle.std.proofs.Common.{Some, None, Ok, Option, sym, refl, ap, ◌∙◌, subst, ⊎_elim, append-nil}
 use Rattle.std.proofs.Common.{arith}
 use Rattle.std.proofs.lemmas.List.{get_or-append-add, length-append, length-drop, nil_from_length}
@@ -106,16 +106,6 @@ reading_done file (Ended n) rest at size h known e none =
       known,
     )
 
--- a record leaves less behind it
-pub reading_falls : (stage : Stage) (rest : List ℕ) (at : ℕ) (next : Record)
-    → field_fault stage rest at ≡ None → record_next stage rest ≡ Some next
-    → length (drop (record_length stage rest) rest) < length rest
-reading_falls Start rest at next e some =
-    omega (arith, length-drop (record_length Start rest) rest, passed-fits Start rest at e)
-reading_falls (Sized n) rest at next e some =
-    omega (arith, length-drop (record_length (Sized n) rest) rest, passed-fits (Sized n) rest at e)
-reading_falls (Ended n) rest at next e some = let z : ◌≡◌ {A = ℕ} 0 1 = cc in absurd (omega arith)
-
 -- the stage behind a record
 pub stage_is : (stage : Stage) (rest : List ℕ) (next : Record) → record_next stage rest ≡ Some next
     → stage_next stage rest ≡ stage_after stage next
@@ -160,11 +150,3 @@ module _ (stage : Stage) (rest : List ℕ) (at : ℕ) (stage' : Stage) (rest' : 
       let found = from_ok (field_fault stage rest at) (record_next stage rest) (Some next) answers
       in
       stages ∙ sym (renewed _ _ _ found.0) ∙ stage_is stage rest next (sym found.1)
-
-  pub next_falls : (next : Record) → Ok (Some next) ≡ answer (field_fault stage rest at)
-      (record_next stage rest) → length rest' < length rest
-  next_falls next answers =
-      let found = from_ok (field_fault stage rest at) (record_next stage rest) (Some next) answers
-      in
-      subst (λ (r : List ℕ). length r < length rest) (renewed _ _ _ found.0 ∙ sym passes)
-      (reading_falls stage rest at next found.0 (sym found.1))

@@ -1,5 +1,5 @@
 -- What a field without a fault states, and how far the file is read behind it.
-use Rattle.std.specs.Prelude.{◌≡◌, ℕ, ◌+◌, List, [], ◌∷◌, drop, Some, None, Option, Result}
+use Rattle.std.specs.Prelude.{◌≡◌, ℕ, ◌+◌, List, drop, Some, None, Option, Result}
 use Rattle.std.specs.Prelude.{◌==◌, if◌then◌else◌, slice_index}
 use Rattle.sheet.specs.Refusals.{answer, after}
 use Rattle.sheet.specs.declared.fault.Fault.{Fault}
@@ -7,7 +7,6 @@ use Rattle.orderfile.specs.declared.record.Record.{Record}
 use Rattle.orderfile.specs.declared.record.Record.TheVariants.{Size, Pair, End}
 use Rattle.orderfile.specs.declared.record.Stage.{Stage}
 use Rattle.orderfile.specs.declared.record.Stage.TheVariants.{Start, Sized, Ended}
-use Rattle.orderfile.specs.declared.record.StatedPair.{StatedPair}
 use Rattle.orderfile.specs.Faults.{field_fault}
 use Rattle.orderfile.specs.Format.{tag_of, value_of, extent, pair_in}
 
@@ -18,12 +17,6 @@ size_in value = slice_index value 0
 abbrev pub record_in : ℕ → List ℕ → Record
 record_in tag value = (if tag == 1 then Size (size_in value) else
     (if tag == 2 then Pair (pair_in value) else End))
-
--- the pairs that a record states
-abbrev pub pairs_stated : Record → List StatedPair
-pairs_stated (Size n) = []
-pairs_stated (Pair p) = p ∷ []
-pairs_stated End = []
 
 -- the record that comes next, where `rest` is left: none after the end
 abbrev pub record_next : Stage → List ℕ → Option Record

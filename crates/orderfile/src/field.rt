@@ -7,6 +7,16 @@ ghost use Rattle.orderfile.specs.Format.{overruns, extent};
 
 use sheet::{Cause, Fault};
 
+// The length of a field's tag and of the two bytes that tell its value's length.
+pub(crate) const FIELD_HEAD: usize = 3;
+
+// The lengths of the three kinds of field.
+pub(crate) const SIZE_FIELD: usize = 4;
+
+pub(crate) const PAIR_FIELD: usize = 13;
+
+pub(crate) const END_FIELD: usize = 3;
+
 /// A field as a part of the file: its tag, its value, and the offset of its tag.
 #[derive(Clone, Copy)]
 pub struct Field<'a> {

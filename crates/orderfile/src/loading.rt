@@ -1,15 +1,14 @@
 //! Loading: an order file is read whole, and then entered into the caller's tables.
 
-ghost use Rattle.std.specs.Prelude.{◌≡◌, length, Ok as Done};
-ghost use Rattle.std.specs.List.{AllByRecursion};
+ghost use Rattle.std.specs.Prelude.{◌≡◌, length};
 ghost use Rattle.tables.specs.PairTables.{HavePlaces};
 ghost use Rattle.sheet.specs.Size.{size_of};
-ghost use Rattle.orderfile.specs.Format.{Order, States, SoundPair};
-ghost use Rattle.orderfile.specs.Records.{pairs_stated};
+ghost use Rattle.orderfile.specs.Format.{Order, States};
 ghost use Rattle.orderfile.specs.Loading.{Checked, costs_after, standing_after, Loaded};
 
+use crate::field::{END_FIELD, FIELD_HEAD, PAIR_FIELD, SIZE_FIELD};
 use crate::record::Record;
-use crate::record_reader::RecordReader;
+use crate::record_reader::{RecordReader, stated_pair};
 use cost::Plain;
 use sheet::{Fault, OpenSheet, open};
 
@@ -36,53 +35,24 @@ pub fn load(file: &[u8], costs: &mut [Plain], standing: &mut [u8]) -> Result<Ope
 {
     let n = check(file)?;
     let sheet = open(n, costs, standing)?;
-    enter_all(&sheet, file, costs, standing)?;
+    enter_all(&sheet, file, costs, standing);
     Ok(sheet)
 }
 
-// Enters the pairs of a file that has no fault into a sheet of the size that it states.
-fn enter_all(
-    sheet: &OpenSheet,
-    file: &[u8],
-    costs: &mut [Plain],
-    standing: &mut [u8],
-) -> Result<(), Fault>
+// Enters the pairs of a file into a sheet of the size that it states. The file is known to have no
+// fault, so its fields need no reader and are not checked again.
+fn enter_all(sheet: &OpenSheet, file: &[u8], costs: &mut [Plain], standing: &mut [u8])
     requires stated { (order : Order) × States file.now order × (order.size ≡ size_of sheet.now) }
     requires places { HavePlaces (size_of sheet.now) (length costs.old) (length standing.old) }
-    ensures answers { result ≡ Done tt }
-    ensures enters { (order : Order) → States file.now order
+    ensures { (order : Order) → States file.now order
         → (costs.new ≡ costs_after order.size order.pairs costs.old)
         × (standing.new ≡ standing_after order.size order.pairs standing.old) }
 {
-    let mut records = RecordReader::new(file);
-    while let Some(record) = records.next()? {
-        enter(sheet, costs, standing, record)?;
+    let mut rest = &file[SIZE_FIELD..];
+    while rest.len() > END_FIELD {
+        let pair = stated_pair(&rest[FIELD_HEAD..PAIR_FIELD]);
+        let (left, right) = (pair.left as u16, pair.right as u16);
+        sheet.enter_known(costs, standing, left, right, Plain(pair.cost));
+        rest = &rest[PAIR_FIELD..];
     }
-    Ok(())
-}
-
-// Enters the pair that a record states, if it states one.
-fn enter(
-    sheet: &OpenSheet,
-    costs: &mut [Plain],
-    standing: &mut [u8],
-    stated: Record,
-) -> Result<(), Fault>
-    requires places { HavePlaces (size_of sheet.now) (length costs.old) (length standing.old) }
-    requires sound { AllByRecursion (SoundPair (size_of sheet.now)) (pairs_stated stated) }
-    ensures answers { result ≡ Done tt }
-    ensures stores { costs.new ≡ costs_after (size_of sheet.now) (pairs_stated stated) costs.old }
-    ensures raises { standing.new ≡ standing_after (size_of sheet.now) (pairs_stated stated)
-        standing.old }
-{
-    let Record::Pair(pair) = stated else {
-        return Ok(());
-    };
-    sheet.enter(
-        costs,
-        standing,
-        pair.left as u16,
-        pair.right as u16,
-        Plain(pair.cost),
-    )
 }

@@ -1,25 +1,21 @@
 //! Saving: a sheet of plain costs as an order file in the caller's buffer.
 
 ghost use Rattle.std.specs.Prelude.{◌≡◌, ◌+◌, ◌<◌, ◌≤◌, ◌++◌, length, take, drop};
+ghost use Rattle.std.specs.Int.{w64};
 ghost use Rattle.std.specs.List.{flat_map};
+ghost use Rattle.std.proofs.Common.{of_z};
 ghost use Rattle.blockset.specs.declared.TheConstants.{MOST_BLOCKS};
-ghost use Rattle.pairing.specs.Places.{places_of};
+ghost use Rattle.pairing.specs.Places.{place_of, places_of};
 ghost use Rattle.tables.specs.PairTables.{HavePlaces};
 ghost use Rattle.sheet.specs.Size.{size_of};
-ghost use Rattle.orderfile.specs.Format.{pair_field, file_of};
+ghost use Rattle.orderfile.specs.Format.{pair_field, eight_bytes, file_of};
 ghost use Rattle.orderfile.specs.Saving.{saved_length, pair_at, pairs_listed, Saved};
 
+use crate::field::{END_FIELD, PAIR_FIELD, SIZE_FIELD};
 use crate::record::StatedPair;
 use cost::Plain;
 use sheet::{Cause, Fault, OpenSheet};
-use tables::{have_places, in_order, standing_pairs, stands};
-
-// The lengths of the three kinds of field.
-const SIZE_FIELD: usize = 4;
-
-const PAIR_FIELD: usize = 13;
-
-const END_FIELD: usize = 3;
+use tables::{have_places, in_order, place, standing_pairs, stands};
 
 /// Writes the sheet as an order file to the front of `out` and answers the file's length, which is
 /// 7 and 13 for each standing pair; the bytes behind it stay.
@@ -78,36 +74,72 @@ fn write_pairs(n: u16, costs: &[Plain], standing: &[u8], out: &mut [u8]) -> usiz
         out.new ≡ (take 4 out.old ++ flat_map pair_field pairs) ++ drop result out.old }
 {
     let mut at = SIZE_FIELD;
-    for k in 0..standing.len() {
-        if stands(standing[k]) {
-            put(out, at, &pair_field(pair_at(n, costs, k)));
+    for left in 0..n {
+        at = write_row(n, left, costs, standing, out, at);
+    }
+    at
+}
+
+// Writes the standing pairs of a left block at an offset, by right block, and answers the offset
+// behind them.
+fn write_row(
+    n: u16,
+    left: u16,
+    costs: &[Plain],
+    standing: &[u8],
+    out: &mut [u8],
+    start: usize,
+) -> usize
+    requires few { n ≤ MOST_BLOCKS }
+    requires inside { left < n }
+    requires places { HavePlaces n (length costs.now) (length standing.now) }
+    requires room { let pairs = pairs_listed n costs.now standing.now (place_of n left 0) n in
+        start + length (flat_map pair_field pairs) ≤ length out.old }
+    ensures behind { let pairs = pairs_listed n costs.now standing.now (place_of n left 0) n in
+        result ≡ start + length (flat_map pair_field pairs) }
+    ensures writes { let pairs = pairs_listed n costs.now standing.now (place_of n left 0) n in
+        out.new ≡ (take start out.old ++ flat_map pair_field pairs) ++ drop result out.old }
+{
+    let mut at = start;
+    for right in 0..n {
+        if stands(standing[place(n, left, right)]) {
+            put_pair(out, at, pair_at(n, costs, left, right));
             at += PAIR_FIELD;
         }
     }
     at
 }
 
-// The pair at a place of the tables.
-fn pair_at(n: u16, costs: &[Plain], k: usize) -> StatedPair
-    requires some { 1 ≤ n }
+// The pair of two blocks, with its cost in the table.
+fn pair_at(n: u16, costs: &[Plain], left: u16, right: u16) -> StatedPair
     requires few { n ≤ MOST_BLOCKS }
     requires places { length costs.now ≡ places_of n }
-    requires inside { k < places_of n }
-    ensures { result ≡ pair_at n costs.now k }
+    requires left_inside { left < n }
+    requires right_inside { right < n }
+    ensures { result ≡ pair_at n costs.now (place_of n left right) }
 {
     StatedPair {
-        left: (k / n as usize) as u8,
-        right: (k % n as usize) as u8,
-        cost: costs[k].0,
+        left: left as u8,
+        right: right as u8,
+        cost: costs[place(n, left, right)].0,
     }
 }
 
-// The bytes of a pair field.
-fn pair_field(pair: StatedPair) -> [u8; 13]
-    ensures { result ≡ pair_field pair }
+// Writes the field of a pair at an offset, in parts that are a store each.
+fn put_pair(out: &mut [u8], at: usize, pair: StatedPair)
+    requires { at + 13 ≤ length out.old }
+    ensures { out.new ≡ take at out.old ++ (pair_field pair ++ drop (at + 13) out.old) }
 {
-    let [a, b, c, d, e, f, g, h] = pair.cost.cast_unsigned().to_be_bytes();
-    [2, 0, 10, pair.left, pair.right, a, b, c, d, e, f, g, h]
+    put(out, at, &[2, 0, 10, pair.left]);
+    put(out, at + 4, &[pair.right]);
+    put(out, at + 5, &cost_bytes(pair));
+}
+
+// The bytes of a pair's cost, the high byte first.
+fn cost_bytes(pair: StatedPair) -> [u8; 8]
+    ensures { result ≡ eight_bytes (of_z w64 pair.cost) }
+{
+    pair.cost.cast_unsigned().to_be_bytes()
 }
 
 // Writes bytes at an offset.

@@ -1,6 +1,6 @@
 -- The sum of the partners' costs, one pair after the other, is their total.
 -- Idea: each cost is within 10^9 and there are at most 64 of them, so no sum is stopped.
-use Rattle.std.proofs.Common.{◌≡◌, ℕ, ◌+◌, ◌*◌, ◌<◌, List, length, get_or, ℤ, sym, ap, ◌∙◌, subst}
+use Rattle.std.proofs.Common.{◌≡◌, ℕ, ◌+◌, ◌*◌, ◌<◌, get_or, sym, ap, ◌∙◌, subst}
 use Rattle.std.proofs.Common.{add-one, arith}
 use Rattle.cost.specs.declared.Cost.{Ghosts}
 use Rattle.cost.specs.declared.TheConstants.{COST_LIMIT}

@@ -1,9 +1,9 @@
 -- What the calls on a settled sheet and on a walk answer, and what they leave in the tables, at
 -- every input.
-use Rattle.std.specs.Prelude.{◌≡◌, ℕ, ◌<◌, true, List, length, ℤ, None, Some, Result, MatchResult}
+use Rattle.std.specs.Prelude.{◌≡◌, ℕ, ◌<◌, true, List, length, None, Some, Result, MatchResult}
 use Rattle.cost.specs.declared.Cost.{Ghosts}
 use Rattle.cost.specs.Columns.{plus, minus}
-use Rattle.pairing.specs.Grid.{Optimum, total}
+use Rattle.pairing.specs.Grid.{Optimum}
 use Rattle.pairing.specs.Optima.{optima}
 use Rattle.pairing.specs.Places.{places_of}
 use Rattle.tables.specs.PairTables.{byte_of, says_stands, cell}
@@ -12,9 +12,8 @@ use Rattle.tables.specs.Together.{Together}
 use Rattle.matching.specs.Answers.{IsNth, Follows, MarksOf}
 use Rattle.matching.specs.declared.stepping.Step.{Step}
 use Rattle.sheet.specs.declared.fault.Cause.TheVariants.{TableLength, Block, Absent, Inconsistent}
-use Rattle.sheet.specs.declared.fault.Fault.{Fault}
 use Rattle.sheet.specs.declared.fault.Refusal.{Refusal}
-use Rattle.sheet.specs.Needs.{Needs, need, nothing, AreMet, IsFirstUnmet, Responds}
+use Rattle.sheet.specs.Needs.{Needs, need, nothing, AreMet, IsFirstUnmet}
 use Rattle.sheet.specs.Size.{Sheet}
 
 -- there are a left block l and a right block r, of n each

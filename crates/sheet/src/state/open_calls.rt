@@ -3,6 +3,7 @@
 ghost use Rattle.std.specs.Prelude.{◌≡◌, ◌<◌, length, IfOk, OnOk, OnErr, Some, None};
 ghost use Rattle.cost.specs.Columns.{within};
 ghost use Rattle.tables.specs.PairTables.{byte_of, cell, ChangesCell, AllAbsent, HavePlaces};
+ghost use Rattle.tables.specs.PairTables.{costs_entered, standing_entered};
 ghost use Rattle.pairing.specs.Places.{place_of};
 ghost use Rattle.sheet.specs.Opening.{Opened};
 ghost use Rattle.sheet.specs.Pairs.{placement_checks, strike_refusal};
@@ -65,13 +66,33 @@ impl OpenSheet {
             OnOk result (ChangesCell n left right (Some cost)
             (cell K.zero n costs.old standing.old) (cell K.zero n costs.new standing.new)) }
     {
-        let at = self.locate(costs.len(), standing.len(), left, right)?;
+        self.locate(costs.len(), standing.len(), left, right)?;
         if !cost.within(COST_LIMIT) {
             return Err(Cause::CostRange.at(0));
         }
+        self.enter_known(costs, standing, left, right, cost);
+        Ok(())
+    }
+
+    /// What `enter` does, for a caller that knows that it is not refused: nothing is tested.
+    pub fn enter_known<K: Cost>(
+        &self,
+        costs: &mut [K],
+        standing: &mut [u8],
+        left: u16,
+        right: u16,
+        cost: K,
+    )
+        requires places { HavePlaces (size_of self.now) (length costs.old) (length standing.old) }
+        requires left_inside { left < size_of self.now }
+        requires right_inside { right < size_of self.now }
+        ensures costs { costs.new ≡ costs_entered (size_of self.now) left right cost costs.old }
+        ensures standing { standing.new
+            ≡ standing_entered (size_of self.now) left right standing.old }
+    {
+        let at = place(self.n, left, right);
         costs[at] = cost;
         standing[at] = 1;
-        Ok(())
     }
 
     /// Makes a standing pair absent, with cost zero.

@@ -1,43 +1,74 @@
--- The file states an order, so no record has a fault, and each record's pairs are entered in turn.
-use Rattle.std.proofs.Common.{◌≡◌, ℕ, Some, Ok, sym, ap, ◌∙◌, arith}
-use Rattle.sheet.proofs.Refused.{from_err, from_ok, renewed}
-use Rattle.orderfile.specs.Faults.{field_fault}
-use Rattle.orderfile.specs.Records.{record_next}
-use Rattle.orderfile.proofs.Entering.{split_sound, entering_more}
-use Rattle.orderfile.proofs.Reading.{next_falls}
+-- The file states an order, so while more than the end is left, the next field is that of a pair
+-- that the tables take.
+use Rattle.std.proofs.Common.{◌≡◌, ◌-◌, ◌≤◌, length, take, drop, set, sym, ap, ◌∙◌, subst, w64}
+use Rattle.std.proofs.Common.{to_z, of_z, unsigned_abs, arith}
+use Rattle.std.proofs.Common.{length-drop, get_or}
+use Rattle.std.proofs.lemmas.List.{take_rest}
+use Rattle.std.proofs.lemmas.Int.{to_z-of_z}
+use Rattle.cost.specs.declared.TheConstants.{COST_LIMIT}
+use Rattle.pairing.specs.Places.{place_of}
+use Rattle.sheet.specs.Size.{size_of}
+use Rattle.orderfile.specs.Loading.{plain}
+use Rattle.orderfile.proofs.Fields.{fits}
+use Rattle.orderfile.proofs.Entering.{entering_start, entering_field, entering_more, entering_end}
 use Rattle.orderfile.proofs.loading.enter_all.Goals as goal
 
-pub returns-in_err-record : goal.returns-in_err-record
-returns-in_err-record c =
-    let was = c.loop-record.records in
-    let order = c.requires.stated.0 in
-    let split = c.loop-record.invariant order c.requires.stated.1 c.requires.stated.2 in
-    let none = split_sound order c.requires.stated.1.sound _ _ was.stage was.fields.rest.now _ _
-    split was.fields.at in
-    let some = from_err _ _ c.in_err-record.field-0.0 c.in_err-record.ensures.answers in
-    let z : ◌≡◌ {A = ℕ} 0 1 = cc in
-    absurd (omega arith)
+pub loop-rest-init : goal.loop-rest-init
+loop-rest-init c = entering_start c.args.file.now (size_of c.args.sheet.now) c.args.costs.now
+    c.args.standing.now _ (take_rest c.args.file.now 4)
 
-pub loop-record-smaller : goal.loop-record-smaller
-loop-record-smaller c =
-    let was = c.loop-record.records in
-    let now' = c.next.new.self in
-    next_falls was.stage was.fields.rest.now was.fields.at now'.stage now'.fields.rest.now
-    now'.fields.at c.next.ensures.stages c.next.ensures.passes c.next.ensures.moves
-    c.in-Some.record (ap Ok (sym c.in-Some.is) ∙ c.in_ok-record.ensures.answers)
+pub slice_bounds-stated_pair-end : goal.slice_bounds-stated_pair-end
+slice_bounds-stated_pair-end c =
+    (entering_field c.args.file.now (size_of c.args.sheet.now) c.args.costs.now c.args.standing.now
+    c.loop-rest.rest.now c.loop-rest.costs c.loop-rest.standing c.loop-rest.invariant
+    c.requires.stated c.loop-rest-test.true).0
 
-pub loop-record-preserved : goal.loop-record-preserved
-loop-record-preserved c =
-    let was = c.loop-record.records in
-    let now' = c.next.new.self in
-    let found = from_ok (field_fault was.stage was.fields.rest.now was.fields.at)
-    (record_next was.stage was.fields.rest.now) (Some c.in-Some.record)
-    (ap Ok (sym c.in-Some.is) ∙ c.in_ok-record.ensures.answers) in
-    entering_more c.args.file.now c.args.sheet.now.size c.args.costs.now c.args.standing.now
-    was.stage
-    was.fields.rest.now c.loop-record.costs c.loop-record.standing
-    now'.stage now'.fields.rest.now c.enter.new.costs c.enter.new.standing c.in-Some.record
-    c.loop-record.invariant (sym found.1)
-    (c.next.ensures.stages ∙ sym (renewed _ _ _ found.0))
-    (c.next.ensures.passes ∙ sym (renewed _ _ _ found.0)) c.enter.ensures.stores
-    c.enter.ensures.raises
+pub enter_known-requires : goal.enter_known-requires
+enter_known-requires c =
+    let sound = (entering_field c.args.file.now (size_of c.args.sheet.now) c.args.costs.now
+    c.args.standing.now c.loop-rest.rest.now c.loop-rest.costs c.loop-rest.standing c.loop-rest.invariant
+    c.requires.stated c.loop-rest-test.true).1 in
+    let is = c.stated_pair-pair.ensures in
+    record {
+      places = record {
+        costs = c.loop-rest.auto.costs ∙ c.requires.places.costs;
+        standing = c.loop-rest.auto.standing ∙ c.requires.places.standing;
+      };
+      left_inside = omega (arith, ap (λ p. p.left) is, sound.left_below);
+      right_inside = omega (arith, ap (λ p. p.right) is, sound.right_below);
+    }
+
+pub loop-rest-smaller : goal.loop-rest-smaller
+loop-rest-smaller c =
+    let shorter : length (take (length c.loop-rest.rest.now - 13) (drop 13 c.loop-rest.rest.now))
+    ≡ length c.loop-rest.rest.now - 13 =
+    ap length (take_rest c.loop-rest.rest.now 13) ∙ length-drop 13 c.loop-rest.rest.now in
+    omega (arith, shorter, c.loop-rest-test.true)
+
+pub loop-rest-preserved : goal.loop-rest-preserved
+loop-rest-preserved c =
+    let n = size_of c.args.sheet.now in
+    let pair = c.stated_pair-pair.result in
+    let sound = (entering_field c.args.file.now n c.args.costs.now c.args.standing.now
+    c.loop-rest.rest.now c.loop-rest.costs c.loop-rest.standing c.loop-rest.invariant
+    c.requires.stated c.loop-rest-test.true).1 in
+    let within : unsigned_abs pair.cost ≤ COST_LIMIT =
+    subst (λ p. unsigned_abs p.cost ≤ COST_LIMIT) (sym c.stated_pair-pair.ensures)
+    sound.cost_within in
+    let same : to_z w64 (of_z w64 pair.cost) ≡ pair.cost =
+    to_z-of_z w64 pair.cost (fits pair.cost within) in
+    entering_more c.args.file.now (size_of c.args.sheet.now) c.args.costs.now c.args.standing.now
+    c.loop-rest.rest.now c.loop-rest.costs c.loop-rest.standing c.loop-rest.invariant
+    c.stated_pair-pair.result _ c.enter_known.new.costs c.enter_known.new.standing
+    c.loop-rest-test.true c.stated_pair-pair.ensures (take_rest c.loop-rest.rest.now 13)
+    (c.enter_known.ensures.costs
+    ∙ ap (λ x. set c.loop-rest.costs (place_of n pair.left pair.right) (plain x)) same)
+    c.enter_known.ensures.standing
+
+pub returns : goal.returns
+returns c order s =
+    entering_end c.args.file.now (size_of c.args.sheet.now) c.args.costs.now c.args.standing.now
+    c.loop-rest.rest.now c.loop-rest.costs c.loop-rest.standing c.loop-rest.invariant
+    c.loop-rest-test.false order s
+    (sym (ap (λ t. get_or t 3 0) s.is_file)
+    ∙ ap (λ t. get_or t 3 0) c.requires.stated.1.is_file ∙ c.requires.stated.2)

@@ -43,7 +43,7 @@ returns c =
     let o = checked_ok c.args.file.now c.in_ok-n.n c.in_ok-n.ensures in
     let h = c.in_ok-sheet.ensures.call in
     let order = o.0 in
-    let done = c.enter_all.ensures.enters order o.1 in
+    let done = c.enter_all.ensures order o.1 in
     let blank-costs : c.open.new.costs ≡ costs_opened (plain (pos 0)) order.size =
     opened_costs _ _ _ _ _ _ h ∙ ap (costs_opened (plain (pos 0))) (sym o.2) in
     let blank-standing : c.open.new.standing ≡ standing_opened order.size =

@@ -1,43 +1,52 @@
--- Each standing pair's field goes behind what was written, and there is room for it since it is a
--- part of the whole.
-use Rattle.std.proofs.Common.{◌≡◌, ◌+◌, ◌<◌, ◌++◌, length, take, drop, sym, ap, ◌∙◌, arith}
-use Rattle.pairing.specs.Places.{places_of}
-use Rattle.orderfile.specs.Format.{pair_field}
-use Rattle.orderfile.proofs.Buffer.{left_all, writing_start, writing_room, writing_yes, writing_no}
+-- A row goes behind the rows before it, and there is room for it since it is a part of the whole.
+use Rattle.std.proofs.Common.{◌≡◌, ◌+◌, ◌≤◌, length, ap, arith}
+use Rattle.pairing.specs.Places.{place_of, places_of}
+use Rattle.orderfile.proofs.Buffer.{left_all, writing_at, writing_start, writing_room_more}
+use Rattle.orderfile.proofs.Buffer.{writing_more, writing_end, row_inside}
 use Rattle.orderfile.proofs.saving.write_pairs.Goals as goal
-use Rattle.orderfile.proofs.saving.write_pairs.Goals.{then-stands, else-stands}
 
-pub loop-k-init : goal.loop-k-init
-loop-k-init c = writing_start c.args.n c.args.costs.now c.args.standing.now c.args.out.now
-    (omega (arith, c.requires.room))
+pub loop-left-init : goal.loop-left-init
+loop-left-init c = let n = c.args.n in
+    writing_at n c.args.costs.now c.args.standing.now c.args.out.now 4 0 (places_of n) 0
+    (place_of n 0 0) 4 c.args.out.now (omega arith)
+    (writing_start n c.args.costs.now c.args.standing.now c.args.out.now 4 0 (places_of n)
+    (omega (arith, c.requires.room)))
 
-pub put-requires : goal.put-requires
-put-requires c =
+pub write_row-at-requires : goal.write_row-at-requires
+write_row-at-requires c =
     let n = c.args.n in
-    let all = ap length (left_all n c.args.costs.now c.args.standing.now) in
-    let room = writing_room n c.args.costs.now c.args.standing.now c.args.out.now c.loop-k.k
-    c.loop-k.at c.loop-k.out c.loop-k.invariant
-    (omega (arith, all, c.requires.room)) (omega arith) (sym c.if-stands.ensures) in
-    let thirteen : length c.pair_field.result ≡ 13 = ap length c.pair_field.ensures in
-    omega (arith, room, thirteen, c.loop-k.auto.out)
+    let left = c.loop-left.left in
+    let all = ap length (left_all n c.args.costs.now c.args.standing.now 0 (places_of n)
+    (places_of n) (omega arith)) in
+    let room = writing_room_more n c.args.costs.now c.args.standing.now c.args.out.now 4 0
+    (places_of n) (place_of n left 0) c.loop-left.at c.loop-left.out c.loop-left.invariant
+    c.requires.some n (row_inside n left (omega arith)) (omega (arith, all, c.requires.room)) in
+    record {
+      few = c.requires.few;
+      inside = omega arith;
+      places = c.requires.places;
+      room = omega (arith, room, c.loop-left.auto.out);
+    }
 
-pub loop-k-preserved : goal.loop-k-preserved
-loop-k-preserved c =
+pub loop-left-preserved : goal.loop-left-preserved
+loop-left-preserved c =
     let n = c.args.n in
-    let costs = c.args.costs.now in
-    let standing = c.args.standing.now in
-    let here : c.loop-k.k < places_of n = omega arith in
-    elim c.if-stands.branch [
-      | then-stands w ↦
-          simp (w.out-is, w.at-is)
-          (writing_yes n costs standing c.args.out.now c.loop-k.k c.loop-k.at c.loop-k.out
-          c.loop-k.invariant w.put.new.out here (sym w.if-stands.ensures)
-          (w.put.ensures
-          ∙ ap (λ t. take c.loop-k.at c.loop-k.out
-          ++ (t ++ drop (c.loop-k.at + length t) c.loop-k.out))
-          (w.pair_field.ensures ∙ ap pair_field w.pair_at.ensures)))
-      | else-stands w ↦
-          simp (w.out-is, w.at-is)
-          (writing_no n costs standing c.args.out.now c.loop-k.k c.loop-k.at c.loop-k.out
-          c.loop-k.invariant here (sym w.if-stands.ensures))
-    ]
+    let left = c.loop-left.left in
+    writing_at n c.args.costs.now c.args.standing.now c.args.out.now 4 0 (places_of n)
+    (place_of n left 0 + n) (place_of n (left + 1) 0) c.write_row-at.result c.write_row-at.new.out
+    (omega arith)
+    (writing_more n c.args.costs.now c.args.standing.now c.args.out.now 4 0 (places_of n)
+    (place_of n left 0) c.loop-left.at c.loop-left.out c.loop-left.invariant c.requires.some n
+    (row_inside n left (omega arith)) c.write_row-at.result c.write_row-at.new.out
+    c.write_row-at.ensures.behind c.write_row-at.ensures.writes)
+
+pub returns : goal.returns
+returns c =
+    let n = c.args.n in
+    let past : places_of n ≤ place_of n c.loop-left.left 0 =
+    let all : c.loop-left.left ≡ n = omega arith in
+    omega (arith, ap (λ l. place_of n l 0) all) in
+    let end = writing_end n c.args.costs.now c.args.standing.now c.args.out.now 4 0 (places_of n)
+    (place_of n c.loop-left.left 0) c.loop-left.at c.loop-left.out c.loop-left.invariant past
+    (omega (arith, c.requires.room)) (places_of n) (omega arith) in
+    record { behind = end.0; writes = end.1 }

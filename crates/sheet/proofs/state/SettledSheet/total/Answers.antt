@@ -1,5 +1,5 @@
 -- A turn adds the cost of one pair more.
-use Rattle.std.proofs.Common.{◌≡◌, get_or, sym, ap, ◌∙◌, subst, arith}
+use Rattle.std.proofs.Common.{get_or, sym, ap, ◌∙◌, subst, arith}
 use Rattle.tables.specs.Lent.{lent}
 use Rattle.tables.specs.Together.{Together}
 use Rattle.sheet.proofs.Totals.{sum_of_more}

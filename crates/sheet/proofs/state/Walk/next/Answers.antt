@@ -1,5 +1,5 @@
 -- The step over the tables is accepted exactly where they hold together with the list.
-use Rattle.std.proofs.Common.{◌≡◌, length, ℕ, refl, sym, ap, ◌∙◌, subst}
+use Rattle.std.proofs.Common.{ℕ, refl, sym, ap, ◌∙◌, subst}
 use Rattle.tables.specs.Lent.{lent, grid, HasLengths}
 use Rattle.pairing.specs.Grid.{Optimum}
 use Rattle.tables.specs.Together.{Together}
