@@ -1,8 +1,7 @@
 //! What the calls for C do, for every cost kind: each answers a number for what the call under it
 //! answers.
 
-ghost use Rattle.std.specs.Prelude.{◌≡◌, ◌<◌, length, MatchOption, Result};
-ghost use Rattle.blockset.specs.declared.TheConstants.{MOST_BLOCKS};
+ghost use Rattle.std.specs.Prelude.{◌≡◌, length, Result};
 ghost use Rattle.tables.specs.Lent.{lent};
 ghost use Rattle.bench_calls.specs.Calls.{Settles, Steps, Marks};
 ghost use Rattle.bench_calls.specs.Codes.{outcome_code, fault_number};
@@ -11,17 +10,6 @@ use assign::{Outcome, settle};
 use cost::Cost;
 use sheet::Fault;
 use tables::{Flaw, MOST_BLOCKS};
-
-/// How many blocks a plane tables have that hold so many partners, unless they are too many.
-pub fn size(partners: &[u16]) -> Option<u16>
-    ensures { MatchOption result (MOST_BLOCKS < length partners.now)
-        (λ n. n ≡ length partners.now) }
-{
-    if partners.len() > MOST_BLOCKS as usize {
-        return None;
-    }
-    Some(partners.len() as u16)
-}
 
 /// The number for an answer of `optimum` or `settle`.
 pub fn code(outcome: Result<Outcome, Flaw>) -> u32
@@ -57,9 +45,10 @@ pub fn settle_number<K: Cost>(
         let new = lent n costs.now standing.now partners.new left.new right.new in
         Settles K.Cost old new result }
 {
-    let Some(n) = size(partners) else {
+    if partners.len() > MOST_BLOCKS as usize {
         return 1;
-    };
+    }
+    let n = partners.len() as u16;
     code(settle(n, costs, standing, partners, left, right))
 }
 
@@ -76,9 +65,10 @@ pub fn step_number<K: Cost>(
         let t = lent n costs.now standing.now partners.now left.now right.now in
         Steps K.Cost t walk.old walk.new result }
 {
-    let Some(n) = size(partners) else {
+    if partners.len() > MOST_BLOCKS as usize {
         return 1;
-    };
+    }
+    let n = partners.len() as u16;
     match walk::next(n, costs, standing, partners, left, right, walk) {
         Ok(step) => u32::from(step.number()),
         Err(_) => 1,
@@ -98,9 +88,10 @@ pub fn marks_number<K: Cost>(
         let t = lent n costs.now standing.now partners.now left.now right.now in
         Marks K.Cost t table.old table.new result }
 {
-    let Some(n) = size(partners) else {
+    if partners.len() > MOST_BLOCKS as usize {
         return 1;
-    };
+    }
+    let n = partners.len() as u16;
     match walk::marks(n, costs, standing, partners, left, right, table) {
         Ok(()) => 0,
         Err(_) => 1,

@@ -27,12 +27,13 @@ mod two;
 
 use assign::optimum;
 use blockset::BlockSet;
-use calls::{code, fault_number, marks_number, settle_number, size, step_number};
+use calls::{code, fault_number, marks_number, settle_number, step_number};
 use cost::{Cost, Plain};
 use matching::first;
 use orderfile::loading::load;
 use orderfile::saving::save;
 use sheet::open;
+use tables::MOST_BLOCKS;
 pub use two::Two;
 
 /// 0 where `p` is now the first perfect pairing, and 1 where the tables were refused.
@@ -78,9 +79,10 @@ pub extern "C" fn bench_optimum(
         (r : Result Outcome Flaw) × (result ≡ outcome_code r)
         × Answers kind old new (Solved kind new) r }
 {
-    let Some(n) = size(partners) else {
+    if partners.len() > MOST_BLOCKS as usize {
         return 1;
-    };
+    }
+    let n = partners.len() as u16;
     code(optimum(n, costs, standing, partners, left, right))
 }
 

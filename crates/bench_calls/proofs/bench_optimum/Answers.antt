@@ -3,5 +3,5 @@ use Rattle.std.proofs.Common.{refl, Err}
 use Rattle.tables.specs.declared.flaw.Flaw.TheVariants.{Size}
 use Rattle.bench_calls.proofs.bench_optimum.Goals as goal
 
-pub returns-in_default : goal.returns-in_default
-returns-in_default c = (Err Size, refl, (c.in_default.ensures, refl))
+pub returns-then-partners : goal.returns-then-partners
+returns-then-partners c = (Err Size, refl, (c.if-partners.true, refl))
