@@ -179,11 +179,11 @@ struct Files {
     bool loaded() const { return costs == sheet.costs && standing == sheet.standing; }
 };
 
-// So many calls in a row, since one is short.
-constexpr int REPEATS = 10;
+// All parts are the same: a few short ones are disturbed less often than a long one.
+constexpr int PARTS = 8, REPEATS = 2;
 
 template <class Call> Contender repeated(const char *name, Call call) {
-    return {name, 1, [=](int) {
+    return {name, PARTS, [=](int) {
                 for (int k = 0; k < REPEATS; ++k)
                     if (call() != 0) return 0;
                 return REPEATS;
