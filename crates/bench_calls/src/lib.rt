@@ -1,11 +1,10 @@
 //! Calls for C, for the benchmarks in bench/: the walk through the perfect pairings, where a row is
-//! a 64-bit number, bit r for right block r; what settling a sheet of plain costs does, and the
-//! walk through its optimum pairings, with as many blocks a plane as there are places for partners.
+//! a 64-bit number, bit r for right block r; settling, a step of the walk and the marks of a sheet,
+//! at plain costs and at two-step ones, with as many blocks a plane as there are places for
+//! partners; and the order file of a sheet.
 #![tactic(auto)]
 
 ghost use Rattle.std.specs.Prelude.{◌≡◌, ◌⊎◌, length, Result};
-ghost use Rattle.pairing.specs.Grid.{Optimum};
-ghost use Rattle.pairing.specs.Optima.{optima};
 ghost use Rattle.pairing.specs.Rows.{pairings};
 ghost use Rattle.matching.specs.declared.stepping.Step.{Step};
 ghost use Rattle.matching.specs.declared.fitting.Unfit.{Unfit};
@@ -13,17 +12,29 @@ ghost use Rattle.matching.specs.Fit.{Fits, Unfits};
 ghost use Rattle.matching.specs.Answers.{IsNth, Follows};
 ghost use Rattle.matching.specs.Numbers.{step_number};
 ghost use Rattle.tables.specs.declared.flaw.Flaw.{Flaw};
-ghost use Rattle.tables.specs.Lent.{lent, grid};
-ghost use Rattle.tables.specs.Together.{Together};
+ghost use Rattle.tables.specs.Lent.{lent};
 ghost use Rattle.assign.specs.declared.Outcome.{Outcome};
-ghost use Rattle.assign.specs.Answer.{Answers, Settled, Solved};
-ghost use Rattle.bench_calls.specs.Codes.{outcome_code};
+ghost use Rattle.assign.specs.Answer.{Answers, Solved};
+ghost use Rattle.sheet.specs.Opening.{Opened};
+ghost use Rattle.sheet.specs.Size.{Sheet};
+ghost use Rattle.sheet.specs.declared.fault.Fault.{Fault};
+ghost use Rattle.orderfile.specs.Loading.{Loaded};
+ghost use Rattle.bench_calls.specs.Codes.{outcome_code, fault_number};
+ghost use Rattle.bench_calls.specs.Calls.{Settles, Steps, Marks, Saves};
 
-use assign::{Outcome, optimum, settle};
+mod calls;
+mod two;
+
+use assign::optimum;
 use blockset::BlockSet;
+use calls::{code, fault_number, marks_number, settle_number, step_number};
 use cost::{Cost, Plain};
 use matching::first;
-use tables::{Flaw, MOST_BLOCKS};
+use orderfile::loading::load;
+use orderfile::saving::save;
+use sheet::open;
+use tables::MOST_BLOCKS;
+pub use two::Two;
 
 /// 0 where `p` is now the first perfect pairing, and 1 where the tables were refused.
 #[unsafe(no_mangle)]
@@ -47,17 +58,6 @@ pub extern "C" fn bench_next(rows: &[BlockSet], p: &mut [u16]) -> u32
 {
     match matching::next(rows, p) {
         Ok(step) => u32::from(step.number()),
-        Err(_) => 1,
-    }
-}
-
-/// The number for an answer of `optimum` or `settle`.
-fn code(outcome: Result<Outcome, Flaw>) -> u32
-    ensures { result ≡ outcome_code outcome }
-{
-    match outcome {
-        Ok(Outcome::Optimal) => 0,
-        Ok(Outcome::Unmatched(_)) => 1,
         Err(_) => 1,
     }
 }
@@ -96,18 +96,12 @@ pub extern "C" fn bench_settle(
     left: &mut [Plain],
     right: &mut [Plain],
 ) -> u32
-    // The number stands for what `settle` answers.
-    ensures { let kind = ⟦<Plain as Cost>⟧ in let n = length partners.old in
+    ensures { let n = length partners.old in
         let old = lent n costs.now standing.now partners.old left.old right.old in
         let new = lent n costs.now standing.now partners.new left.new right.new in
-        (r : Result Outcome Flaw) × (result ≡ outcome_code r)
-        × Answers kind old new (Settled kind new) r }
+        Settles ⟦<Plain as Cost>⟧ old new result }
 {
-    if partners.len() > MOST_BLOCKS as usize {
-        return 1;
-    }
-    let n = partners.len() as u16;
-    code(settle(n, costs, standing, partners, left, right))
+    settle_number::<Plain>(costs, standing, partners, left, right)
 }
 
 /// 0 where `walk` is now the optimum pairing that comes after the one that it held, 100 where that
@@ -121,19 +115,123 @@ pub extern "C" fn bench_cost_next(
     right: &[Plain],
     walk: &mut [u16],
 ) -> u32
-    ensures { let kind = ⟦<Plain as Cost>⟧ in let n = length partners.now in
+    ensures { let n = length partners.now in
         let t = lent n costs.now standing.now partners.now left.now right.now in
-        ((s : Step) × (result ≡ step_number s) × Together kind t × Optimum (grid kind t) walk.old
-        × Follows (optima (grid kind t)) walk.old walk.new s)
-        ⊎ ((result ≡ 1) × (Together kind t × Optimum (grid kind t) walk.old → ⊥)
-        × (walk.new ≡ walk.old)) }
+        Steps ⟦<Plain as Cost>⟧ t walk.old walk.new result }
 {
-    if partners.len() > MOST_BLOCKS as usize {
-        return 1;
-    }
-    let n = partners.len() as u16;
-    match walk::next(n, costs, standing, partners, left, right, walk) {
-        Ok(step) => u32::from(step.number()),
-        Err(_) => 1,
+    step_number::<Plain>(costs, standing, partners, left, right, walk)
+}
+
+/// 0 where `table` now says of each pair whether some optimum pairing has it, and 1 where the
+/// tables were refused: then it is as it was.
+#[unsafe(no_mangle)]
+pub extern "C" fn bench_marks(
+    costs: &[Plain],
+    standing: &[u8],
+    partners: &[u16],
+    left: &[Plain],
+    right: &[Plain],
+    table: &mut [u8],
+) -> u32
+    ensures { let n = length partners.now in
+        let t = lent n costs.now standing.now partners.now left.now right.now in
+        Marks ⟦<Plain as Cost>⟧ t table.old table.new result }
+{
+    marks_number::<Plain>(costs, standing, partners, left, right, table)
+}
+
+/// `bench_settle` at two-step costs.
+#[unsafe(no_mangle)]
+pub extern "C" fn bench_two_settle(
+    costs: &[Two],
+    standing: &[u8],
+    partners: &mut [u16],
+    left: &mut [Two],
+    right: &mut [Two],
+) -> u32
+    ensures { let n = length partners.old in
+        let old = lent n costs.now standing.now partners.old left.old right.old in
+        let new = lent n costs.now standing.now partners.new left.new right.new in
+        Settles ⟦<Two as Cost>⟧ old new result }
+{
+    settle_number::<Two>(costs, standing, partners, left, right)
+}
+
+/// `bench_cost_next` at two-step costs.
+#[unsafe(no_mangle)]
+pub extern "C" fn bench_two_next(
+    costs: &[Two],
+    standing: &[u8],
+    partners: &[u16],
+    left: &[Two],
+    right: &[Two],
+    walk: &mut [u16],
+) -> u32
+    ensures { let n = length partners.now in
+        let t = lent n costs.now standing.now partners.now left.now right.now in
+        Steps ⟦<Two as Cost>⟧ t walk.old walk.new result }
+{
+    step_number::<Two>(costs, standing, partners, left, right, walk)
+}
+
+/// `bench_marks` at two-step costs.
+#[unsafe(no_mangle)]
+pub extern "C" fn bench_two_marks(
+    costs: &[Two],
+    standing: &[u8],
+    partners: &[u16],
+    left: &[Two],
+    right: &[Two],
+    table: &mut [u8],
+) -> u32
+    ensures { let n = length partners.now in
+        let t = lent n costs.now standing.now partners.now left.now right.now in
+        Marks ⟦<Two as Cost>⟧ t table.old table.new result }
+{
+    marks_number::<Two>(costs, standing, partners, left, right, table)
+}
+
+/// 0 where the tables now hold the sheet that an order file states, else the number of the refusal:
+/// then they are as they were.
+#[unsafe(no_mangle)]
+pub extern "C" fn bench_load(file: &[u8], costs: &mut [Plain], standing: &mut [u8]) -> u32
+    ensures { (r : Result Sheet Fault) × (result ≡ fault_number r)
+        × Loaded file.now costs.old standing.old r costs.new standing.new }
+{
+    fault_number(load(file, costs, standing))
+}
+
+/// 0 where the tables are now those of an open sheet, else the number of the refusal: then they are
+/// as they were.
+#[unsafe(no_mangle)]
+pub extern "C" fn bench_open(n: u16, costs: &mut [Plain], standing: &mut [u8]) -> u32
+    ensures { (r : Result Sheet Fault) × (result ≡ fault_number r)
+        × Opened ⟦<Plain as Cost>⟧.zero n costs.old standing.old r costs.new standing.new }
+{
+    fault_number(open(n, costs, standing))
+}
+
+/// 0 where the front of `out` is now the order file of the sheet of n blocks a plane in `costs` and
+/// `standing`, else the number of the refusal: then `out` is as it was.
+///
+/// Saving wants a sheet, and a sheet is had by opening one. So that opening does not clear the
+/// tables that are to be saved, it is handed others, as `bench_open` is, whose time is known.
+#[unsafe(no_mangle)]
+pub extern "C" fn bench_save(
+    n: u16,
+    opened_costs: &mut [Plain],
+    opened_standing: &mut [u8],
+    costs: &[Plain],
+    standing: &[u8],
+    out: &mut [u8],
+) -> u32
+    ensures { (r : Result Sheet Fault)
+        × Opened ⟦<Plain as Cost>⟧.zero n opened_costs.old opened_standing.old r
+        opened_costs.new opened_standing.new
+        × Saves n costs.now standing.now out.old r out.new result }
+{
+    match open(n, opened_costs, opened_standing) {
+        Ok(sheet) => fault_number(save(&sheet, costs, standing, out)),
+        Err(fault) => u32::from(fault.cause.number()),
     }
 }
