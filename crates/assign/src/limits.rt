@@ -16,6 +16,3 @@ pub const LEFT_PRICE_LIMIT: u64 = 201_000_000_000;
 
 /// A right price is within this as long as left blocks are being paired.
 pub const INNER_PRICE_LIMIT: u64 = 500_000_000_000;
-
-/// Two values within this add up exactly.
-pub const HALF_RAIL: u64 = 500_000_000_000_000;

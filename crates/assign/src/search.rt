@@ -5,7 +5,7 @@
 //! stay small however often prices change.
 
 ghost use Rattle.std.specs.Prelude.{◌≡◌, ℕ, ◌+◌, ◌<◌, ◌≤◌, true, false, length, MatchOption};
-ghost use Rattle.cost.specs.declared.TheConstants.{COST_LIMIT};
+ghost use Rattle.cost.specs.declared.TheConstants.{COST_LIMIT, HALF_RAIL};
 ghost use Rattle.blockset.specs.declared.TheConstants.{MOST_BLOCKS};
 ghost use Rattle.cost.specs.Columns.{Within};
 ghost use Rattle.cost.specs.Weights.{weight};
@@ -43,6 +43,7 @@ pub fn offer<K: Cost>(
     requires inside { (c : ℕ) → has to c ≡ true → c < length costs.now }
     requires modest { BoundedOn K.Cost COST_LIMIT (has to) costs.now }
     requires near { Within SHIFT_LIMIT (K.meaning shift) }
+    requires known { BoundedOn K.Cost HALF_RAIL (has reached) dist.old }
     ensures offered { (c : ℕ) → Offered (weight (K.meaning shift)) (weight_at K.Cost costs.now)
         from (has to) (has reached) (weight_at K.Cost dist.old) (at via.old)
         (weight_at K.Cost dist.new) (at via.new) c }

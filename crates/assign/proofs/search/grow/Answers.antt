@@ -8,7 +8,7 @@ use mathlib.Core.Path.{fun_ext}
 use Rattle.std.proofs.lemmas.List.{length-set}
 use Rattle.std.proofs.lemmas.Int.{ints}
 use Rattle.std.proofs.lemmas.Bool.{and_parts, or_cases, both_ways}
-use Rattle.cost.specs.declared.TheConstants.{RAIL, COST_LIMIT}
+use Rattle.cost.specs.declared.TheConstants.{RAIL, HALF_RAIL, COST_LIMIT}
 use Rattle.cost.specs.declared.Cost.{Ghosts}
 use Rattle.cost.specs.Columns.{Within}
 use Rattle.cost.proofs.Exact.{within_more}
@@ -20,7 +20,7 @@ use Rattle.pairing.specs.Places.{place_of}
 use Rattle.tables.specs.Said.{columns_at}
 use Rattle.tables.proofs.Filling.{value_at, row_length, columns_at_lem}
 use Rattle.matching.proofs.Inserting.{inserted}
-use Rattle.assign.specs.declared.limits.TheConstants.{DISTANCE_LIMIT, SHIFT_LIMIT, HALF_RAIL}
+use Rattle.assign.specs.declared.limits.TheConstants.{DISTANCE_LIMIT, SHIFT_LIMIT}
 use Rattle.assign.specs.Weighed.{weight_at, cost_weight}
 use Rattle.assign.specs.Offers.{Nearest}
 use Rattle.assign.specs.Search.{Ends}
@@ -265,6 +265,8 @@ offer-requires g c =
           c.requires.lent.square sized hl ha c.loop-t-test.true c.index-dist-a.result
           c.index-row-a.result c.exact_difference-shift.result
           c.index-dist-a.is c.index-row-a.is modest far c.exact_difference-shift.ensures.bound);
+      known = λ j r. within_more (far_at c.loop-t.t) HALF_RAIL (columns_at kind c.loop-t.dist j)
+          (omega (arith, c.requires.lent.few)) (c.loop-t.invariant.1 j r);
     }
 
 pub loop-t-preserved : goal.loop-t-preserved
