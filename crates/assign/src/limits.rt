@@ -8,6 +8,9 @@
 /// A distance is within this in each column.
 pub const DISTANCE_LIMIT: u64 = 200_000_000_000;
 
+/// What a distance is beyond a price is within this.
+pub const KEY_LIMIT: u64 = 700_000_000_000;
+
 /// What the way through a right block adds to is within this: a distance less a cost.
 pub const SHIFT_LIMIT: u64 = 400_000_000_000;
 

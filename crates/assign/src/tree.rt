@@ -3,6 +3,13 @@
 use blockset::{BlockSet, SET_WIDTH};
 use matching::{Holders, Reach};
 
+/// A right block, and how far it is beyond its price.
+#[derive(Clone, Copy)]
+pub struct Nearby<K> {
+    pub block: usize,
+    pub key: K,
+}
+
 /// How far a search has come.
 #[derive(Drop)]
 pub struct Tree {
