@@ -10,6 +10,13 @@ pub struct Nearby<K> {
     pub key: K,
 }
 
+/// A right block for a left block to take, and the price that it has then.
+#[derive(Clone, Copy)]
+pub struct Bid<K> {
+    pub block: usize,
+    pub price: K,
+}
+
 /// How far a search has come.
 #[derive(Drop)]
 pub struct Tree {

@@ -47,8 +47,8 @@ offer-requires g c =
       near = subst (Within SHIFT_LIMIT)
           (sym (ap kind.meaning c.zero.ensures ∙ g.met.K.Cost.laws.zero_columns))
           (zeros_within SHIFT_LIMIT g.K.Cost.columns);
-      known = λ j t. within_more COST_LIMIT HALF_RAIL (columns_at kind c.loop-l.right j) (omega arith)
-          (c.loop-l.invariant.1 j (c.loop-l.invariant.0.inside j t));
+      known = λ j t. within_more COST_LIMIT HALF_RAIL (columns_at kind c.loop-l.right j)
+          (omega arith) (c.loop-l.invariant.1 j (c.loop-l.invariant.0.inside j t));
     }
 
 pub loop-l-preserved : goal.loop-l-preserved

@@ -37,8 +37,9 @@ far_at t = COST_LIMIT + t * (2 * COST_LIMIT)
 pub nearest_free_first-requires : goal.nearest_free_first-requires
 nearest_free_first-requires g c =
     let kind = g.K.Cost in
-    let seen = λ (k : ℕ) (r : has c.difference-untaken.result k ≡ true). (and_parts (has c.loop-t.seen k)
-    (not (has c.loop-t.taken.reached k)) (sym (c.difference-untaken.ensures k) ∙ r)).0 in
+    let seen = λ (k : ℕ) (r : has c.difference-untaken.result k ≡ true).
+    (and_parts (has c.loop-t.seen k) (not (has c.loop-t.taken.reached k))
+    (sym (c.difference-untaken.ensures k) ∙ r)).0 in
     record {
       sized = c.requires.rights ∙ sym c.requires.dists ∙ sym c.loop-t.auto.dist;
       inside = λ k r. omega (
@@ -209,7 +210,8 @@ exact_difference-shift-requires g c =
     let a = c.in-Some.near.block in
     let l = at c.args.holders.now.row c.in-Some.near.block in
     let sized = c.loop-t.auto.dist ∙ c.requires.dists in
-    let ha : c.in-Some.near.block < length c.args.rows.now = omega (arith, c.in-Some.ensures.0.inside) in
+    let ha : c.in-Some.near.block < length c.args.rows.now =
+    omega (arith, c.in-Some.ensures.0.inside) in
     let held = sym c.contains.ensures ∙ c.if-not-contains.false in
     let hl = c.requires.holders a held in
     let modest = c.requires.lent.modest l a hl (c.requires.own a held) in
@@ -237,7 +239,8 @@ offer-requires g c =
     let a = c.in-Some.near.block in
     let l = at c.args.holders.now.row c.in-Some.near.block in
     let sized = c.loop-t.auto.dist ∙ c.requires.dists in
-    let ha : c.in-Some.near.block < length c.args.rows.now = omega (arith, c.in-Some.ensures.0.inside) in
+    let ha : c.in-Some.near.block < length c.args.rows.now =
+    omega (arith, c.in-Some.ensures.0.inside) in
     let held = sym c.contains.ensures ∙ c.if-not-contains.false in
     let hl = c.requires.holders a held in
     let modest = c.requires.lent.modest l a hl (c.requires.own a held) in
@@ -276,7 +279,8 @@ loop-t-preserved g c =
     let a = c.in-Some.near.block in
     let l = at c.args.holders.now.row c.in-Some.near.block in
     let sized = c.loop-t.auto.dist ∙ c.requires.dists in
-    let ha : c.in-Some.near.block < length c.args.rows.now = omega (arith, c.in-Some.ensures.0.inside) in
+    let ha : c.in-Some.near.block < length c.args.rows.now =
+    omega (arith, c.in-Some.ensures.0.inside) in
     let held = sym c.contains.ensures ∙ c.if-not-contains.false in
     let hl = c.requires.holders a held in
     let modest = c.requires.lent.modest l a hl (c.requires.own a held) in

@@ -3,7 +3,8 @@
 use Rattle.std.proofs.Common.{◌≡◌, ℕ, Bool, true, false, not, ◌&&◌, ℤ, ◌+ℤ◌, ◌-ℤ◌, ◌≤ℤ◌, sym}
 use Rattle.std.proofs.Common.{◌∙◌, ⊎_elim, arith}
 use Rattle.std.proofs.lemmas.Int.{ints}
-use Rattle.std.proofs.lemmas.Bool.{and_parts, and_from, cases_Bool, both_ways, not-true, not_from_false}
+use Rattle.std.proofs.lemmas.Bool.{and_parts, and_from, cases_Bool, both_ways, not-true}
+use Rattle.std.proofs.lemmas.Bool.{not_from_false}
 use Rattle.blockset.specs.Has.{has}
 use Rattle.assign.specs.Weighed.{weight_at}
 use Rattle.assign.specs.Offers.{Nearest}
@@ -49,6 +50,7 @@ returns-then-is_less g c =
             (omega (arith, ints, near.key, other.key));
         key = other.key;
         bound = other.bound;
+        reach = other.reach;
       },
       λ t j s f. omega (
         arith,
@@ -77,6 +79,7 @@ returns g c =
             (omega (arith, ints, near.key, other.key));
         key = near.key;
         bound = near.bound;
+        reach = near.reach;
       },
       λ t. absurd (both_ways (has c.args.held a)
           (not-true (has c.args.held a) (and_parts (has c.args.set a) (not (has c.args.held a))
