@@ -3,7 +3,14 @@ use Rattle.std.proofs.Common.{◌+◌, ◌*◌, ◌∙◌, arith}
 use Rattle.cost.specs.declared.TheConstants.{COST_LIMIT}
 use Rattle.cost.proofs.Exact.{within_more}
 use Rattle.tables.specs.Said.{columns_at}
+use Rattle.assign.specs.declared.limits.TheConstants.{REDUCED_LIMIT}
 use Rattle.assign.proofs.reduction.reduce_rows.Goals as goal
+
+pub reduce_row-requires-clause-near : goal.reduce_row-requires-clause-near
+reduce_row-requires-clause-near g c k h =
+    within_more (COST_LIMIT + c.loop-step._step * (2 * COST_LIMIT)) REDUCED_LIMIT
+    (columns_at g.K.Cost c.loop-step.right k)
+    (omega (arith, c.requires.lent.few, c.loop-step-test.true)) (c.loop-step.invariant.2 k h)
 
 pub loop-step-preserved : goal.loop-step-preserved
 loop-step-preserved g c =
