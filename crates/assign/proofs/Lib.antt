@@ -5,6 +5,9 @@ pub mod Adding
 pub mod Ending
 pub mod Offering
 pub mod Nearing
+pub mod Bidding
+pub mod Seating
+pub mod Reducing
 pub mod Turns
 pub mod Choosing
 pub mod Lowering

@@ -4,7 +4,7 @@
 use Rattle.std.proofs.Common.{◌≡◌, ℕ, Bool, true, false, not, ◌&&◌, eqb, ℤ, ◌+ℤ◌, ◌-ℤ◌, ◌≤ℤ◌, ◌<ℤ◌}
 use Rattle.std.proofs.Common.{ap, ⊎_elim, arith}
 use Rattle.std.proofs.lemmas.Int.{ints}
-use Rattle.std.proofs.lemmas.Bool.{cases_eq}
+use Rattle.std.proofs.lemmas.Bool.{cases_eq, both_ways}
 use Rattle.blockset.proofs.Removing.{still_in, gone}
 
 module _ (set : ℕ → Bool) (v d : ℕ → ℤ) where
@@ -14,6 +14,16 @@ module _ (set : ℕ → Bool) (v d : ℕ → ℤ) where
     pub member : set best ≡ true
     pub is : key ≡ d best -ℤ v best
     pub least : (c : ℕ) → set c ≡ true → rest c ≡ false → (d best +ℤ v c) ≤ℤ (d c +ℤ v best)
+
+  -- one of the set is the best before any is looked at
+  pub nearing_none : (best : ℕ) (key : ℤ) → set best ≡ true → key ≡ d best -ℤ v best
+      → Nearing set best key
+  nearing_none best key member is = record {
+    part = λ c t. t;
+    member = member;
+    is = is;
+    least = λ c t f. absurd (both_ways (set c) f t);
+  }
 
   module _ (rest rest' : ℕ → Bool) (c : ℕ) (removed : (j : ℕ) → rest' j ≡ (rest j && not (eqb j c)))
       (in_rest : rest c ≡ true) (best : ℕ) (key : ℤ) (h : Nearing rest best key) where

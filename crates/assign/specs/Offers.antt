@@ -1,6 +1,15 @@
 -- What one left block offers the right blocks that it stands with, and which right block is the
 -- nearest.
-use Rattle.std.specs.Prelude.{◌≡◌, ℕ, Bool, true, false, ◌⊎◌, ℤ, ◌+ℤ◌, ◌≤ℤ◌}
+use Rattle.std.specs.Prelude.{◌≡◌, ℕ, ◌+◌, ◌<◌, ◌≤◌, Bool, true, false, ◌⊎◌, List, length, ℤ, ◌+ℤ◌}
+use Rattle.std.specs.Prelude.{◌-ℤ◌, ◌≤ℤ◌, ◌<ℤ◌}
+use Rattle.cost.specs.declared.TheConstants.{RAIL}
+use Rattle.cost.specs.declared.Cost.{Ghosts}
+use Rattle.cost.specs.Columns.{Within}
+use Rattle.cost.specs.Weights.{weight}
+use Rattle.assign.specs.declared.limits.TheConstants.{KEY_LIMIT}
+use Rattle.assign.specs.declared.tree.Nearby.{Nearby}
+use Rattle.tables.specs.Said.{columns_at}
+use Rattle.assign.specs.Weighed.{weight_at}
 
 -- The left block `from` offers each right block of `to` the distance `shift` plus what their pair
 -- weighs. One that is reached already takes it if it is less than the distance it has, and any
@@ -17,3 +26,24 @@ pub record Offered (shift : ℤ) (cost : ℕ → ℤ) (from : ℕ) (to reached :
 pub record Nearest (set : ℕ → Bool) (v d : ℕ → ℤ) (a : ℕ) : Type 0 where
   pub member : set a ≡ true
   pub least : (c : ℕ) → set c ≡ true → (d a +ℤ v c) ≤ℤ (d c +ℤ v a)
+
+-- how far a right block can be beyond its price: as far as its distance and its price together
+abbrev pub KeyReach : {K : Type 0} (kind : Ghosts K) (right dist : List K) (c : ℕ) (key : K)
+    → Type 0
+KeyReach kind right dist c key = (x y : ℕ) → Within x (columns_at kind dist c)
+    → Within y (columns_at kind right c) → x + y ≤ RAIL → Within (x + y) (kind.meaning key)
+
+-- the nearest of a set, with how far it is beyond its price
+pub record NearestWithKey {K : Type 0} (kind : Ghosts K) (set : ℕ → Bool) (right dist : List K)
+    (near : Nearby K) : Type 0 where
+  pub inside : near.block < length dist
+  pub nearest : Nearest set (weight_at kind right) (weight_at kind dist) near.block
+  pub key : weight (kind.meaning near.key) ≡ weight_at kind dist near.block
+      -ℤ weight_at kind right near.block
+  pub bound : Within KEY_LIMIT (kind.meaning near.key)
+  pub reach : KeyReach kind right dist near.block near.key
+
+-- a is held by a left block only if each free one of the set is farther beyond its price than it is
+abbrev pub FreeFirst : (set held : ℕ → Bool) (v d : ℕ → ℤ) → ℕ → Type 0
+FreeFirst set held v d a = held a ≡ true → (c : ℕ) → set c ≡ true → held c ≡ false
+    → (d a +ℤ v c) <ℤ (d c +ℤ v a)

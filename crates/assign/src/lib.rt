@@ -2,10 +2,12 @@
 //! kind.
 //!
 //! Each right block starts at the price of its cheapest pair, and every left block that some right
-//! block is cheapest with is paired at once. The others are paired one at a time, each along the
-//! cheapest alternating chain to a free right block (shortest augmenting paths). A last search
-//! finds the greatest prices. There are at most n + 1 searches of at most n turns, and a turn looks
-//! at each right block at most twice: O(n³) steps, whatever the costs.
+//! block is cheapest with is paired at once. The others then take right blocks from one another, as
+//! long as lower prices make up for it, for at most n steps (row reduction). Those that are left
+//! out still are paired one at a time, each along the cheapest alternating chain to a free right
+//! block (shortest augmenting paths). A last search finds the greatest prices. There are at most n
+//! steps and n + 1 searches of at most n turns, and a step or a turn looks at each right block at
+//! most twice: O(n³) in all, whatever the costs.
 #![tactic(auto)]
 
 ghost use Rattle.std.specs.Prelude.{◌≡◌, ℕ, ◌≤◌, List, length, MatchOption};
@@ -21,6 +23,7 @@ ghost use Rattle.assign.specs.Answer.{Answers, Solved};
 mod limits;
 mod pairs;
 mod prices;
+mod reduction;
 mod search;
 mod settling;
 mod sums;
@@ -32,6 +35,7 @@ pub use matching::Shortfall;
 use matching::{Found, pair_most};
 use pairs::{pair_cheapest, pair_rest};
 use prices::{price_cheapest, price_greatest};
+use reduction::reduce_rows;
 pub use settling::settle;
 use tables::{Flaw, PairRows, Tables, check_usable};
 
@@ -110,6 +114,7 @@ fn solve<K: Cost>(
 {
     let cheapest = price_cheapest(costs, rows, right);
     let first = pair_cheapest(rows.len(), &cheapest, partners);
-    let holders = pair_rest(costs, rows, first, partners, left, right);
+    let reduced = reduce_rows(costs, rows, first, partners, right);
+    let holders = pair_rest(costs, rows, reduced, partners, left, right);
     price_greatest(costs, rows, partners, &holders, left, right);
 }

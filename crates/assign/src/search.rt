@@ -5,7 +5,7 @@
 //! stay small however often prices change.
 
 ghost use Rattle.std.specs.Prelude.{◌≡◌, ℕ, ◌+◌, ◌<◌, ◌≤◌, true, false, length, MatchOption};
-ghost use Rattle.cost.specs.declared.TheConstants.{COST_LIMIT};
+ghost use Rattle.cost.specs.declared.TheConstants.{COST_LIMIT, HALF_RAIL};
 ghost use Rattle.blockset.specs.declared.TheConstants.{MOST_BLOCKS};
 ghost use Rattle.cost.specs.Columns.{Within};
 ghost use Rattle.cost.specs.Weights.{weight};
@@ -16,11 +16,11 @@ ghost use Rattle.tables.specs.Said.{columns_at, Bounded};
 ghost use Rattle.assign.specs.declared.limits.TheConstants.{DISTANCE_LIMIT, SHIFT_LIMIT};
 ghost use Rattle.assign.specs.declared.limits.TheConstants.{INNER_PRICE_LIMIT};
 ghost use Rattle.assign.specs.Weighed.{weight_at, BoundedOn, SearchTables};
-ghost use Rattle.assign.specs.Offers.{Offered, Nearest};
+ghost use Rattle.assign.specs.Offers.{Offered, NearestWithKey, FreeFirst};
 ghost use Rattle.assign.specs.Trees.{Grows, GrowsFrom};
 
 use crate::sums::{exact_difference, exact_sum, is_less};
-use crate::tree::Tree;
+use crate::tree::{Nearby, Tree};
 use blockset::{BlockSet, SET_WIDTH};
 use cost::Cost;
 use matching::{Holders, Reach};
@@ -43,6 +43,7 @@ pub fn offer<K: Cost>(
     requires inside { (c : ℕ) → has to c ≡ true → c < length costs.now }
     requires modest { BoundedOn K.Cost COST_LIMIT (has to) costs.now }
     requires near { Within SHIFT_LIMIT (K.meaning shift) }
+    requires known { BoundedOn K.Cost HALF_RAIL (has reached) dist.old }
     ensures offered { (c : ℕ) → Offered (weight (K.meaning shift)) (weight_at K.Cost costs.now)
         from (has to) (has reached) (weight_at K.Cost dist.old) (at via.old)
         (weight_at K.Cost dist.new) (at via.new) c }
@@ -61,25 +62,53 @@ pub fn offer<K: Cost>(
 }
 
 /// The right block of a set whose distance is least beyond its price.
-pub fn nearest<K: Cost>(set: BlockSet, dist: &[K], right: &[K]) -> Option<usize>
+pub fn nearest<K: Cost>(set: BlockSet, dist: &[K], right: &[K]) -> Option<Nearby<K>>
     requires sized { length right.now ≡ length dist.now }
     requires inside { (c : ℕ) → has set c ≡ true → c < length dist.now }
     requires far { BoundedOn K.Cost DISTANCE_LIMIT (has set) dist.now }
     requires priced { Bounded K.Cost INNER_PRICE_LIMIT (length dist.now) right.now }
     ensures { MatchOption result ((c : ℕ) → has set c ≡ false)
-        (λ a. (a < length dist.now) × Nearest (has set) (weight_at K.Cost right.now)
-        (weight_at K.Cost dist.now) a) }
+        (NearestWithKey K.Cost (has set) right.now dist.now) }
 {
-    let mut best = set.least()?;
-    let mut least = exact_difference(dist[best], right[best]);
+    let mut block = set.least()?;
+    let mut least = exact_difference(dist[block], right[block]);
     for c in set {
         let key = exact_difference(dist[c], right[c]);
         if is_less(key, least) {
-            best = c;
+            block = c;
             least = key;
         }
     }
-    Some(best)
+    Some(Nearby { block, key: least })
+}
+
+/// The right block of a set whose distance is least beyond its price; of several such ones a free
+/// one, if there is any.
+pub fn nearest_free_first<K: Cost>(
+    set: BlockSet,
+    held: BlockSet,
+    dist: &[K],
+    right: &[K],
+) -> Option<Nearby<K>>
+    requires sized { length right.now ≡ length dist.now }
+    requires inside { (c : ℕ) → has set c ≡ true → c < length dist.now }
+    requires far { BoundedOn K.Cost DISTANCE_LIMIT (has set) dist.now }
+    requires priced { Bounded K.Cost INNER_PRICE_LIMIT (length dist.now) right.now }
+    ensures { MatchOption result ((c : ℕ) → has set c ≡ false)
+        (λ near. NearestWithKey K.Cost (has set) right.now dist.now near
+        × FreeFirst (has set) (has held) (weight_at K.Cost right.now)
+        (weight_at K.Cost dist.now) near.block) }
+{
+    let Some(free) = nearest(set.difference(held), dist, right) else {
+        return nearest(set, dist, right);
+    };
+    let Some(other) = nearest(set.intersection(held), dist, right) else {
+        return Some(free);
+    };
+    if is_less(other.key, free.key) {
+        return Some(other);
+    }
+    Some(free)
 }
 
 /// Takes right blocks by their distance beyond their price, up to the first that is free. It starts
@@ -117,9 +146,11 @@ pub fn grow<K: Cost>(
         goal: None,
     };
     for t in 0..n {
-        let Some(a) = nearest(seen.difference(taken.reached), dist, right) else {
+        let untaken = seen.difference(taken.reached);
+        let Some(near) = nearest_free_first(untaken, holders.held, dist, right) else {
             return Tree { seen, taken };
         };
+        let a = near.block;
         taken.reached.insert(a);
         taken.rank[a] = t as u8;
         if !holders.held.contains(a) {

@@ -3,6 +3,20 @@
 use blockset::{BlockSet, SET_WIDTH};
 use matching::{Holders, Reach};
 
+/// A right block, and how far it is beyond its price.
+#[derive(Clone, Copy)]
+pub struct Nearby<K> {
+    pub block: usize,
+    pub key: K,
+}
+
+/// A right block for a left block to take, and the price that it has then.
+#[derive(Clone, Copy)]
+pub struct Bid<K> {
+    pub block: usize,
+    pub price: K,
+}
+
 /// How far a search has come.
 #[derive(Drop)]
 pub struct Tree {

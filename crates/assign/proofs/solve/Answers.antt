@@ -11,8 +11,8 @@ use Rattle.assign.specs.Weighed.{weight_at, cost_weight}
 use Rattle.assign.proofs.Cheaply.{cheaply_kept}
 use Rattle.assign.proofs.solve.Goals as goal
 
-pub pair_rest-holders-requires : goal.pair_rest-holders-requires
-pair_rest-holders-requires g c =
+pub reduce_rows-reduced-requires : goal.reduce_rows-reduced-requires
+reduce_rows-reduced-requires g c =
     let kind = g.K.Cost in
     let n = length c.args.rows.now in
     let cheapest = c.price_cheapest-cheapest in
@@ -21,10 +21,9 @@ pair_rest-holders-requires g c =
     record {
       lent = c.requires.lent;
       partnered = partnered;
-      lefts = c.requires.lefts;
       rights = cheapest.auto.right ∙ c.requires.rights;
       inside = first.ensures.inside;
-      possible = c.requires.possible;
+      near = cheapest.ensures.bound;
       paired = record {
         kept = cheaply_kept n (holds c.args.rows.now) (cost_weight kind n c.args.costs.now)
             (has cheapest.result.priced) (at cheapest.result.row)

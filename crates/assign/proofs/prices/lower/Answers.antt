@@ -2,14 +2,14 @@
 -- exact.
 use Rattle.std.proofs.Common.{◌+◌, ◌<◌, length, set, refl, arith}
 use Rattle.std.proofs.lemmas.Int.{ints}
-use Rattle.cost.specs.declared.TheConstants.{COST_LIMIT}
+use Rattle.cost.specs.declared.TheConstants.{HALF_RAIL, COST_LIMIT}
 use Rattle.cost.proofs.Exact.{within_more}
 use Rattle.cost.specs.Weights.{weight}
 use Rattle.blockset.specs.Has.{has}
 use Rattle.tables.specs.Said.{columns_at}
 use Rattle.tables.proofs.Filling.{value_at}
 use Rattle.assign.specs.declared.limits.TheConstants.{DISTANCE_LIMIT, LEFT_PRICE_LIMIT}
-use Rattle.assign.specs.declared.limits.TheConstants.{INNER_PRICE_LIMIT, HALF_RAIL}
+use Rattle.assign.specs.declared.limits.TheConstants.{INNER_PRICE_LIMIT}
 use Rattle.assign.specs.Weighed.{weight_at}
 use Rattle.assign.proofs.Entries.{put_other, read_within}
 use Rattle.assign.proofs.Differences.{difference_weighs, put_weighs, put_within}

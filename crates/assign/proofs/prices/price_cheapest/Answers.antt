@@ -2,14 +2,15 @@
 -- with nothing added, so that no price is beyond a cost.
 use Rattle.std.proofs.Common.{◌+◌, ◌-◌, ◌*◌, length, take, drop, replicate, sym, refl, ap, ◌∙◌}
 use Rattle.std.proofs.Common.{subst, arith}
-use Rattle.cost.specs.declared.TheConstants.{COST_LIMIT}
+use Rattle.cost.specs.declared.TheConstants.{COST_LIMIT, HALF_RAIL}
 use Rattle.cost.specs.Columns.{Within}
-use Rattle.cost.proofs.Exact.{zeros_within}
+use Rattle.cost.proofs.Exact.{zeros_within, within_more}
 use Rattle.cost.specs.Weights.{weight}
 use Rattle.cost.proofs.Weights.{weight_zeros}
 use Rattle.blockset.specs.Has.{has}
 use Rattle.pairing.specs.Grid.{at}
 use Rattle.pairing.specs.Rows.{holds}
+use Rattle.tables.specs.Said.{columns_at}
 use Rattle.tables.proofs.Filling.{row_length, columns_at_lem}
 use Rattle.assign.specs.declared.limits.TheConstants.{SHIFT_LIMIT}
 use Rattle.assign.specs.Weighed.{weight_at, cost_weight}
@@ -46,6 +47,8 @@ offer-requires g c =
       near = subst (Within SHIFT_LIMIT)
           (sym (ap kind.meaning c.zero.ensures ∙ g.met.K.Cost.laws.zero_columns))
           (zeros_within SHIFT_LIMIT g.K.Cost.columns);
+      known = λ j t. within_more COST_LIMIT HALF_RAIL (columns_at kind c.loop-l.right j)
+          (omega arith) (c.loop-l.invariant.1 j (c.loop-l.invariant.0.inside j t));
     }
 
 pub loop-l-preserved : goal.loop-l-preserved

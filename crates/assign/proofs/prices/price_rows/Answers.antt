@@ -5,8 +5,8 @@ use Rattle.pairing.specs.Grid.{at}
 use Rattle.pairing.specs.Places.{place_of}
 use Rattle.tables.specs.Said.{columns_at}
 use Rattle.tables.proofs.Filling.{value_at}
-use Rattle.cost.specs.declared.TheConstants.{COST_LIMIT}
-use Rattle.assign.specs.declared.limits.TheConstants.{DISTANCE_LIMIT, HALF_RAIL, LEFT_PRICE_LIMIT}
+use Rattle.cost.specs.declared.TheConstants.{HALF_RAIL, COST_LIMIT}
+use Rattle.assign.specs.declared.limits.TheConstants.{DISTANCE_LIMIT, LEFT_PRICE_LIMIT}
 use Rattle.assign.specs.Weighed.{weight_at, cost_weight}
 use Rattle.assign.proofs.Entries.{put_other, read_within}
 use Rattle.assign.proofs.Differences.{put_weighs, put_within}

@@ -8,7 +8,7 @@ use mathlib.Core.Path.{fun_ext}
 use Rattle.std.proofs.lemmas.List.{length-set}
 use Rattle.std.proofs.lemmas.Int.{ints}
 use Rattle.std.proofs.lemmas.Bool.{and_parts, or_cases, both_ways}
-use Rattle.cost.specs.declared.TheConstants.{RAIL, COST_LIMIT}
+use Rattle.cost.specs.declared.TheConstants.{RAIL, HALF_RAIL, COST_LIMIT}
 use Rattle.cost.specs.declared.Cost.{Ghosts}
 use Rattle.cost.specs.Columns.{Within}
 use Rattle.cost.proofs.Exact.{within_more}
@@ -20,7 +20,7 @@ use Rattle.pairing.specs.Places.{place_of}
 use Rattle.tables.specs.Said.{columns_at}
 use Rattle.tables.proofs.Filling.{value_at, row_length, columns_at_lem}
 use Rattle.matching.proofs.Inserting.{inserted}
-use Rattle.assign.specs.declared.limits.TheConstants.{DISTANCE_LIMIT, SHIFT_LIMIT, HALF_RAIL}
+use Rattle.assign.specs.declared.limits.TheConstants.{DISTANCE_LIMIT, SHIFT_LIMIT}
 use Rattle.assign.specs.Weighed.{weight_at, cost_weight}
 use Rattle.assign.specs.Offers.{Nearest}
 use Rattle.assign.specs.Search.{Ends}
@@ -34,11 +34,12 @@ use Rattle.assign.proofs.search.grow.Goals as goal
 abbrev far_at : ℕ → ℕ
 far_at t = COST_LIMIT + t * (2 * COST_LIMIT)
 
-pub nearest-requires : goal.nearest-requires
-nearest-requires g c =
+pub nearest_free_first-requires : goal.nearest_free_first-requires
+nearest_free_first-requires g c =
     let kind = g.K.Cost in
-    let seen = λ (k : ℕ) (r : has c.difference.result k ≡ true). (and_parts (has c.loop-t.seen k)
-    (not (has c.loop-t.taken.reached k)) (sym (c.difference.ensures k) ∙ r)).0 in
+    let seen = λ (k : ℕ) (r : has c.difference-untaken.result k ≡ true).
+    (and_parts (has c.loop-t.seen k) (not (has c.loop-t.taken.reached k))
+    (sym (c.difference-untaken.ensures k) ∙ r)).0 in
     record {
       sized = c.requires.rights ∙ sym c.requires.dists ∙ sym c.loop-t.auto.dist;
       inside = λ k r. omega (
@@ -87,7 +88,7 @@ returns-in_default g c =
                 (stage_at_first (has c.args.start)) (at c.args.via) (has c.loop-t.taken.reached)
                 (has c.loop-t.seen) c.loop-t.taken.rank (at c.loop-t.taken.from)
                 (weight_at kind c.loop-t.dist) c.loop-t.t over
-                (λ k. sym (c.difference.ensures k) ∙ c.in_default.ensures k),
+                (λ k. sym (c.difference-untaken.ensures k) ∙ c.in_default.ensures k),
             (c.loop-t.t, over.grown out start p kept first),
           );
       inside = λ k t. over.inside k (over.among k t);
@@ -101,18 +102,18 @@ returns-then-not-contains g c =
     let kind = g.K.Cost in
     let n = length c.args.rows.now in
     let over = c.loop-t.invariant.0 in
-    let ha : c.in-Some.a < length c.args.rows.now =
-    omega (arith, c.in-Some.ensures.0, c.requires.dists, c.loop-t.auto.dist) in
+    let ha : c.in-Some.near.block < length c.args.rows.now =
+    omega (arith, c.in-Some.ensures.0.inside, c.requires.dists, c.loop-t.auto.dist) in
     let near =
     subst (λ s. Nearest s (weight_at kind c.args.right.now) (weight_at kind c.loop-t.dist)
-    c.in-Some.a) (fun_ext c.difference.ensures) c.in-Some.ensures.1 in
-    let taken' = inserted (has c.loop-t.taken.reached) (has c.insert.new.self) c.in-Some.a
+    c.in-Some.near.block) (fun_ext c.difference-untaken.ensures) c.in-Some.ensures.0.nearest in
+    let taken' = inserted (has c.loop-t.taken.reached) (has c.insert.new.self) c.in-Some.near.block
     (omega (arith, ha, c.requires.lent.few)) c.insert.ensures in
     let among = among_too n (holds c.args.rows.now) (cost_weight kind n c.args.costs.now)
     c.args.holders.now (weight_at kind c.args.right.now) (weight_at kind c.args.dist.now)
     (stage_at_first (has c.args.start)) (at c.args.via)
     (has c.loop-t.taken.reached) (has c.loop-t.seen) c.loop-t.taken.rank (at c.loop-t.taken.from)
-    (weight_at kind c.loop-t.dist) c.loop-t.t over c.in-Some.a near
+    (weight_at kind c.loop-t.dist) c.loop-t.t over c.in-Some.near.block near
     (has c.insert.new.self) taken' c.loop-t.invariant.2 c.requires.lent.few in
     record {
       grown = λ out start p kept first. (
@@ -122,7 +123,7 @@ returns-then-not-contains g c =
             (stage_at_first (has c.args.start)) (at c.args.via)
             (has c.loop-t.taken.reached) (has c.loop-t.seen) c.loop-t.taken.rank
             (at c.loop-t.taken.from)
-            (weight_at kind c.loop-t.dist) c.loop-t.t over c.in-Some.a near
+            (weight_at kind c.loop-t.dist) c.loop-t.t over c.in-Some.near.block near
             (has c.insert.new.self) taken' c.loop-t.invariant.2 c.requires.lent.few,
         sym c.contains.ensures ∙ c.if-not-contains.true,
         (
@@ -132,7 +133,7 @@ returns-then-not-contains g c =
               (stage_at_first (has c.args.start)) (at c.args.via)
               (has c.loop-t.taken.reached) (has c.loop-t.seen) c.loop-t.taken.rank
               (at c.loop-t.taken.from)
-              (weight_at kind c.loop-t.dist) c.loop-t.t over c.in-Some.a near
+              (weight_at kind c.loop-t.dist) c.loop-t.t over c.in-Some.near.block near
               (has c.insert.new.self) taken' c.loop-t.invariant.2 c.requires.lent.few
               out start p kept first,
         ),
@@ -206,16 +207,17 @@ module _ {K : Type 0} (kind : Ghosts K) (costs dist : List K) (n l a t : ℕ) (f
 pub exact_difference-shift-requires : goal.exact_difference-shift-requires
 exact_difference-shift-requires g c =
     let n = length c.args.rows.now in
-    let a = c.in-Some.a in
-    let l = at c.args.holders.now.row c.in-Some.a in
+    let a = c.in-Some.near.block in
+    let l = at c.args.holders.now.row c.in-Some.near.block in
     let sized = c.loop-t.auto.dist ∙ c.requires.dists in
-    let ha : c.in-Some.a < length c.args.rows.now = omega (arith, c.in-Some.ensures.0) in
+    let ha : c.in-Some.near.block < length c.args.rows.now =
+    omega (arith, c.in-Some.ensures.0.inside) in
     let held = sym c.contains.ensures ∙ c.if-not-contains.false in
     let hl = c.requires.holders a held in
     let modest = c.requires.lent.modest l a hl (c.requires.own a held) in
     let far =
     c.loop-t.invariant.1 a (and_parts (has c.loop-t.seen a) (not (has c.loop-t.taken.reached a))
-    (sym (c.difference.ensures a) ∙ c.in-Some.ensures.1.member)).0 in
+    (sym (c.difference-untaken.ensures a) ∙ c.in-Some.ensures.0.nearest.member)).0 in
     record {
       first = dist_within g.K.Cost c.args.costs.now c.loop-t.dist n l a c.loop-t.t
           c.requires.lent.few
@@ -234,20 +236,21 @@ pub offer-requires : goal.offer-requires
 offer-requires g c =
     let kind = g.K.Cost in
     let n = length c.args.rows.now in
-    let a = c.in-Some.a in
-    let l = at c.args.holders.now.row c.in-Some.a in
+    let a = c.in-Some.near.block in
+    let l = at c.args.holders.now.row c.in-Some.near.block in
     let sized = c.loop-t.auto.dist ∙ c.requires.dists in
-    let ha : c.in-Some.a < length c.args.rows.now = omega (arith, c.in-Some.ensures.0) in
+    let ha : c.in-Some.near.block < length c.args.rows.now =
+    omega (arith, c.in-Some.ensures.0.inside) in
     let held = sym c.contains.ensures ∙ c.if-not-contains.false in
     let hl = c.requires.holders a held in
     let modest = c.requires.lent.modest l a hl (c.requires.own a held) in
     let far =
     c.loop-t.invariant.1 a (and_parts (has c.loop-t.seen a) (not (has c.loop-t.taken.reached a))
-    (sym (c.difference.ensures a) ∙ c.in-Some.ensures.1.member)).0 in
+    (sym (c.difference-untaken.ensures a) ∙ c.in-Some.ensures.0.nearest.member)).0 in
     let long = row_length c.args.costs.now n l hl c.requires.lent.square in
     let stands : (j : ℕ) → has c.difference-to.result j ≡ true → holds c.args.rows.now
-    (at c.args.holders.now.row c.in-Some.a) j ≡ true =
-    λ j r. (and_parts (holds c.args.rows.now (at c.args.holders.now.row c.in-Some.a) j)
+    (at c.args.holders.now.row c.in-Some.near.block) j ≡ true =
+    λ j r. (and_parts (holds c.args.rows.now (at c.args.holders.now.row c.in-Some.near.block) j)
     (not (has c.insert.new.self j)) (sym (c.difference-to.ensures j) ∙ r)).0 in
     record {
       few = omega (arith, long, c.requires.lent.few);
@@ -265,30 +268,33 @@ offer-requires g c =
           c.requires.lent.square sized hl ha c.loop-t-test.true c.index-dist-a.result
           c.index-row-a.result c.exact_difference-shift.result
           c.index-dist-a.is c.index-row-a.is modest far c.exact_difference-shift.ensures.bound);
+      known = λ j r. within_more (far_at c.loop-t.t) HALF_RAIL (columns_at kind c.loop-t.dist j)
+          (omega (arith, c.requires.lent.few)) (c.loop-t.invariant.1 j r);
     }
 
 pub loop-t-preserved : goal.loop-t-preserved
 loop-t-preserved g c =
     let kind = g.K.Cost in
     let n = length c.args.rows.now in
-    let a = c.in-Some.a in
-    let l = at c.args.holders.now.row c.in-Some.a in
+    let a = c.in-Some.near.block in
+    let l = at c.args.holders.now.row c.in-Some.near.block in
     let sized = c.loop-t.auto.dist ∙ c.requires.dists in
-    let ha : c.in-Some.a < length c.args.rows.now = omega (arith, c.in-Some.ensures.0) in
+    let ha : c.in-Some.near.block < length c.args.rows.now =
+    omega (arith, c.in-Some.ensures.0.inside) in
     let held = sym c.contains.ensures ∙ c.if-not-contains.false in
     let hl = c.requires.holders a held in
     let modest = c.requires.lent.modest l a hl (c.requires.own a held) in
     let far =
     c.loop-t.invariant.1 a (and_parts (has c.loop-t.seen a) (not (has c.loop-t.taken.reached a))
-    (sym (c.difference.ensures a) ∙ c.in-Some.ensures.1.member)).0 in
+    (sym (c.difference-untaken.ensures a) ∙ c.in-Some.ensures.0.nearest.member)).0 in
     let near =
     subst (λ s. Nearest s (weight_at kind c.args.right.now) (weight_at kind c.loop-t.dist)
-    c.in-Some.a) (fun_ext c.difference.ensures) c.in-Some.ensures.1 in
-    let taken' = inserted (has c.loop-t.taken.reached) (has c.insert.new.self) c.in-Some.a
+    c.in-Some.near.block) (fun_ext c.difference-untaken.ensures) c.in-Some.ensures.0.nearest in
+    let taken' = inserted (has c.loop-t.taken.reached) (has c.insert.new.self) c.in-Some.near.block
     (omega (arith, ha, c.requires.lent.few)) c.insert.ensures in
     let stands : (j : ℕ) → has c.difference-to.result j ≡ true → holds c.args.rows.now
-    (at c.args.holders.now.row c.in-Some.a) j ≡ true =
-    λ j r. (and_parts (holds c.args.rows.now (at c.args.holders.now.row c.in-Some.a) j)
+    (at c.args.holders.now.row c.in-Some.near.block) j ≡ true =
+    λ j r. (and_parts (holds c.args.rows.now (at c.args.holders.now.row c.in-Some.near.block) j)
     (not (has c.insert.new.self j)) (sym (c.difference-to.ensures j) ∙ r)).0 in
     let within = shift_within kind c.args.costs.now c.loop-t.dist n l a c.loop-t.t
     c.requires.lent.few

@@ -45,6 +45,7 @@ offer-requires g c =
           (c.requires.lent.inside k j c.requires.room r)))
           (c.requires.lent.modest k j c.requires.room r);
       near = zero-within g SHIFT_LIMIT c.zero.result c.zero.ensures;
+      known = λ j x. absurd (both_ways (has c.empty.result j) (c.empty.ensures j) x);
     }
 
 pub grow-requires : goal.grow-requires

@@ -1,11 +1,11 @@
 -- The rail is not reached, so the difference is that of the columns, and weighs the difference of
 -- the weights.
 use Rattle.std.proofs.Common.{◌+◌, List, ℤ, sym, ap, ◌∙◌, subst, arith}
+use Rattle.cost.specs.declared.TheConstants.{HALF_RAIL}
 use Rattle.cost.specs.Columns.{Within}
 use Rattle.cost.proofs.Exact.{exact, minus-within}
 use Rattle.cost.specs.Weights.{weight}
 use Rattle.cost.proofs.Weights.{weight_minus}
-use Rattle.assign.specs.declared.limits.TheConstants.{HALF_RAIL}
 use Rattle.assign.proofs.sums.exact_difference.Goals as goal
 
 pub returns : goal.returns
@@ -13,7 +13,7 @@ returns g c =
     let m = g.K.Cost.meaning in
     let a = m c.args.a in
     let b = m c.args.b in
-    let e = c.take_away.ensures in
+    let e = c.take_away_near.ensures in
     record {
       sum = ap weight e
           ∙ ap weight (exact HALF_RAIL HALF_RAIL a b (omega arith) c.requires.first

@@ -1,0 +1,48 @@
+-- Which right block a left block takes from whoever has it, and at what price.
+use Rattle.std.specs.Prelude.{◌≡◌, ℕ, ◌<◌, Bool, true, false, List, length, ℤ, ◌+ℤ◌, ◌≤ℤ◌, ◌<ℤ◌}
+use Rattle.std.specs.Prelude.{◌≢◌}
+use Rattle.cost.specs.declared.Cost.{Ghosts}
+use Rattle.blockset.specs.declared.BlockSet.{BlockSet}
+use Rattle.blockset.specs.Has.{has}
+use Rattle.pairing.specs.Grid.{at}
+use Rattle.pairing.specs.Rows.{holds}
+use Rattle.tables.specs.Said.{columns_at}
+use Rattle.assign.specs.Weighed.{weight_at, cost_weight}
+
+-- A left block that stands with the right blocks of `to` at these costs takes j of them, whose
+-- price is w then. None of them is nearer beyond its price. A free one keeps its price; where j is
+-- held, its price falls, and only so far that another one is as near.
+pub record BestBid (to held : ℕ → Bool) (v cost : ℕ → ℤ) (j : ℕ) (w : ℤ) : Type 0 where
+  pub member : to j ≡ true
+  pub best : (c : ℕ) → to c ≡ true → c ≢ j → (v c +ℤ cost j) ≤ℤ (w +ℤ cost c)
+  pub free : held j ≡ false → w ≡ v j
+  pub falls : held j ≡ true → w <ℤ v j
+  pub tied : held j ≡ true
+      → (c : ℕ) × (to c ≡ true) × (c ≢ j) × (v c +ℤ cost j ≡ w +ℤ cost c)
+
+-- Left block l, which was left out, has right block c now. A left block that had c before is left
+-- out instead, and all others keep what they have.
+pub record Seated (n : ℕ) (out : ℕ → Bool) (p : List ℕ) (l c : ℕ) (out' : ℕ → Bool) (p' : List ℕ)
+    : Type 0 where
+  pub len : length p' ≡ n
+  pub inside : (m : ℕ) → out' m ≡ true → m < n
+  pub gets : at p' l ≡ c
+  pub paired : out' l ≡ false
+  pub others : (m : ℕ) → m ≢ l → at p' m ≡ at p m
+  pub stays : (m : ℕ) → m < n → m ≢ l → out m ≡ false → at p m ≢ c → out' m ≡ false
+  pub was : (m : ℕ) → m < n → m ≢ l → out' m ≡ false → (out m ≡ false) × (at p m ≢ c)
+
+-- what left block l can bid for under the prices of `right`, and at what price
+abbrev pub BidOf : {K : Type 0} (kind : Ghosts K) (rows : List BlockSet) (costs : List K)
+    (held : BlockSet) (right : List K) (l j : ℕ) (w : ℤ) → Type 0
+BidOf kind rows costs held right l j w = BestBid (holds rows l) (has held) (weight_at kind right)
+    (cost_weight kind (length rows) costs l) j w
+
+-- left block l has taken what it bids for, and no other price has changed
+pub record Reduced {K : Type 0} (kind : Ghosts K) (rows : List BlockSet) (costs : List K)
+    (held : BlockSet) (l : ℕ) (out : ℕ → Bool) (p : List ℕ) (right : List K) (out' : ℕ → Bool)
+    (p' : List ℕ) (right' : List K) : Type 0 where
+  pub block : ℕ
+  pub bid : BidOf kind rows costs held right l block (weight_at kind right' block)
+  pub seated : Seated (length rows) out p l block out' p'
+  pub others : (c : ℕ) → c ≢ block → columns_at kind right' c ≡ columns_at kind right c

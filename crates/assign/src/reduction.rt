@@ -1,0 +1,164 @@
+//! Row reduction: before the searches, left blocks that are left out take right blocks from one
+//! another, and the prices fall by what makes up for it. That pairs most of them at the price of a
+//! look along their rows.
+
+ghost use Rattle.std.specs.Prelude.{◌≡◌, ℕ, ◌+◌, ◌*◌, ◌<◌, ◌≤◌, true, length, ℤ, ◌||◌, ◌==◌};
+ghost use Rattle.std.specs.Prelude.{MatchOption, MatchBool, IfSome};
+ghost use Rattle.cost.specs.declared.TheConstants.{COST_LIMIT};
+ghost use Rattle.cost.specs.Columns.{Within};
+ghost use Rattle.cost.specs.Weights.{weight};
+ghost use Rattle.blockset.specs.declared.TheConstants.{MOST_BLOCKS};
+ghost use Rattle.blockset.specs.Has.{has};
+ghost use Rattle.matching.specs.Exchange.{GivesDistinct, Holding};
+ghost use Rattle.tables.specs.Said.{Bounded};
+ghost use Rattle.assign.specs.declared.limits.TheConstants.{INNER_PRICE_LIMIT, REDUCED_LIMIT};
+ghost use Rattle.assign.specs.Weighed.{weight_at, BoundedOn, SearchTables};
+ghost use Rattle.assign.specs.Pairs.{PricedPairing};
+ghost use Rattle.assign.specs.Bids.{BestBid, Seated, BidOf, Reduced};
+
+use crate::search::{nearest, nearest_free_first};
+use crate::sums::{exact_difference, is_less};
+use crate::tree::{Bid, FirstPairs};
+use blockset::BlockSet;
+use cost::Cost;
+use matching::Holders;
+
+/// The right block of `to` that a left block with these costs takes, and the price that it has
+/// then: a free one that no other is nearer than, or one that is nearer than any other.
+pub fn find_bid<K: Cost>(costs: &[K], to: BlockSet, held: BlockSet, right: &[K]) -> Option<Bid<K>>
+    requires sized { length right.now ≡ length costs.now }
+    requires inside { (c : ℕ) → has to c ≡ true → c < length costs.now }
+    requires modest { BoundedOn K.Cost COST_LIMIT (has to) costs.now }
+    requires priced { Bounded K.Cost INNER_PRICE_LIMIT (length costs.now) right.now }
+    ensures bid { MatchOption result
+        ((j : ℕ) (w : ℤ) → BestBid (has to) (has held) (weight_at K.Cost right.now)
+        (weight_at K.Cost costs.now) j w → ⊥)
+        (λ bid. BestBid (has to) (has held) (weight_at K.Cost right.now)
+        (weight_at K.Cost costs.now) bid.block (weight (K.meaning bid.price))) }
+    ensures bound { IfSome result (λ bid. (b : ℕ)
+        → Bounded K.Cost b (length costs.now) right.now → b ≤ REDUCED_LIMIT
+        → Within (b + 2 * COST_LIMIT) (K.meaning bid.price)) }
+{
+    let near = nearest_free_first(to, held, costs, right)?;
+    let block = near.block;
+    if !held.contains(block) {
+        return Some(Bid {
+            block,
+            price: right[block],
+        });
+    }
+    let mut others = to;
+    others.remove(block);
+    let next = nearest(others, costs, right)?;
+    if is_less(near.key, next.key) {
+        let price = exact_difference(costs[block], next.key);
+        return Some(Bid { block, price });
+    }
+    None
+}
+
+/// Gives right block `c` to left block `l`, which is left out. A left block that had it is left out
+/// instead.
+fn seat(l: usize, c: usize, out: &mut BlockSet, partners: &mut [u16], holders: &mut Holders)
+    requires few { length partners.old ≤ MOST_BLOCKS }
+    requires room { l < length partners.old }
+    requires below { c < length partners.old }
+    requires left_out { has out.old l ≡ true }
+    requires inside { (m : ℕ) → has out.old m ≡ true → m < length partners.old }
+    requires distinct { GivesDistinct (length partners.old) partners.old (has out.old) }
+    requires told { Holding 0 (length partners.old) partners.old (has out.old)
+        (has holders.old.held) holders.old.row }
+    ensures seated { Seated (length partners.old) (has out.old) partners.old l c (has out.new)
+        partners.new }
+    ensures told { Holding 0 (length partners.old) partners.new (has out.new)
+        (has holders.new.held) holders.new.row }
+    ensures held { (j : ℕ) → has holders.new.held j ≡ (j == c || has holders.old.held j) }
+{
+    let was_held = holders.held.contains(c);
+    let owner = holders.row[c] as usize;
+    partners[l] = c as u16;
+    holders.held.insert(c);
+    holders.row[c] = l as u8;
+    out.remove(l);
+    if was_held {
+        out.insert(owner);
+    }
+}
+
+/// Left block `l`, which is left out, takes the right block that it bids for, if there is one, from
+/// whoever has it. Answers whether it did; else all stays as it was.
+pub fn reduce_row<K: Cost>(
+    l: usize,
+    costs: &[K],
+    rows: &[BlockSet],
+    out: &mut BlockSet,
+    partners: &mut [u16],
+    holders: &mut Holders,
+    right: &mut [K],
+) -> bool
+    requires lent { SearchTables K.Cost rows.now costs.now }
+    requires partnered { length partners.old ≡ length rows.now }
+    requires rights { length right.old ≡ length rows.now }
+    requires left_out { has out.old l ≡ true }
+    requires inside { (m : ℕ) → has out.old m ≡ true → m < length rows.now }
+    requires paired { PricedPairing K.Cost rows.now costs.now (has out.old) partners.old
+        holders.old right.old }
+    requires near { Bounded K.Cost REDUCED_LIMIT (length rows.now) right.old }
+    ensures reduced { MatchBool result
+        (Reduced K.Cost rows.now costs.now holders.old.held l (has out.old) partners.old
+        right.old (has out.new) partners.new right.new)
+        (((j : ℕ) (w : ℤ) → BidOf K.Cost rows.now costs.now holders.old.held right.old l j w → ⊥)
+        × (out.new ≡ out.old) × (partners.new ≡ partners.old) × (holders.new ≡ holders.old)
+        × (right.new ≡ right.old)) }
+    ensures inside { (m : ℕ) → has out.new m ≡ true → m < length rows.now }
+    ensures paired { PricedPairing K.Cost rows.now costs.now (has out.new) partners.new
+        holders.new right.new }
+    ensures bound { (b : ℕ) → Bounded K.Cost b (length rows.now) right.old → b ≤ REDUCED_LIMIT
+        → Bounded K.Cost (b + 2 * COST_LIMIT) (length rows.now) right.new }
+{
+    let n = rows.len();
+    let row = &costs[l * n..l * n + n];
+    let Some(bid) = find_bid(row, rows[l], holders.held, right) else {
+        return false;
+    };
+    right[bid.block] = bid.price;
+    seat(l, bid.block, out, partners, holders);
+    true
+}
+
+/// Lets the left blocks that are left out take right blocks, the least one first, for as many steps
+/// as there are left blocks. One that has nothing to bid for is set aside. How many are left out
+/// then is not promised: the searches pair all of them.
+pub fn reduce_rows<K: Cost>(
+    costs: &[K],
+    rows: &[BlockSet],
+    first: FirstPairs,
+    partners: &mut [u16],
+    right: &mut [K],
+) -> FirstPairs
+    requires lent { SearchTables K.Cost rows.now costs.now }
+    requires partnered { length partners.old ≡ length rows.now }
+    requires rights { length right.old ≡ length rows.now }
+    requires inside { (l : ℕ) → has first.out l ≡ true → l < length rows.now }
+    requires paired { PricedPairing K.Cost rows.now costs.now (has first.out) partners.old
+        first.holders right.old }
+    requires near { Bounded K.Cost COST_LIMIT (length rows.now) right.old }
+    ensures inside { (l : ℕ) → has result.out l ≡ true → l < length rows.now }
+    ensures paired { PricedPairing K.Cost rows.now costs.now (has result.out) partners.new
+        result.holders right.new }
+{
+    let FirstPairs {
+        mut out,
+        mut holders,
+    } = first;
+    let mut aside = BlockSet::empty();
+    for _step in 0..rows.len() {
+        let Some(l) = out.difference(aside).least() else {
+            return FirstPairs { out, holders };
+        };
+        if !reduce_row(l, costs, rows, &mut out, partners, &mut holders, right) {
+            aside.insert(l);
+        }
+    }
+    FirstPairs { out, holders }
+}
