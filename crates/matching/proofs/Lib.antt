@@ -2,6 +2,7 @@ pub mod Inserting
 pub mod Searching
 pub mod Exchanging
 pub mod Trying
+pub mod Held
 pub mod Order
 pub mod Places
 pub mod Leading
