@@ -6,5 +6,6 @@ pub mod Held
 pub mod Order
 pub mod Places
 pub mod Leading
+pub mod Closing
 pub mod Most
 pub mod Nth

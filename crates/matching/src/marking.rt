@@ -1,7 +1,7 @@
 //! The pairs that occur in some perfect pairing.
 
-ghost use Rattle.std.specs.Prelude.{◌≡◌, ℕ, ◌<◌, ◌≤◌, ◌&&◌, ◌↔◌, length, if◌then◌else◌, IsOk};
-ghost use Rattle.std.specs.Prelude.{IfErr, OnOk, OnErr};
+ghost use Rattle.std.specs.Prelude.{◌≡◌, ℕ, ◌<◌, ◌≤◌, ◌&&◌, ◌||◌, ◌↔◌, length, if◌then◌else◌, IsOk};
+ghost use Rattle.std.specs.Prelude.{IfErr, OnOk, OnErr, nat_lt};
 ghost use Rattle.blockset.specs.declared.TheConstants.{MOST_BLOCKS};
 ghost use Rattle.blockset.specs.Has.{has};
 ghost use Rattle.pairing.specs.Grid.{at};
@@ -11,29 +11,62 @@ ghost use Rattle.matching.specs.Fit.{Fits, IsFirstCause};
 ghost use Rattle.matching.specs.Search.{Led};
 ghost use Rattle.matching.specs.Answers.{MarksOf};
 
-use crate::chains::{Bounds, find_holders, search};
 use crate::fitting::{Unfit, fit};
 use blockset::{BlockSet, MOST_BLOCKS, SET_WIDTH};
 
-/// The right blocks that chains lead to from each right block: what the left block that has it can
-/// take, and so on. One search each.
+/// The right blocks that one step leads to from each right block: what the left block that has it
+/// can take.
+fn steps(rows: &[BlockSet], p: &[u16]) -> [BlockSet; SET_WIDTH]
+    requires small { length rows.now ≤ MOST_BLOCKS }
+    requires pairs { Pairs rows.now p.now }
+    ensures { (l c : ℕ) → l < length rows.now
+        → holds result (at p.now l) c ≡ (holds rows.now l c && nat_lt c (length rows.now)) }
+{
+    let all = BlockSet::all(rows.len());
+    let mut led = [BlockSet::empty(); SET_WIDTH];
+    for (l, row) in rows.iter().enumerate() {
+        led[p[l] as usize] = row.intersection(all);
+    }
+    led
+}
+
+/// A set of right blocks, and those of `on` too if right block `k` is in it. There is no branch in
+/// it, so that a loop over it takes several sets at a time.
+fn led_on(set: BlockSet, k: usize, on: BlockSet) -> BlockSet
+    requires { k < SET_WIDTH }
+    ensures { (j : ℕ) → has result j ≡ (has set j || (has set k && has on j)) }
+{
+    let more = if set.intersection(BlockSet::of(k)).is_empty() {
+        BlockSet::empty()
+    } else {
+        on
+    };
+    set.union(more)
+}
+
+/// Lets each of the first `n` right blocks that leads to right block `k` lead on from there.
+fn lead_through(led: &mut [BlockSet; SET_WIDTH], n: usize, k: usize)
+    requires small { n ≤ SET_WIDTH }
+    requires inside { k < n }
+    ensures { (i j : ℕ) → i < n
+        → holds led.new i j ≡ (holds led.old i j || (holds led.old i k && holds led.old k j)) }
+{
+    let on = led[k];
+    for i in 0..n {
+        led[i] = led_on(led[i], k, on);
+    }
+}
+
+/// The right blocks that chains lead to from each right block. Chains that pass no right block but
+/// the first k, between their ends, are known after k rounds; so after n rounds all are.
 fn leads(rows: &[BlockSet], p: &[u16]) -> [BlockSet; SET_WIDTH]
     requires small { length rows.now ≤ MOST_BLOCKS }
     requires pairs { Pairs rows.now p.now }
     ensures { Led (length rows.now) rows.now p.now result }
 {
-    let all = BlockSet::all(rows.len());
-    let mut led = [BlockSet::empty(); SET_WIDTH];
-    for l in 0..rows.len() {
-        let alone = BlockSet::of(l);
-        let holders = find_holders(p, 0, alone);
-        let bounds = Bounds {
-            roots: alone,
-            offer: all,
-            live: all,
-            goals: BlockSet::empty(),
-        };
-        led[p[l] as usize] = search(rows, &holders, bounds).reached;
+    let mut led = steps(rows, p);
+    for k in 0..rows.len() {
+        lead_through(&mut led, rows.len(), k);
     }
     led
 }
