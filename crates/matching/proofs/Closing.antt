@@ -13,7 +13,7 @@ use Rattle.pairing.specs.Chains.{Chain, here, step}
 use Rattle.pairing.proofs.Counting.{onto}
 
 -- a chain and one that goes on where it ends are a chain
-joined : (n k : ℕ) (tight : ℕ → ℕ → Bool) (p : List ℕ) (r c d : ℕ) → Chain n k tight p r c
+pub joined : (n k : ℕ) (tight : ℕ → ℕ → Bool) (p : List ℕ) (r c d : ℕ) → Chain n k tight p r c
     → Chain n k tight p c d → Chain n k tight p r d
 joined n k tight p r c _ w here = w
 joined n k tight p r c _ w (step l d le lt v t) =

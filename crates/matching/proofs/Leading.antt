@@ -1,24 +1,25 @@
 -- Where a search goes that may use all right blocks, and which pairs occur.
 -- Idea: a pair occurs if exchanging along a chain brings it about: from its right block back to the
 -- one that its left block has. That is a theorem on chains, and the table of leads tells the chains.
-use Rattle.std.proofs.Common.{◌≡◌, ℕ, ◌+◌, ◌<◌, ◌≤◌, Bool, true, ◌&&◌, ltb}
-use Rattle.std.proofs.Common.{List, length, Decides}
-use Rattle.std.proofs.Common.{◌∙◌, subst, inl, inr, arith, rules}
+use Rattle.std.proofs.Common.{◌≡◌, ℕ, ◌+◌, ◌<◌, ◌≤◌, Bool, true, false, ◌&&◌, ltb, List, length}
+use Rattle.std.proofs.Common.{Decides, sym, refl, ap, ◌∙◌, subst, inl, inr, arith, rules}
+use Rattle.std.proofs.Math.Bool.{and-false}
 use borrow.Rule.Slice.PartMut.{put_mid}
 use Rattle.std.proofs.lemmas.List.{places}
 use Rattle.std.proofs.lemmas.Bool.Decides.{same_from_decides}
-use Rattle.std.proofs.lemmas.Bool.{cases_Bool, and_parts, and_from, cond-true}
+use Rattle.std.proofs.lemmas.Bool.{cases_Bool, both_ways, and_parts, and_from, cond-true}
 use Rattle.std.proofs.lemmas.Bool.{cond-false, lt-ltb}
 use Rattle.blockset.specs.declared.BlockSet.{BlockSet}
 use Rattle.blockset.specs.Has.{has}
 use Rattle.pairing.specs.Grid.{at}
-use Rattle.pairing.specs.Chains.{Chain}
+use Rattle.pairing.specs.Chains.{Chain, here, step}
 use Rattle.pairing.specs.Optima.{has_pair}
 use Rattle.pairing.proofs.Counting.{onto}
 use Rattle.pairing.proofs.Sending.{sends_if_chain_lem}
 use Rattle.pairing.proofs.Listing.{in_perfects, has_tells}
 use Rattle.matching.specs.declared.chains.Bounds.{Bounds}
 use Rattle.pairing.specs.Rows.{holds, Pairs, pairings}
+use Rattle.matching.proofs.Closing.{joined}
 use Rattle.matching.specs.Search.{along, Led}
 
 -- all right blocks below n are offered, and all are live
@@ -72,6 +73,62 @@ pair_occurs rows p led l r h leads i j =
     told rows p l r h i j (holds led r (at p l))
     (subst (λ x. Decides (holds led x (at p l)) (Chain (length rows) 0 (holds rows) p x (at p l)))
     o.2 (leads o.0 (at p l) o.1 (h.below l i)))
+
+-- ---- the class of a right block
+
+-- the set has with a right block below n each one that chains lead to from it and back
+abbrev pub IsClass : ℕ → List BlockSet → (ℕ → Bool) → Type 0
+IsClass n led class = (i j : ℕ) → i < n → j < n → class i ≡ true
+    → class j ≡ (holds led i j && holds led j i)
+
+module _ (rows : List BlockSet) (p : List ℕ) (led : List BlockSet) (h : Pairs rows p)
+    (leads : Led (length rows) rows p led) where
+  tells : (i j : ℕ) → i < length rows → j < length rows
+      → Decides (holds led i j) (Chain (length rows) 0 (holds rows) p i j)
+  tells i j a b =
+      let o = onto (length rows) (holds rows) p h i a in
+      subst (λ x. Decides (holds led x j) (Chain (length rows) 0 (holds rows) p x j)) o.2
+      (leads o.0 j o.1 b)
+
+  lead_on : (i m j : ℕ) → i < length rows → m < length rows → j < length rows
+      → holds led i m ≡ true → holds led m j ≡ true → holds led i j ≡ true
+  lead_on i m j a b c t u = (tells i j a c).1
+      (joined (length rows) 0 (holds rows) p i m j ((tells i m a b).0 t) ((tells m j b c).0 u))
+
+  -- that of one right block is a class, and has it
+  module _ (own : ℕ) (low : own < length rows) (class : ℕ → Bool)
+      (is : (j : ℕ) → class j ≡ (holds led own j && holds led j own)) where
+    pub is_class : IsClass (length rows) led class
+    is_class i j a b t =
+        let both = and_parts (holds led own i) (holds led i own) (sym (is i) ∙ t) in
+        is j ∙ same (holds led own j) (holds led j own) (holds led i j) (holds led j i)
+        (lead_on i own j a low b both.1) (λ u. lead_on j own i b low a u both.0)
+        (lead_on own i j low a b both.0) (λ u. lead_on j i own b a low u both.1)
+      where
+        same : (x y u v : Bool) → (x ≡ true → u ≡ true) → (y ≡ true → v ≡ true)
+            → (u ≡ true → x ≡ true) → (v ≡ true → y ≡ true) → (x && y) ≡ (u && v)
+        same true true u v f g _ _ = sym (and_from u v (f refl) (g refl))
+        same true false u true f g _ k = absurd (both_ways false refl (k refl))
+        same true false u false f g _ _ = sym (and-false u)
+        same false y true v f g k _ = absurd (both_ways false refl (k refl))
+        same false y false v f g _ _ = refl
+
+    pub in_class : class own ≡ true
+    in_class = let t = (tells own own low low).1 here in is own ∙ and_from _ _ t t
+
+  -- what a left block has in turn is what its row has of the class of its right block
+  pub class_occurs : (l r : ℕ) → l < length rows → r < length rows → (class : ℕ → Bool)
+      → IsClass (length rows) led class → class (at p l) ≡ true
+      → (holds rows l r && class r) ≡ has_pair l r (pairings rows)
+  class_occurs l r i j class c t =
+      within (holds rows l r) (class r) (holds led (at p l) r) (holds led r (at p l))
+      (c (at p l) r (h.below l i) j t)
+      (λ u. (leads l r i j).1 (step l r (omega arith) i here u))
+      ∙ pair_occurs rows p led l r h leads i j
+    where
+      within : (t d x y : Bool) → d ≡ (x && y) → (t ≡ true → x ≡ true) → (t && d) ≡ (t && y)
+      within true d x y e f = e ∙ ap (λ b. b && y) (f refl)
+      within false d x y e f = refl
 
 -- ---- a row of the table is written
 

@@ -71,22 +71,29 @@ fn leads(rows: &[BlockSet], p: &[u16]) -> [BlockSet; SET_WIDTH]
     led
 }
 
-/// Whether a row holds a right block and chains from it lead to `own`, the right block that the
-/// row's left block has.
-fn occurs(row: BlockSet, led: BlockSet, r: usize, own: usize) -> bool
-    ensures { result ≡ (has row r && has led own) }
+/// The right blocks that chains lead to from `own` and back from there.
+fn class_of(led: &[BlockSet; SET_WIDTH], own: usize) -> BlockSet
+    requires { own < SET_WIDTH }
+    ensures { (j : ℕ) → has result j ≡ (holds led.now own j && holds led.now j own) }
 {
-    row.contains(r) && led.contains(own)
+    let mut class = BlockSet::empty();
+    for c in led[own] {
+        if led[c].contains(own) {
+            class.insert(c);
+        }
+    }
+    class
 }
 
-/// Marks the right blocks that occur with the left block of a row.
-fn mark_row(marks: &mut [u8], row: BlockSet, own: usize, led: &[BlockSet])
-    requires { length marks.old ≤ length led.now }
-    ensures { (r : ℕ) → r < length marks.old
-        → at marks.new r ≡ (if has row r && holds led.now r own then 1 else 0) }
+/// Marks the right blocks of a set.
+fn mark_row(marks: &mut [u8], set: BlockSet)
+    requires { length marks.old ≤ SET_WIDTH }
+    ensures { (r : ℕ) → r < length marks.old → at marks.new r ≡ (if has set r then 1 else 0) }
 {
-    for (r, mark) in marks.iter_mut().enumerate() {
-        *mark = u8::from(occurs(row, led[r], r, own));
+    let mut rest = set.bits();
+    for mark in marks.iter_mut() {
+        *mark = (rest % 2) as u8;
+        rest /= 2;
     }
 }
 
@@ -115,6 +122,10 @@ pub fn marks(rows: &[BlockSet], p: &[u16], table: &mut [u8]) -> Result<(), Unfit
 }
 
 /// What `marks` does, for a caller that knows that the tables fit: nothing is tested.
+///
+/// The right blocks that chains lead to from a right block and back are a class. A left block has
+/// some of the class of its own right block in turn, just those that its row holds. Where one left
+/// block after another has a right block of the same class, the class is made once.
 pub fn mark_all(rows: &[BlockSet], p: &[u16], table: &mut [u8])
     requires small { length rows.now ≤ MOST_BLOCKS }
     requires pairs { Pairs rows.now p.now }
@@ -123,7 +134,12 @@ pub fn mark_all(rows: &[BlockSet], p: &[u16], table: &mut [u8])
 {
     let n = rows.len();
     let led = leads(rows, p);
+    let mut class = BlockSet::empty();
     for (l, row) in rows.iter().enumerate() {
-        mark_row(&mut table[l * n..l * n + n], *row, p[l] as usize, &led);
+        let own = p[l] as usize;
+        if !class.contains(own) {
+            class = class_of(&led, own);
+        }
+        mark_row(&mut table[l * n..l * n + n], row.intersection(class));
     }
 }
