@@ -6,7 +6,8 @@
 -- a chain is one more pair.
 use Rattle.std.proofs.Common.{◌≡◌, ℕ, ◌+◌, ◌<◌, ◌≤◌, Bool, true, ◌&&◌, ◌||◌, ◌⊎◌, List}
 use Rattle.std.proofs.Common.{ltb, Decides, sym, ap, ◌∙◌, subst, inl, inr, arith}
-use Rattle.std.proofs.lemmas.Bool.{cases_eq, and_parts, and_from, or_cases, or_left, or_right, lt-ltb}
+use Rattle.std.proofs.lemmas.Bool.{cases_eq, and_parts, and_from, or_cases, or_left, or_right}
+use Rattle.std.proofs.lemmas.Bool.{lt-ltb}
 use Rattle.std.proofs.lemmas.Bool.{ltb-true}
 use Rattle.pairing.specs.Grid.{at, Perfect}
 use Rattle.pairing.specs.Chains.{Chain, here, step}
@@ -114,5 +115,5 @@ module _ (n : ℕ) (tight : ℕ → ℕ → Bool) (p : List ℕ) where
           follow : (d : ℕ) → Chain n 0 tight p (at p l) d → d < n → leads (at p l) d ≡ true
           follow _ here low = s.steps l (at p l) i low (h.standing l i)
           follow _ (step m d le lt w t) low =
-              s.closed (at p l) (at p m) d (h.below l i) (h.below m lt) (omega (arith, h.below m lt))
-              (follow (at p m) w (h.below m lt)) (s.steps m d lt low t)
+              s.closed (at p l) (at p m) d (h.below l i) (h.below m lt)
+              (omega (arith, h.below m lt)) (follow (at p m) w (h.below m lt)) (s.steps m d lt low t)

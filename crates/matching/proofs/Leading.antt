@@ -1,7 +1,9 @@
 -- Where a search goes that may use all right blocks, and which pairs occur.
 -- Idea: a pair occurs if exchanging along a chain brings it about: from its right block back to the
--- one that its left block has. That is a theorem on chains, and the table of leads tells the chains.
-use Rattle.std.proofs.Common.{◌≡◌, ℕ, ◌+◌, ◌<◌, ◌≤◌, Bool, true, false, ◌&&◌, ltb, List, length}
+-- one that its left block has. That is a theorem on chains, and the table of leads tells the
+-- chains. Since the step from the right block of a left block to any one of its row is a chain too,
+-- these are just the right blocks of its row that are in one class with its own.
+use Rattle.std.proofs.Common.{◌≡◌, ℕ, ◌+◌, ◌<◌, ◌≤◌, Bool, true, false, cond, ◌&&◌, ◌⊎◌, ltb, List, length}
 use Rattle.std.proofs.Common.{Decides, sym, refl, ap, ◌∙◌, subst, inl, inr, arith, rules}
 use Rattle.std.proofs.Math.Bool.{and-false}
 use borrow.Rule.Slice.PartMut.{put_mid}
@@ -81,6 +83,25 @@ abbrev pub IsClass : ℕ → List BlockSet → (ℕ → Bool) → Type 0
 IsClass n led class = (i j : ℕ) → i < n → j < n → class i ≡ true
     → class j ≡ (holds led i j && holds led j i)
 
+-- what is noted at a right block below n is its class, or nothing
+abbrev pub Classes : ℕ → List BlockSet → List BlockSet → Type 0
+Classes n led classes = (i : ℕ) → i < n
+    → ((a : ℕ) → holds classes i a ≡ false)
+    ⊎ ((j : ℕ) → j < n → holds classes i j ≡ (holds led i j && holds led j i))
+
+-- a class is noted
+pub classes_more : (n : ℕ) (led before after : List BlockSet) (class : ℕ → Bool)
+    → IsClass n led class → Classes n led before
+    → ((i j : ℕ) → holds after i j ≡ cond (class i) (class j) (holds before i j))
+    → Classes n led after
+classes_more n led before after class c old is i a = elim (cases_Bool (class i)) [
+  | inl t ↦ inr (λ j b. is i j ∙ cond-true (class i) _ _ t ∙ c i j a b t)
+  | inr f ↦
+      let stays : (j : ℕ) → holds after i j ≡ holds before i j =
+      λ j. is i j ∙ cond-false (class i) _ _ f in
+      elim (old i a) [ inl e ↦ inl (λ j. stays j ∙ e j) | inr e ↦ inr (λ j b. stays j ∙ e j b) ]
+]
+
 module _ (rows : List BlockSet) (p : List ℕ) (led : List BlockSet) (h : Pairs rows p)
     (leads : Led (length rows) rows p led) where
   tells : (i j : ℕ) → i < length rows → j < length rows
@@ -118,11 +139,11 @@ module _ (rows : List BlockSet) (p : List ℕ) (led : List BlockSet) (h : Pairs 
 
   -- what a left block has in turn is what its row has of the class of its right block
   pub class_occurs : (l r : ℕ) → l < length rows → r < length rows → (class : ℕ → Bool)
-      → IsClass (length rows) led class → class (at p l) ≡ true
+      → ((j : ℕ) → j < length rows → class j ≡ (holds led (at p l) j && holds led j (at p l)))
       → (holds rows l r && class r) ≡ has_pair l r (pairings rows)
-  class_occurs l r i j class c t =
+  class_occurs l r i j class c =
       within (holds rows l r) (class r) (holds led (at p l) r) (holds led r (at p l))
-      (c (at p l) r (h.below l i) j t)
+      (c r j)
       (λ u. (leads l r i j).1 (step l r (omega arith) i here u))
       ∙ pair_occurs rows p led l r h leads i j
     where

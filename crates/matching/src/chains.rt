@@ -6,7 +6,8 @@ ghost use Rattle.std.specs.Prelude.{◌==◌, ◌≢◌, ◌+◌};
 ghost use Rattle.blockset.specs.declared.TheConstants.{MOST_BLOCKS, SET_WIDTH};
 ghost use Rattle.blockset.specs.Has.{has};
 ghost use Rattle.pairing.specs.Grid.{at};
-ghost use Rattle.matching.specs.Exchange.{without, GivesDistinct, Holding, HeldFrom, Ways, Exchanged};
+ghost use Rattle.matching.specs.Exchange.{without, GivesDistinct, Holding, HeldFrom, Ways};
+ghost use Rattle.matching.specs.Exchange.{Exchanged};
 ghost use Rattle.matching.specs.Search.{along, ReachedBy, Ended};
 
 use blockset::{BlockSet, SET_WIDTH};

@@ -85,6 +85,16 @@ fn class_of(led: &[BlockSet; SET_WIDTH], own: usize) -> BlockSet
     class
 }
 
+/// Notes a class at each right block that is in it.
+fn note_class(classes: &mut [BlockSet; SET_WIDTH], class: BlockSet)
+    ensures { (i j : ℕ) → holds classes.new i j
+        ≡ (if has class i then has class j else holds classes.old i j) }
+{
+    for c in class {
+        classes[c] = class;
+    }
+}
+
 /// Marks the right blocks of a set.
 fn mark_row(marks: &mut [u8], set: BlockSet)
     requires { length marks.old ≤ SET_WIDTH }
@@ -124,8 +134,8 @@ pub fn marks(rows: &[BlockSet], p: &[u16], table: &mut [u8]) -> Result<(), Unfit
 /// What `marks` does, for a caller that knows that the tables fit: nothing is tested.
 ///
 /// The right blocks that chains lead to from a right block and back are a class. A left block has
-/// some of the class of its own right block in turn, just those that its row holds. Where one left
-/// block after another has a right block of the same class, the class is made once.
+/// some of the class of its own right block in turn, just those that its row holds. Each class is
+/// made once.
 pub fn mark_all(rows: &[BlockSet], p: &[u16], table: &mut [u8])
     requires small { length rows.now ≤ MOST_BLOCKS }
     requires pairs { Pairs rows.now p.now }
@@ -134,12 +144,12 @@ pub fn mark_all(rows: &[BlockSet], p: &[u16], table: &mut [u8])
 {
     let n = rows.len();
     let led = leads(rows, p);
-    let mut class = BlockSet::empty();
+    let mut classes = [BlockSet::empty(); SET_WIDTH];
     for (l, row) in rows.iter().enumerate() {
         let own = p[l] as usize;
-        if !class.contains(own) {
-            class = class_of(&led, own);
+        if classes[own].is_empty() {
+            note_class(&mut classes, class_of(&led, own));
         }
-        mark_row(&mut table[l * n..l * n + n], row.intersection(class));
+        mark_row(&mut table[l * n..l * n + n], row.intersection(classes[own]));
     }
 }

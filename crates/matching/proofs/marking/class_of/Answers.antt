@@ -18,8 +18,8 @@ module _ (on back rest rest' class class' : ℕ → Bool) (c : ℕ)
         let here : eqb j c ≡ true = eq-eqb j c e in
         let a : on j ≡ true = ap on e ∙ to in
         let b : back j ≡ true = ap back e ∙ from in
-        known (on j) (back j) (rest j) (rest' j) (class j) (class' j) (eqb j c) (left j) (put j) here
-        a b
+        known (on j) (back j) (rest j) (rest' j) (class j) (class' j) (eqb j c) (left j) (put j)
+        here a b
     | inr ne ↦
         other (on j) (back j) (rest j) (rest' j) (class j) (class' j) (eqb j c) (left j) (put j)
         (is j) (ne_eqb j c ne)

@@ -7,8 +7,8 @@ use Rattle.matching.proofs.marking.leads.Goals as goal
 pub loop-k-init : goal.loop-k-init
 loop-k-init c =
     let rows = c.args.rows.now in
-    closing_start (length rows) (holds rows) c.args.p.now c.requires.pairs (holds c.steps-led.result)
-    c.steps-led.ensures
+    closing_start (length rows) (holds rows) c.args.p.now c.requires.pairs
+    (holds c.steps-led.result) c.steps-led.ensures
 
 pub loop-k-preserved : goal.loop-k-preserved
 loop-k-preserved c =

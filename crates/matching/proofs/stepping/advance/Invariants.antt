@@ -1,5 +1,5 @@
--- Nothing has changed, no pairing that agrees with p below l comes after it, and the holders tell of
--- the left blocks from l on.
+-- Nothing has changed, no pairing that agrees with p below l comes after it, and the holders tell
+-- of the left blocks from l on.
 use Rattle.std.proofs.Common.{◌≡◌}
 use Rattle.matching.specs.Exchange.{HeldFrom}
 use Rattle.matching.proofs.Order.{Exhausted}

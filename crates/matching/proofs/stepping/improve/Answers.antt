@@ -1,5 +1,6 @@
 -- The state of the loop is that of proofs/Trying.antt, and each way out is one of its conclusions.
-use Rattle.std.proofs.Common.{◌≡◌, ℕ, ◌+◌, ◌<◌, ◌≤◌, Bool, true, false, not, ◌&&◌, eqb, ltb, List, length}
+use Rattle.std.proofs.Common.{◌≡◌, ℕ, ◌+◌, ◌<◌, ◌≤◌, Bool, true, false, not, ◌&&◌, eqb, ltb, List}
+use Rattle.std.proofs.Common.{length}
 use Rattle.std.proofs.Common.{sym, refl, ◌∙◌, subst, inl, inr, arith}
 use Rattle.std.proofs.lemmas.Bool.Decides.{nat_tests}
 use Rattle.std.proofs.lemmas.Bool.{cases_lt, both_ways, and_parts}
@@ -89,7 +90,8 @@ loop-r-init c =
       trying_start rows p l c.requires.small c.requires.pairs c.requires.inside
           (has c.of-alone.result) (has w.held) w.row c.of-alone.ensures
           (holding rows p p l w (has c.of-alone.result) c.requires.small c.requires.inside
-          c.of-alone.ensures c.requires.pairs refl c.requires.held) (has c.union-live.result) (has c.of-goals.result)
+          c.of-alone.ensures c.requires.pairs refl c.requires.held) (has c.union-live.result)
+          (has c.of-goals.result)
           c.of-goals.ensures c.union-live.ensures,
       λ j. floored (holds rows l j) (has c.union-live.result j)
           (has c.difference-candidates.result j) (has c.intersection.result j) (has c.all.result j)
