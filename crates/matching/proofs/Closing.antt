@@ -116,4 +116,5 @@ module _ (n : ℕ) (tight : ℕ → ℕ → Bool) (p : List ℕ) where
           follow _ here low = s.steps l (at p l) i low (h.standing l i)
           follow _ (step m d le lt w t) low =
               s.closed (at p l) (at p m) d (h.below l i) (h.below m lt)
-              (omega (arith, h.below m lt)) (follow (at p m) w (h.below m lt)) (s.steps m d lt low t)
+              (omega (arith, h.below m lt)) (follow (at p m) w (h.below m lt))
+              (s.steps m d lt low t)

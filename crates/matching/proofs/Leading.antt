@@ -3,8 +3,9 @@
 -- one that its left block has. That is a theorem on chains, and the table of leads tells the
 -- chains. Since the step from the right block of a left block to any one of its row is a chain too,
 -- these are just the right blocks of its row that are in one class with its own.
-use Rattle.std.proofs.Common.{◌≡◌, ℕ, ◌+◌, ◌<◌, ◌≤◌, Bool, true, false, cond, ◌&&◌, ◌⊎◌, ltb, List, length}
-use Rattle.std.proofs.Common.{Decides, sym, refl, ap, ◌∙◌, subst, inl, inr, arith, rules}
+use Rattle.std.proofs.Common.{◌≡◌, ℕ, ◌+◌, ◌<◌, ◌≤◌, Bool, true, false, cond, ◌&&◌, ◌⊎◌, ltb}
+use Rattle.std.proofs.Common.{List, length, Decides, sym, refl, ap, ◌∙◌, subst, inl, inr, arith}
+use Rattle.std.proofs.Common.{rules}
 use Rattle.std.proofs.Math.Bool.{and-false}
 use borrow.Rule.Slice.PartMut.{put_mid}
 use Rattle.std.proofs.lemmas.List.{places}

@@ -109,8 +109,8 @@ fn mark_row(marks: &mut [u8], set: BlockSet)
 
 /// Writes 1 for each pair that some perfect pairing over the rows has, and 0 for every other pair:
 /// place l × n + r of the table is that of left block l and right block r. `p` has to be a perfect
-/// pairing over the rows. It takes n searches. This is for a caller that does not know that all
-/// this fits; one that does calls `mark_all`.
+/// pairing over the rows. It takes n rounds over n sets. This is for a caller that does not know
+/// that all this fits; one that does calls `mark_all`.
 pub fn marks(rows: &[BlockSet], p: &[u16], table: &mut [u8]) -> Result<(), Unfit>
     ensures accepted { IsOk result
         ↔ (Fits rows.now p.now × length table.old ≡ places_of (length rows.now)) }

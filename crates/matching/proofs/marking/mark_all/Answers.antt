@@ -41,7 +41,8 @@ loop-l-preserved c =
     let low : at p l < n = c.requires.pairs.below l inside in
     let short : l * n ≤ length c.loop-l.table = omega (arith, row_end l n inside) in
     let known : Classes n led classes
-    × ((j : ℕ) → j < n → holds classes (at p l) j ≡ (holds led (at p l) j && holds led j (at p l))) =
+    × ((j : ℕ) → j < n
+    → holds classes (at p l) j ≡ (holds led (at p l) j && holds led j (at p l))) =
     elim c.if-is_empty.branch [
       | then-is_empty w ↦
           let class = has w.class_of.result in

@@ -9,4 +9,5 @@ invariant-loop-c l =
     (goal.iterator-loop-c).can_next l.c-iterator × (goal.iterator-loop-c).is_finite l.c-iterator
     × ((j : ℕ) → has l.c-iterator j ≡ true → has l.class j ≡ true) × (length l.classes ≡ 64)
     × ((i j : ℕ) → holds l.classes i j
-    ≡ cond (has l.class i && not (has l.c-iterator i)) (has l.class j) (holds l.initial.classes i j))
+    ≡ cond (has l.class i && not (has l.c-iterator i)) (has l.class j)
+    (holds l.initial.classes i j))
