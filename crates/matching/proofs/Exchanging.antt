@@ -42,13 +42,13 @@ module _ (n : ℕ) (p : List ℕ) (out reached : ℕ → Bool) (from rank : List
     pub came : (l : ℕ) → l < n → (at q l ≡ at p l)
         ⊎ ((reached (at q l) ≡ true) × (at from (at q l) ≡ l))
 
-  -- the holders tell of q but for the hole
-  pub record Telling (q row : List ℕ) (held : ℕ → Bool) (block : ℕ) : Type 0 where
+  -- the holders tell of the left blocks of q from k on, but for the hole
+  pub record Telling (k : ℕ) (q row : List ℕ) (held : ℕ → Bool) (block : ℕ) : Type 0 where
     pub taken : held block ≡ true
-    pub had : (l : ℕ) → l < n → out l ≡ false → held (at q l) ≡ true
-    pub whose : (l : ℕ) → l < n → out l ≡ false → at row (at q l) ≡ l
+    pub had : (l : ℕ) → k ≤ l → l < n → out l ≡ false → held (at q l) ≡ true
+    pub whose : (l : ℕ) → k ≤ l → l < n → out l ≡ false → at row (at q l) ≡ l
     pub owner : (c : ℕ) → held c ≡ true → (c ≡ block → ⊥)
-        → (at row c < n) × (out (at row c) ≡ false) × (at q (at row c) ≡ c)
+        → (k ≤ at row c) × (at row c < n) × (out (at row c) ≡ false) × (at q (at row c) ≡ c)
 
   height_out : (l : ℕ) → out l ≡ true → height l ≡ 0
   height_out l t = cond-true (out l) 0 (suc (at rank (at p l))) t
@@ -148,8 +148,8 @@ module _ (n : ℕ) (p : List ℕ) (out reached : ℕ → Bool) (from rank : List
 
       -- ---- the holders
 
-      module _ (row : List ℕ) (held : ℕ → Bool) (t : Telling q row held block)
-          (fits : n ≤ length row) where
+      module _ (k : ℕ) (high : (c : ℕ) → reached c ≡ true → k ≤ at from c) (row : List ℕ)
+          (held : ℕ → Bool) (t : Telling k q row held block) (fits : n ≤ length row) where
         row_l : at (set row block (at from block)) block ≡ at from block
         row_l = get_or-set_same row block (at from block) 0 (omega (arith, x.hole.inside))
 
@@ -157,11 +157,11 @@ module _ (n : ℕ) (p : List ℕ) (out reached : ℕ → Bool) (from rank : List
         row_other c ne = get_or-set_other row block c (at from block) 0 ne
 
         -- whose right block another left block has
-        stays : (m : ℕ) → m < n → out m ≡ false → (m ≡ at from block → ⊥)
+        stays : (m : ℕ) → k ≤ m → m < n → out m ≡ false → (m ≡ at from block → ⊥)
             → at (set row block (at from block)) (at (set q (at from block) block) m) ≡ m
-        stays m i f ne =
+        stays m le i f ne =
             ap (at (set row block (at from block))) (at_other m ne)
-            ∙ row_other (at q m) (x.hole.free m i f) ∙ t.whose m i f
+            ∙ row_other (at q m) (x.hole.free m i f) ∙ t.whose m le i f
 
         takes : (m : ℕ) → m ≡ at from block
             → at (set row block (at from block)) (at (set q (at from block) block) m) ≡ m
@@ -169,25 +169,26 @@ module _ (n : ℕ) (p : List ℕ) (out reached : ℕ → Bool) (from rank : List
             ap (at (set row block (at from block))) (ap (at (set q (at from block) block)) e ∙ at_l)
             ∙ row_l ∙ sym e
 
-        has_one : (m : ℕ) → m < n → out m ≡ false → (m ≡ at from block → ⊥)
+        has_one : (m : ℕ) → k ≤ m → m < n → out m ≡ false → (m ≡ at from block → ⊥)
             → held (at (set q (at from block) block) m) ≡ true
-        has_one m i f ne = ap held (at_other m ne) ∙ t.had m i f
+        has_one m le i f ne = ap held (at_other m ne) ∙ t.had m le i f
 
         has_this : (m : ℕ) → m ≡ at from block → held (at (set q (at from block) block) m) ≡ true
         has_this m e = ap held (ap (at (set q (at from block) block)) e ∙ at_l) ∙ t.taken
 
-        pub telling_more : out (at from block) ≡ false → Telling (set q (at from block) block)
+        pub telling_more : out (at from block) ≡ false → Telling k (set q (at from block) block)
             (set row block (at from block)) held (at q (at from block))
         telling_more f = record {
-          taken = t.had (at from block) x.hole.taker f;
-          had = λ m i g. elim (cases_eq m (at from block))
-              [ inl e ↦ has_this m e | inr ne ↦ has_one m i g ne ];
-          whose = λ m i g. elim (cases_eq m (at from block))
-              [ inl e ↦ takes m e | inr ne ↦ stays m i g ne ];
+          taken = t.had (at from block) (high block x.member) x.hole.taker f;
+          had = λ m le i g. elim (cases_eq m (at from block))
+              [ inl e ↦ has_this m e | inr ne ↦ has_one m le i g ne ];
+          whose = λ m le i g. elim (cases_eq m (at from block))
+              [ inl e ↦ takes m e | inr ne ↦ stays m le i g ne ];
           owner = λ c h ne. elim (cases_eq c block) [
             | inl e ↦
                 let is : at (set row block (at from block)) c ≡ at from block =
                 ap (at (set row block (at from block))) e ∙ row_l in (
+                  subst (λ m. k ≤ m) (sym is) (high block x.member),
                   subst (λ m. m < n) (sym is) x.hole.taker,
                   ap out is ∙ f,
                   ap (at (set q (at from block) block)) is ∙ at_l ∙ sym e,
@@ -195,34 +196,37 @@ module _ (n : ℕ) (p : List ℕ) (out reached : ℕ → Bool) (from rank : List
             | inr a ↦
                 let v = t.owner c h a in
                 let is = row_other c a in (
-                  subst (λ m. m < n) (sym is) v.0,
-                  ap out is ∙ v.1,
+                  subst (λ m. k ≤ m) (sym is) v.0,
+                  subst (λ m. m < n) (sym is) v.1,
+                  ap out is ∙ v.2,
                   ap (at (set q (at from block) block)) is
-                      ∙ at_other (at row c) (λ e. ne (sym v.2 ∙ ap (at q) e)) ∙ v.2,
+                      ∙ at_other (at row c) (λ e. ne (sym v.3 ∙ ap (at q) e)) ∙ v.3,
                 )
           ];
         }
 
-        pub telling_done : out (at from block) ≡ true → Holding 0 n (set q (at from block) block)
+        pub telling_done : out (at from block) ≡ true → Holding k n (set q (at from block) block)
             (without out (at from block)) held (set row block (at from block))
         telling_done o = record {
-          all = λ m _ i g. elim (cases_eq m (at from block)) [
+          all = λ m le i g. elim (cases_eq m (at from block)) [
             | inl e ↦ has_this m e
-            | inr ne ↦ has_one m i (without_from out (at from block) m g ne) ne
+            | inr ne ↦ has_one m le i (without_from out (at from block) m g ne) ne
           ];
-          low = λ c h. omega arith;
-          high = λ c h. (owner c h).0;
-          inside = λ c h. (owner c h).1;
-          owner = λ c h. (owner c h).2;
+          low = λ c h. (owner c h).0;
+          high = λ c h. (owner c h).1;
+          inside = λ c h. (owner c h).2;
+          owner = λ c h. (owner c h).3;
         }
           where
-            owner : (c : ℕ) → held c ≡ true → (at (set row block (at from block)) c < n)
+            owner : (c : ℕ) → held c ≡ true → (k ≤ at (set row block (at from block)) c)
+                × (at (set row block (at from block)) c < n)
                 × (without out (at from block) (at (set row block (at from block)) c) ≡ false)
                 × (at (set q (at from block) block) (at (set row block (at from block)) c) ≡ c)
             owner c h = elim (cases_eq c block) [
               | inl e ↦
                   let is : at (set row block (at from block)) c ≡ at from block =
                   ap (at (set row block (at from block))) e ∙ row_l in (
+                    subst (λ m. k ≤ m) (sym is) (high block x.member),
                     subst (λ m. m < n) (sym is) x.hole.taker,
                     ap (without out (at from block)) is ∙ without_itself out (at from block),
                     ap (at (set q (at from block) block)) is ∙ at_l ∙ sym e,
@@ -231,10 +235,11 @@ module _ (n : ℕ) (p : List ℕ) (out reached : ℕ → Bool) (from rank : List
                   let v = t.owner c h a in
                   let is = row_other c a in
                   let ne : at row c ≡ at from block → ⊥ =
-                  λ e. both_ways (out (at row c)) v.1 (ap out e ∙ o) in (
-                    subst (λ m. m < n) (sym is) v.0,
+                  λ e. both_ways (out (at row c)) v.2 (ap out e ∙ o) in (
+                    subst (λ m. k ≤ m) (sym is) v.0,
+                    subst (λ m. m < n) (sym is) v.1,
                     ap (without out (at from block)) is
-                        ∙ without_other out (at from block) (at row c) v.1,
-                    ap (at (set q (at from block) block)) is ∙ at_other (at row c) ne ∙ v.2,
+                        ∙ without_other out (at from block) (at row c) v.2,
+                    ap (at (set q (at from block) block)) is ∙ at_other (at row c) ne ∙ v.3,
                   )
             ]

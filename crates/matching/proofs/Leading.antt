@@ -1,18 +1,19 @@
--- Which right blocks chains lead to, and so which pairs occur.
--- Idea: a search from one left block, with every other left block and right block in play, reaches
--- just the right blocks that chains from its own right block lead to: each reached one is the end
--- of a chain, by going back through the ranks; and along a chain each right block is reached, since
--- the search is complete.
-use Rattle.std.proofs.Common.{◌≡◌, ℕ, zero, suc, ◌+◌, ◌<◌, ◌≤◌, Bool, true, false, ◌&&◌, eqb, ltb}
-use Rattle.std.proofs.Common.{◌⊎◌, List, length, get_or, set, Some, None, Decides, Option, sym}
-use Rattle.std.proofs.Common.{refl, ap, ◌∙◌, subst, inl, inr, arith, rules}
+-- Where a search goes that may use all right blocks, and which pairs occur.
+-- Idea: a pair occurs if exchanging along a chain brings it about: from its right block back to the
+-- one that its left block has. That is a theorem on chains, and the table of leads tells the
+-- chains. Since the step from the right block of a left block to any one of its row is a chain too,
+-- these are just the right blocks of its row that are in one class with its own.
+use Rattle.std.proofs.Common.{◌≡◌, ℕ, ◌+◌, ◌<◌, ◌≤◌, Bool, true, false, cond, ◌&&◌, ◌⊎◌, ltb}
+use Rattle.std.proofs.Common.{List, length, Decides, sym, refl, ap, ◌∙◌, subst, inl, inr, arith}
+use Rattle.std.proofs.Common.{rules}
+use Rattle.std.proofs.Math.Bool.{and-false}
 use borrow.Rule.Slice.PartMut.{put_mid}
-use Rattle.std.proofs.lemmas.List.{get_or-set_same, get_or-set_other, places}
-use Rattle.std.proofs.lemmas.Bool.Decides.{Decides-at, same_from_decides}
-use Rattle.std.proofs.lemmas.Bool.{cases_eq, cases_Bool, both_ways, and_parts, and_from, cond-true}
+use Rattle.std.proofs.lemmas.List.{places}
+use Rattle.std.proofs.lemmas.Bool.Decides.{same_from_decides}
+use Rattle.std.proofs.lemmas.Bool.{cases_Bool, both_ways, and_parts, and_from, cond-true}
 use Rattle.std.proofs.lemmas.Bool.{cond-false, lt-ltb}
 use Rattle.blockset.specs.declared.BlockSet.{BlockSet}
-use Rattle.blockset.specs.Has.{no_blocks, has}
+use Rattle.blockset.specs.Has.{has}
 use Rattle.pairing.specs.Grid.{at}
 use Rattle.pairing.specs.Chains.{Chain, here, step}
 use Rattle.pairing.specs.Optima.{has_pair}
@@ -21,9 +22,8 @@ use Rattle.pairing.proofs.Sending.{sends_if_chain_lem}
 use Rattle.pairing.proofs.Listing.{in_perfects, has_tells}
 use Rattle.matching.specs.declared.chains.Bounds.{Bounds}
 use Rattle.pairing.specs.Rows.{holds, Pairs, pairings}
-use Rattle.matching.specs.Exchange.{Holding}
-use Rattle.matching.specs.Search.{along, ReachedBy, Complete, Ended, Led}
-use Rattle.matching.proofs.Trying.{one_in, one_is, one_not}
+use Rattle.matching.proofs.Closing.{joined}
+use Rattle.matching.specs.Search.{along, Led}
 
 -- all right blocks below n are offered, and all are live
 pub record Wide (n : ℕ) (b : Bounds) : Type 0 where
@@ -42,95 +42,9 @@ module _ (rows : List BlockSet) (b : Bounds) (few : length rows ≤ 64)
         | inr f ↦ cond-false _ _ _ f ∙ wide.live c ∙ in_both
       ])
 
--- a search without goals is complete
-pub vain : (along : ℕ → ℕ → Bool) (roots held goals : ℕ → Bool) (row : List ℕ) (reached : ℕ → Bool)
-    (end : Option ℕ) → ((c : ℕ) → goals c ≡ false)
-    → Ended along roots held goals row reached end → Complete along roots held row reached
-vain along roots held goals row reached None none e = e.0
-vain along roots held goals row reached (Some c) none e = absurd (both_ways (goals c) (none c) e.1)
-
 pub along-holds : (rows : List BlockSet) (b : Bounds) (l c : ℕ) → along rows b l c ≡ true
     → holds rows l c ≡ true
 along-holds rows b l c a = (and_parts (holds rows l c) _ a).0
-
-module _ (rows : List BlockSet) (p : List ℕ) (m : ℕ) (few : length rows ≤ 64) (h : Pairs rows p)
-    (i : m < length rows) (b : Bounds) (held : ℕ → Bool) (row : List ℕ)
-    (wide : Wide (length rows) b) (roots-are : (j : ℕ) → has b.roots j ≡ (ltb j 64 && eqb j m))
-    (hold : Holding 0 (length rows) p (has b.roots) held row)
-    (reached : ℕ → Bool) (from rank : List ℕ)
-    (w : ReachedBy (length rows) (along rows b) (has b.roots) held row reached from rank)
-    (d : Complete (along rows b) (has b.roots) held row reached) where
-  small_m : m < 64
-  small_m = omega arith
-
-  reached_chain : (k c : ℕ) → at rank c < k → reached c ≡ true → Chain (length rows) 0
-      (holds rows) p (at p m) c
-  reached_chain zero c less t = absurd (omega arith)
-  reached_chain (suc k) c less t = elim (w.back c t) [
-    | inl r ↦
-        let e : at from c ≡ m = one_is (has b.roots) m small_m roots-are (at from c) r in
-        step m c (omega arith) i here
-        (subst (λ x. holds rows x c ≡ true) e (along-holds rows b (at from c) c (w.by c t)))
-    | inr v ↦
-        let x = v.0 in
-        let before : Chain (length rows) 0 (holds rows) p (at p m) (at p (at from c)) =
-        subst (Chain (length rows) 0 (holds rows) p (at p m))
-        (sym (ap (at p) (sym v.3) ∙ hold.owner x v.2))
-        (reached_chain k x (omega (arith, v.4)) v.1) in
-        step (at from c) c (omega arith) (w.high c t) before
-        (along-holds rows b (at from c) c (w.by c t))
-  ]
-
-  -- what left block l can take is reached if its own right block is, or if it is the root
-  goes_on : (l c : ℕ) → l < length rows → c < length rows → holds rows l c ≡ true → (l ≡ m)
-      ⊎ (reached (at p l) ≡ true) → reached c ≡ true
-  goes_on l c j k x from-where = elim (cases_eq l m) [
-    | inl e ↦ d.rooted l c (ap (has b.roots) e ∙ one_in (has b.roots) m small_m roots-are)
-        (wide_along rows b few wide l c k x)
-    | inr ne ↦ elim from-where [
-      | inl e ↦ absurd (ne e)
-      | inr t ↦
-          let had : held (at p l) ≡ true =
-          hold.all l (omega arith) j (one_not (has b.roots) m small_m roots-are l ne) in
-          let whose : at row (at p l) ≡ l = h.once (at row (at p l)) l (hold.high (at p l) had) j
-          (hold.owner (at p l) had) in
-          d.onward (at p l) c t had
-          (subst (λ y. along rows b y c ≡ true) (sym whose) (wide_along rows b few wide l c k x))
-    ]
-  ]
-
-  chain_reached : (c : ℕ) → Chain (length rows) 0 (holds rows) p (at p m) c → c < length rows
-      → reached c ≡ true
-  chain_reached _ here k = goes_on m (at p m) i k (h.standing m i) (inl refl)
-  chain_reached _ (step l c le j v x) k =
-      goes_on l c j k x (inr (chain_reached (at p l) v (h.below l j)))
-
-  pub leads_tell : (c : ℕ) → c < length rows
-      → Decides (reached c) (Chain (length rows) 0 (holds rows) p (at p m) c)
-  leads_tell c k =
-      (λ t. reached_chain (suc (at rank c)) c (omega arith) t, λ v. chain_reached c v k)
-
--- one left block more
-pub led_more : (rows : List BlockSet) (p : List ℕ) (led : List BlockSet) (l : ℕ) (s : BlockSet)
-    → length rows ≤ 64 → length led ≡ 64 → Pairs rows p → l < length rows → Led l rows p led
-    → ((c : ℕ) → c < length rows
-    → Decides (has s c) (Chain (length rows) 0 (holds rows) p (at p l) c))
-    → Led (l + 1) rows p (set led (at p l) s)
-led_more rows p led l s few sized h i before new x c j k =
-    elim (cases_eq x l) [
-      | inl e ↦
-          let same : get_or (set led (at p l) s) (at p x) no_blocks ≡ s =
-          ap (λ y. get_or (set led (at p l) s) (at p y) no_blocks) e
-          ∙ get_or-set_same led (at p l) s no_blocks (omega (arith, h.below l i)) in
-          Decides-at _ (has s c) (ap (λ y. has y c) same)
-          (subst (λ y. Decides (has s c) (Chain (length rows) 0 (holds rows) p (at p y) c))
-          (sym e) (new c k))
-      | inr ne ↦
-          let apart : at p x ≡ at p l → ⊥ = λ e. ne (h.once x l (omega arith) i e) in
-          Decides-at _ (holds led (at p x) c)
-          (ap (λ y. has y c) (get_or-set_other led (at p l) (at p x) s no_blocks apart))
-          (before x c (omega arith) k)
-    ]
 
 -- the pair of l and r occurs exactly if r is in l's row and a chain leads from r to the right block
 -- that l has
@@ -162,6 +76,81 @@ pair_occurs rows p led l r h leads i j =
     told rows p l r h i j (holds led r (at p l))
     (subst (λ x. Decides (holds led x (at p l)) (Chain (length rows) 0 (holds rows) p x (at p l)))
     o.2 (leads o.0 (at p l) o.1 (h.below l i)))
+
+-- ---- the class of a right block
+
+-- the set has with a right block below n each one that chains lead to from it and back
+abbrev pub IsClass : ℕ → List BlockSet → (ℕ → Bool) → Type 0
+IsClass n led class = (i j : ℕ) → i < n → j < n → class i ≡ true
+    → class j ≡ (holds led i j && holds led j i)
+
+-- what is noted at a right block below n is its class, or nothing
+abbrev pub Classes : ℕ → List BlockSet → List BlockSet → Type 0
+Classes n led classes = (i : ℕ) → i < n
+    → ((a : ℕ) → holds classes i a ≡ false)
+    ⊎ ((j : ℕ) → j < n → holds classes i j ≡ (holds led i j && holds led j i))
+
+-- a class is noted
+pub classes_more : (n : ℕ) (led before after : List BlockSet) (class : ℕ → Bool)
+    → IsClass n led class → Classes n led before
+    → ((i j : ℕ) → holds after i j ≡ cond (class i) (class j) (holds before i j))
+    → Classes n led after
+classes_more n led before after class c old is i a = elim (cases_Bool (class i)) [
+  | inl t ↦ inr (λ j b. is i j ∙ cond-true (class i) _ _ t ∙ c i j a b t)
+  | inr f ↦
+      let stays : (j : ℕ) → holds after i j ≡ holds before i j =
+      λ j. is i j ∙ cond-false (class i) _ _ f in
+      elim (old i a) [ inl e ↦ inl (λ j. stays j ∙ e j) | inr e ↦ inr (λ j b. stays j ∙ e j b) ]
+]
+
+module _ (rows : List BlockSet) (p : List ℕ) (led : List BlockSet) (h : Pairs rows p)
+    (leads : Led (length rows) rows p led) where
+  tells : (i j : ℕ) → i < length rows → j < length rows
+      → Decides (holds led i j) (Chain (length rows) 0 (holds rows) p i j)
+  tells i j a b =
+      let o = onto (length rows) (holds rows) p h i a in
+      subst (λ x. Decides (holds led x j) (Chain (length rows) 0 (holds rows) p x j)) o.2
+      (leads o.0 j o.1 b)
+
+  lead_on : (i m j : ℕ) → i < length rows → m < length rows → j < length rows
+      → holds led i m ≡ true → holds led m j ≡ true → holds led i j ≡ true
+  lead_on i m j a b c t u = (tells i j a c).1
+      (joined (length rows) 0 (holds rows) p i m j ((tells i m a b).0 t) ((tells m j b c).0 u))
+
+  -- that of one right block is a class, and has it
+  module _ (own : ℕ) (low : own < length rows) (class : ℕ → Bool)
+      (is : (j : ℕ) → class j ≡ (holds led own j && holds led j own)) where
+    pub is_class : IsClass (length rows) led class
+    is_class i j a b t =
+        let both = and_parts (holds led own i) (holds led i own) (sym (is i) ∙ t) in
+        is j ∙ same (holds led own j) (holds led j own) (holds led i j) (holds led j i)
+        (lead_on i own j a low b both.1) (λ u. lead_on j own i b low a u both.0)
+        (lead_on own i j low a b both.0) (λ u. lead_on j i own b a low u both.1)
+      where
+        same : (x y u v : Bool) → (x ≡ true → u ≡ true) → (y ≡ true → v ≡ true)
+            → (u ≡ true → x ≡ true) → (v ≡ true → y ≡ true) → (x && y) ≡ (u && v)
+        same true true u v f g _ _ = sym (and_from u v (f refl) (g refl))
+        same true false u true f g _ k = absurd (both_ways false refl (k refl))
+        same true false u false f g _ _ = sym (and-false u)
+        same false y true v f g k _ = absurd (both_ways false refl (k refl))
+        same false y false v f g _ _ = refl
+
+    pub in_class : class own ≡ true
+    in_class = let t = (tells own own low low).1 here in is own ∙ and_from _ _ t t
+
+  -- what a left block has in turn is what its row has of the class of its right block
+  pub class_occurs : (l r : ℕ) → l < length rows → r < length rows → (class : ℕ → Bool)
+      → ((j : ℕ) → j < length rows → class j ≡ (holds led (at p l) j && holds led j (at p l)))
+      → (holds rows l r && class r) ≡ has_pair l r (pairings rows)
+  class_occurs l r i j class c =
+      within (holds rows l r) (class r) (holds led (at p l) r) (holds led r (at p l))
+      (c r j)
+      (λ u. (leads l r i j).1 (step l r (omega arith) i here u))
+      ∙ pair_occurs rows p led l r h leads i j
+    where
+      within : (t d x y : Bool) → d ≡ (x && y) → (t ≡ true → x ≡ true) → (t && d) ≡ (t && y)
+      within true d x y e f = e ∙ ap (λ b. b && y) (f refl)
+      within false d x y e f = refl
 
 -- ---- a row of the table is written
 

@@ -2,8 +2,10 @@ pub mod Inserting
 pub mod Searching
 pub mod Exchanging
 pub mod Trying
+pub mod Held
 pub mod Order
 pub mod Places
 pub mod Leading
+pub mod Closing
 pub mod Most
 pub mod Nth

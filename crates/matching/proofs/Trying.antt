@@ -101,6 +101,14 @@ module _ (alone : ℕ → Bool) (l : ℕ) (small : l < 64)
   pub one_other : (j : ℕ) → alone j ≡ false → j ≡ l → ⊥
   one_other j f e = both_ways (alone j) f (ap alone e ∙ one_in)
 
+  -- when l is paired none is left out
+  pub none_left : (paired : ℕ) → alone paired ≡ true → (m : ℕ) → without alone paired m ≡ false
+  none_left paired t m = elim (cases_eq m paired) [
+    | inl e ↦ ap (without alone paired) e ∙ without_itself alone paired
+    | inr ne ↦
+        without_other alone paired m (one_not m (λ e. ne (e ∙ sym (one_is paired t))))
+  ]
+
 module _ (rows : List BlockSet) (p : List ℕ) (l : ℕ) (few : length rows ≤ 64) (h : Pairs rows p)
     (i : l < length rows)
     (alone held : ℕ → Bool) (row : List ℕ) (is-alone : (j : ℕ) → alone j ≡ (ltb j 64 && eqb j l))
@@ -207,27 +215,24 @@ module _ (rows : List BlockSet) (p : List ℕ) (l : ℕ) (few : length rows ≤ 
             ];
           }
 
+      -- it came by no left block before l
+      pub from_later : (c : ℕ) → reached c ≡ true → l ≤ at from c
+      from_later c x = elim (w.back c x) [
+        | inl e ↦
+            (let z = one_is alone l small_l is-alone (at from c)
+            (sym (roots-are (at from c)) ∙ e) in omega arith)
+        | inr v ↦ omega (arith, has-rows.low v.0 v.2, v.3)
+      ]
+
       -- the search came to l's own right block, and the pairs along the chain were exchanged
       pub sent : (q : List ℕ) (paired : ℕ) → Exchanged (length rows) p q alone reached from paired
           → Pairs rows q × Agree l p q × (at q l ≡ r)
       sent q paired f =
           let is-l : paired ≡ l = one_is alone l small_l is-alone paired f.was_out in
-          let all : (m : ℕ) → without alone paired m ≡ false =
-          λ m. elim (cases_eq m paired) [
-            | inl e ↦ ap (without alone paired) e ∙ without_itself alone paired
-            | inr ne ↦
-                without_other alone paired m
-                (one_not alone l small_l is-alone m (λ e. ne (e ∙ sym is-l)))
-          ] in
+          let all = none_left alone l small_l is-alone paired f.was_out in
           let whole = f.distinct in
           let by : (c : ℕ) → reached c ≡ true → holds rows (at from c) c ≡ true =
-          λ c x. (and_parts (holds rows (at from c) c) _ (w.by c x)).0 in
-          let later : (c : ℕ) → reached c ≡ true → l ≤ at from c = λ c x. elim (w.back c x) [
-            | inl e ↦
-                (let z = one_is alone l small_l is-alone (at from c)
-                (sym (roots-are (at from c)) ∙ e) in omega arith)
-            | inr v ↦ omega (arith, has-rows.low v.0 v.2, v.3)
-          ] in (
+          λ c x. (and_parts (holds rows (at from c) c) _ (w.by c x)).0 in (
             record {
               len = whole.len;
               below = λ m j. whole.below m j (all m);
@@ -240,7 +245,7 @@ module _ (rows : List BlockSet) (p : List ℕ) (l : ℕ) (few : length rows ≤ 
               once = λ m x j k e. whole.once m x j k (all m) (all x) e;
             },
             (λ m j. elim (f.came m (omega arith))
-                [ inl e ↦ e.1 | inr e ↦ absurd (omega (arith, later (at q m) e.0, e.1)) ]),
+                [ inl e ↦ e.1 | inr e ↦ absurd (omega (arith, from_later (at q m) e.0, e.1)) ]),
             elim (f.came l i) [
               | inl e ↦ absurd (e.0 (sym is-l))
               | inr e ↦

@@ -1,6 +1,9 @@
 -- Exchanging the pairs along a chain: the holders that a pairing has, the ways back along chains,
 -- and what the exchange makes.
 use Rattle.std.specs.Prelude.{◌≡◌, ℕ, ◌<◌, ◌≤◌, Bool, true, false, not, ◌&&◌, ◌⊎◌, List, ◌==◌, ◌≢◌}
+use Rattle.std.specs.Prelude.{length}
+use Rattle.blockset.specs.Has.{has}
+use Rattle.matching.specs.declared.chains.Holders.{Holders}
 use Rattle.pairing.specs.Grid.{at}
 use Rattle.pairing.specs.Largest.{Partial}
 
@@ -20,6 +23,10 @@ pub record Holding (k m : ℕ) (p : List ℕ) (out held : ℕ → Bool) (row : L
   pub high : (c : ℕ) → held c ≡ true → at row c < m
   pub inside : (c : ℕ) → held c ≡ true → out (at row c) ≡ false
   pub owner : (c : ℕ) → held c ≡ true → at p (at row c) ≡ c
+
+-- the holders tell which right blocks the left blocks from k on have, and whose each is
+abbrev pub HeldFrom : ℕ → List ℕ → Holders → Type 0
+HeldFrom k p h = Holding k (length p) p (λ _. false) (has h.held) h.row
 
 -- The ways back from the reached right blocks: each is reached from a left block of `out`, or from
 -- one whose right block is reached too and has a smaller rank.

@@ -2,11 +2,12 @@
 //! right block of its row, on to the left block that has that right block, and so on.
 
 ghost use Rattle.std.specs.Prelude.{◌≡◌, ℕ, ◌<◌, ◌≤◌, true, false, ◌||◌, length, IfSome, IfNone};
-ghost use Rattle.std.specs.Prelude.{◌==◌, ◌≢◌};
+ghost use Rattle.std.specs.Prelude.{◌==◌, ◌≢◌, ◌+◌};
 ghost use Rattle.blockset.specs.declared.TheConstants.{MOST_BLOCKS, SET_WIDTH};
 ghost use Rattle.blockset.specs.Has.{has};
 ghost use Rattle.pairing.specs.Grid.{at};
-ghost use Rattle.matching.specs.Exchange.{without, GivesDistinct, Holding, Ways, Exchanged};
+ghost use Rattle.matching.specs.Exchange.{without, GivesDistinct, Holding, HeldFrom, Ways};
+ghost use Rattle.matching.specs.Exchange.{Exchanged};
 ghost use Rattle.matching.specs.Search.{along, ReachedBy, Ended};
 
 use blockset::{BlockSet, SET_WIDTH};
@@ -16,6 +17,31 @@ use blockset::{BlockSet, SET_WIDTH};
 pub struct Holders {
     pub held: BlockSet,
     pub row: [u8; SET_WIDTH],
+}
+
+impl Holders {
+    /// Tells of left block `l` too, where it told of those after it.
+    pub fn put_in(&mut self, p: &[u16], l: usize)
+        requires small { length p.now ≤ MOST_BLOCKS }
+        requires inside { l < length p.now }
+        requires block { at p.now l < SET_WIDTH }
+        requires later { HeldFrom (l + 1) p.now self.old }
+        ensures { HeldFrom l p.now self.new }
+    {
+        let block = p[l] as usize;
+        self.held.insert(block);
+        self.row[block] = l as u8;
+    }
+
+    /// Tells no more of left block `l`, the first that it told of.
+    pub fn take_out(&mut self, p: &[u16], l: usize)
+        requires inside { l < length p.now }
+        requires once { (m : ℕ) → m < length p.now → at p.now m ≡ at p.now l → m ≡ l }
+        requires first { HeldFrom l p.now self.old }
+        ensures { HeldFrom (l + 1) p.now self.new }
+    {
+        self.held.remove(p[l] as usize);
+    }
 }
 
 /// What a search may use: the left blocks that it starts from, the right blocks that these may
@@ -153,6 +179,13 @@ pub fn exchange(
     // Holders that told of the whole pairing do so still.
     ensures told { Holding 0 (length p.old) p.old (has out) (has holders.old.held) holders.old.row
         → Holding 0 (length p.old) p.new (without (has out) result) (has holders.new.held)
+        holders.new.row }
+
+    // So do those that told of the left blocks from k on, where the search came by no other one.
+    ensures told_from { (k : ℕ)
+        → ((c : ℕ) → has reach.now.reached c ≡ true → k ≤ at reach.now.from c)
+        → Holding k (length p.old) p.old (has out) (has holders.old.held) holders.old.row
+        → Holding k (length p.old) p.new (without (has out) result) (has holders.new.held)
         holders.new.row }
 {
     holders.held.insert(goal);

@@ -6,10 +6,10 @@
 //! perfect pairing, which pairs every left block, `first` and `next` go through all perfect
 //! pairings in dictionary order, and `marks` tells which pairs occur in any of them.
 //!
-//! All of them search along alternating chains: from a left block to a right block of its row, on
-//! to the left block that has that right block, and so on. Exchanging the pairs along a chain makes
+//! All of them go by alternating chains: from a left block to a right block of its row, on to the
+//! left block that has that right block, and so on. Exchanging the pairs along a chain makes
 //! another pairing. A search takes up each left block and each right block at most once, so it
-//! takes at most 2n steps of a few set operations each.
+//! takes at most 2n steps of a few set operations each. `marks` closes the single steps instead.
 #![tactic(auto)]
 
 mod augmenting;

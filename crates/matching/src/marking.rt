@@ -1,7 +1,7 @@
 //! The pairs that occur in some perfect pairing.
 
-ghost use Rattle.std.specs.Prelude.{◌≡◌, ℕ, ◌<◌, ◌≤◌, ◌&&◌, ◌↔◌, length, if◌then◌else◌, IsOk};
-ghost use Rattle.std.specs.Prelude.{IfErr, OnOk, OnErr};
+ghost use Rattle.std.specs.Prelude.{◌≡◌, ℕ, ◌<◌, ◌≤◌, ◌&&◌, ◌||◌, ◌↔◌, length, if◌then◌else◌, IsOk};
+ghost use Rattle.std.specs.Prelude.{IfErr, OnOk, OnErr, nat_lt};
 ghost use Rattle.blockset.specs.declared.TheConstants.{MOST_BLOCKS};
 ghost use Rattle.blockset.specs.Has.{has};
 ghost use Rattle.pairing.specs.Grid.{at};
@@ -11,56 +11,106 @@ ghost use Rattle.matching.specs.Fit.{Fits, IsFirstCause};
 ghost use Rattle.matching.specs.Search.{Led};
 ghost use Rattle.matching.specs.Answers.{MarksOf};
 
-use crate::chains::{Bounds, find_holders, search};
 use crate::fitting::{Unfit, fit};
 use blockset::{BlockSet, MOST_BLOCKS, SET_WIDTH};
 
-/// The right blocks that chains lead to from each right block: what the left block that has it can
-/// take, and so on. One search each.
+/// The right blocks that one step leads to from each right block: what the left block that has it
+/// can take.
+fn steps(rows: &[BlockSet], p: &[u16]) -> [BlockSet; SET_WIDTH]
+    requires small { length rows.now ≤ MOST_BLOCKS }
+    requires pairs { Pairs rows.now p.now }
+    ensures { (l c : ℕ) → l < length rows.now
+        → holds result (at p.now l) c ≡ (holds rows.now l c && nat_lt c (length rows.now)) }
+{
+    let all = BlockSet::all(rows.len());
+    let mut led = [BlockSet::empty(); SET_WIDTH];
+    for (l, row) in rows.iter().enumerate() {
+        led[p[l] as usize] = row.intersection(all);
+    }
+    led
+}
+
+/// A set of right blocks, and those of `on` too if right block `k` is in it. There is no branch in
+/// it, so that a loop over it takes several sets at a time.
+fn led_on(set: BlockSet, k: usize, on: BlockSet) -> BlockSet
+    requires { k < SET_WIDTH }
+    ensures { (j : ℕ) → has result j ≡ (has set j || (has set k && has on j)) }
+{
+    let more = if set.intersection(BlockSet::of(k)).is_empty() {
+        BlockSet::empty()
+    } else {
+        on
+    };
+    set.union(more)
+}
+
+/// Lets each of the first `n` right blocks that leads to right block `k` lead on from there.
+fn lead_through(led: &mut [BlockSet; SET_WIDTH], n: usize, k: usize)
+    requires small { n ≤ SET_WIDTH }
+    requires inside { k < n }
+    ensures { (i j : ℕ) → i < n
+        → holds led.new i j ≡ (holds led.old i j || (holds led.old i k && holds led.old k j)) }
+{
+    let on = led[k];
+    for i in 0..n {
+        led[i] = led_on(led[i], k, on);
+    }
+}
+
+/// The right blocks that chains lead to from each right block. Chains that pass no right block but
+/// the first k, between their ends, are known after k rounds; so after n rounds all are.
 fn leads(rows: &[BlockSet], p: &[u16]) -> [BlockSet; SET_WIDTH]
     requires small { length rows.now ≤ MOST_BLOCKS }
     requires pairs { Pairs rows.now p.now }
     ensures { Led (length rows.now) rows.now p.now result }
 {
-    let all = BlockSet::all(rows.len());
-    let mut led = [BlockSet::empty(); SET_WIDTH];
-    for l in 0..rows.len() {
-        let alone = BlockSet::of(l);
-        let holders = find_holders(p, 0, alone);
-        let bounds = Bounds {
-            roots: alone,
-            offer: all,
-            live: all,
-            goals: BlockSet::empty(),
-        };
-        led[p[l] as usize] = search(rows, &holders, bounds).reached;
+    let mut led = steps(rows, p);
+    for k in 0..rows.len() {
+        lead_through(&mut led, rows.len(), k);
     }
     led
 }
 
-/// Whether a row holds a right block and chains from it lead to `own`, the right block that the
-/// row's left block has.
-fn occurs(row: BlockSet, led: BlockSet, r: usize, own: usize) -> bool
-    ensures { result ≡ (has row r && has led own) }
+/// The right blocks that chains lead to from `own` and back from there.
+fn class_of(led: &[BlockSet; SET_WIDTH], own: usize) -> BlockSet
+    requires { own < SET_WIDTH }
+    ensures { (j : ℕ) → has result j ≡ (holds led.now own j && holds led.now j own) }
 {
-    row.contains(r) && led.contains(own)
+    let mut class = BlockSet::empty();
+    for c in led[own] {
+        if led[c].contains(own) {
+            class.insert(c);
+        }
+    }
+    class
 }
 
-/// Marks the right blocks that occur with the left block of a row.
-fn mark_row(marks: &mut [u8], row: BlockSet, own: usize, led: &[BlockSet])
-    requires { length marks.old ≤ length led.now }
-    ensures { (r : ℕ) → r < length marks.old
-        → at marks.new r ≡ (if has row r && holds led.now r own then 1 else 0) }
+/// Notes a class at each right block that is in it.
+fn note_class(classes: &mut [BlockSet; SET_WIDTH], class: BlockSet)
+    ensures { (i j : ℕ) → holds classes.new i j
+        ≡ (if has class i then has class j else holds classes.old i j) }
 {
-    for (r, mark) in marks.iter_mut().enumerate() {
-        *mark = u8::from(occurs(row, led[r], r, own));
+    for c in class {
+        classes[c] = class;
+    }
+}
+
+/// Marks the right blocks of a set.
+fn mark_row(marks: &mut [u8], set: BlockSet)
+    requires { length marks.old ≤ SET_WIDTH }
+    ensures { (r : ℕ) → r < length marks.old → at marks.new r ≡ (if has set r then 1 else 0) }
+{
+    let mut rest = set.bits();
+    for mark in marks.iter_mut() {
+        *mark = (rest % 2) as u8;
+        rest /= 2;
     }
 }
 
 /// Writes 1 for each pair that some perfect pairing over the rows has, and 0 for every other pair:
 /// place l × n + r of the table is that of left block l and right block r. `p` has to be a perfect
-/// pairing over the rows. It takes n searches. This is for a caller that does not know that all
-/// this fits; one that does calls `mark_all`.
+/// pairing over the rows. It takes n rounds over n sets. This is for a caller that does not know
+/// that all this fits; one that does calls `mark_all`.
 pub fn marks(rows: &[BlockSet], p: &[u16], table: &mut [u8]) -> Result<(), Unfit>
     ensures accepted { IsOk result
         ↔ (Fits rows.now p.now × length table.old ≡ places_of (length rows.now)) }
@@ -82,6 +132,10 @@ pub fn marks(rows: &[BlockSet], p: &[u16], table: &mut [u8]) -> Result<(), Unfit
 }
 
 /// What `marks` does, for a caller that knows that the tables fit: nothing is tested.
+///
+/// The right blocks that chains lead to from a right block and back are a class. A left block has
+/// some of the class of its own right block in turn, just those that its row holds. Each class is
+/// made once.
 pub fn mark_all(rows: &[BlockSet], p: &[u16], table: &mut [u8])
     requires small { length rows.now ≤ MOST_BLOCKS }
     requires pairs { Pairs rows.now p.now }
@@ -90,7 +144,12 @@ pub fn mark_all(rows: &[BlockSet], p: &[u16], table: &mut [u8])
 {
     let n = rows.len();
     let led = leads(rows, p);
+    let mut classes = [BlockSet::empty(); SET_WIDTH];
     for (l, row) in rows.iter().enumerate() {
-        mark_row(&mut table[l * n..l * n + n], *row, p[l] as usize, &led);
+        let own = p[l] as usize;
+        if classes[own].is_empty() {
+            note_class(&mut classes, class_of(&led, own));
+        }
+        mark_row(&mut table[l * n..l * n + n], row.intersection(classes[own]));
     }
 }

@@ -1,17 +1,18 @@
 //! Through the perfect pairings in dictionary order: to the first one, and from one to the next.
 
-ghost use Rattle.std.specs.Prelude.{◌≡◌, ◌<◌, ◌≤◌, ◌↔◌, length, MatchBool, IsOk, IfOk, IfErr, OnOk};
-ghost use Rattle.std.specs.Prelude.{OnErr};
+ghost use Rattle.std.specs.Prelude.{◌≡◌, ◌+◌, ◌<◌, ◌≤◌, ◌↔◌, length, MatchBool, IsOk, IfOk};
+ghost use Rattle.std.specs.Prelude.{IfErr, OnOk, OnErr};
 ghost use Rattle.blockset.specs.declared.TheConstants.{MOST_BLOCKS};
 ghost use Rattle.pairing.specs.Rows.{Pairs, pairings};
 ghost use Rattle.matching.specs.Fit.{Fits, Unfits};
+ghost use Rattle.matching.specs.Exchange.{HeldFrom};
 ghost use Rattle.matching.specs.Improving.{Improved, Unimproved, IsFirstFrom};
 ghost use Rattle.matching.specs.Answers.{IsNth, Follows};
 ghost use Rattle.matching.specs.Numbers.{step_number};
 
-use crate::chains::{Bounds, exchange, find_holders, search};
+use crate::chains::{Bounds, Holders, exchange, find_holders, search};
 use crate::fitting::{Unfit, fit};
-use blockset::BlockSet;
+use blockset::{BlockSet, SET_WIDTH};
 
 /// Where a step from a perfect pairing leads. The numbers are part of the interface and never move:
 /// a host in C sees them.
@@ -33,22 +34,26 @@ impl Step {
 }
 
 /// Sends left block `l` to the least right block from `floor` on that it can have while the left
-/// blocks before it keep theirs; false, and nothing changed, if there is none. A candidate can be
-/// had if a chain leads from it back to the right block that `l` has now. What a search for one
-/// candidate reached in vain is shut to the later searches, so that all of them together reach each
-/// right block at most once. They count as one search over the m left blocks from `l` on, of at
-/// most 3m steps: m right blocks that are reached, m left blocks that are done with, and `l` itself
-/// once for each candidate.
-fn improve(rows: &[BlockSet], p: &mut [u16], l: usize, floor: usize) -> bool
+/// blocks before it keep theirs; false, and nothing changed, if there is none. The holders tell of
+/// the left blocks after `l`: only what one of them has, or `l` itself, is a candidate. So where a
+/// row has none, nothing is searched.
+///
+/// A candidate can be had if a chain leads from it back to the right block that `l` has now. What a
+/// search for one candidate reached in vain is shut to the later searches, so that all of them
+/// together reach each right block at most once. They count as one search over the m left blocks
+/// from `l` on, of at most 3m steps: m right blocks that are reached, m left blocks that are done
+/// with, and `l` itself once for each candidate.
+fn improve(rows: &[BlockSet], p: &mut [u16], holders: &mut Holders, l: usize, floor: usize) -> bool
     requires small { length rows.now ≤ MOST_BLOCKS }
     requires pairs { Pairs rows.now p.old }
     requires inside { l < length rows.now }
-    ensures { MatchBool result (Improved rows.now l floor p.old p.new)
+    requires held { HeldFrom (l + 1) p.old holders.old }
+    ensures improved { MatchBool result (Improved rows.now l floor p.old p.new)
         (Unimproved rows.now l floor p.old p.new) }
+    ensures held { HeldFrom (l + 1) p.new holders.new }
 {
     let own = p[l] as usize;
     let alone = BlockSet::of(l);
-    let holders = find_holders(p, l, alone);
     let goals = BlockSet::of(own);
     let mut live = holders.held.union(goals);
     let mut candidates = rows[l].intersection(live).difference(BlockSet::all(floor));
@@ -62,11 +67,10 @@ fn improve(rows: &[BlockSet], p: &mut [u16], l: usize, floor: usize) -> bool
             live,
             goals,
         };
-        let reach = search(rows, &holders, bounds);
+        let reach = search(rows, holders, bounds);
         if let Some(goal) = reach.goal {
-            // Nothing looks at the holders any more.
-            let mut holders = holders;
-            exchange(p, &mut holders, alone, &reach, goal);
+            exchange(p, holders, alone, &reach, goal);
+            holders.take_out(p, l);
             return true;
         }
         live = live.difference(reach.reached);
@@ -76,15 +80,17 @@ fn improve(rows: &[BlockSet], p: &mut [u16], l: usize, floor: usize) -> bool
 }
 
 /// Makes `p` the first of the pairings that agree with it below `low`, by at most n searches: one
-/// for each left block from `low` on.
-fn make_first_from(rows: &[BlockSet], p: &mut [u16], low: usize)
+/// for each left block from `low` on. The holders tell of those when it begins.
+fn make_first_from(rows: &[BlockSet], p: &mut [u16], holders: &mut Holders, low: usize)
     requires small { length rows.now ≤ MOST_BLOCKS }
     requires pairs { Pairs rows.now p.old }
     requires inside { low ≤ length rows.now }
+    requires held { HeldFrom low p.old holders.old }
     ensures { IsFirstFrom rows.now low p.old p.new }
 {
     for l in low..rows.len() {
-        improve(rows, p, l, 0);
+        holders.take_out(p, l);
+        improve(rows, p, holders, l, 0);
     }
 }
 
@@ -107,7 +113,8 @@ pub fn make_first(rows: &[BlockSet], p: &mut [u16])
     requires pairs { Pairs rows.now p.old }
     ensures { IsNth (pairings rows.now) 0 p.new }
 {
-    make_first_from(rows, p, 0);
+    let mut holders = find_holders(p, 0, BlockSet::empty());
+    make_first_from(rows, p, &mut holders, 0);
 }
 
 /// Makes `p`, which has to be a perfect pairing over the rows, the one that comes next in
@@ -135,12 +142,17 @@ pub fn advance(rows: &[BlockSet], p: &mut [u16]) -> Step
     requires pairs { Pairs rows.now p.old }
     ensures { Follows (pairings rows.now) p.old p.new result }
 {
+    let mut holders = Holders {
+        held: BlockSet::empty(),
+        row: [0; SET_WIDTH],
+    };
     for l in (0..rows.len()).rev() {
-        let floor = p[l] as usize + 1;
-        if improve(rows, p, l, floor) {
-            make_first_from(rows, p, l + 1);
+        let own = p[l] as usize;
+        if improve(rows, p, &mut holders, l, own + 1) {
+            make_first_from(rows, p, &mut holders, l + 1);
             return Step::Next;
         }
+        holders.put_in(p, l);
     }
     Step::End
 }

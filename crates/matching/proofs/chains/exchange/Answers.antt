@@ -24,8 +24,8 @@ chain-preserved c =
           way on;
       same = c.chain.invariant.same;
       sized = length-set row c.chain.block (at x.from c.chain.block) ∙ c.chain.invariant.sized;
-      told = λ h. telling_more n p out reached x.from x.rank c.args.goal c.requires.ways q
-          c.chain.block way row (has c.insert.new.self) (c.chain.invariant.told h)
+      told = λ k h high. telling_more n p out reached x.from x.rank c.args.goal c.requires.ways q
+          c.chain.block way k high row (has c.insert.new.self) (c.chain.invariant.told k h high)
           (omega (arith, c.chain.invariant.sized, c.requires.small)) on;
     }
 
@@ -43,16 +43,20 @@ returns-then-contains-clause-held c j =
     (omega (arith, c.requires.ways.inside c.args.goal c.requires.reached, c.requires.small))
     c.insert.ensures j
 
-pub returns-then-contains-clause-told : goal.returns-then-contains-clause-told
-returns-then-contains-clause-told c h =
+pub returns-then-contains-clause-told_from : goal.returns-then-contains-clause-told_from
+returns-then-contains-clause-told_from c k high h =
     let p = c.args.p.now in
     let n = length p in
     let x = c.args.reach.now in
     let row = c.chain.holders.row in
-    subst (λ s. Holding 0 n (set c.chain.p (at x.from c.chain.block) c.chain.block)
+    subst (λ s. Holding k n (set c.chain.p (at x.from c.chain.block) c.chain.block)
     (without (has c.args.out) (at x.from c.chain.block)) (has s)
     (set row c.chain.block (at x.from c.chain.block))) (sym c.chain.invariant.same)
     (telling_done n p (has c.args.out) (has x.reached) x.from x.rank c.args.goal c.requires.ways
-    c.chain.p c.chain.block c.chain.invariant.way row (has c.insert.new.self)
-    (c.chain.invariant.told h) (omega (arith, c.chain.invariant.sized, c.requires.small))
+    c.chain.p c.chain.block c.chain.invariant.way k high row (has c.insert.new.self)
+    (c.chain.invariant.told k h high) (omega (arith, c.chain.invariant.sized, c.requires.small))
     (sym c.if-contains.ensures))
+
+pub returns-then-contains-clause-told : goal.returns-then-contains-clause-told
+returns-then-contains-clause-told c h =
+    returns-then-contains-clause-told_from c 0 (λ j t. omega arith) h

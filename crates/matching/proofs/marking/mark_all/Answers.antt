@@ -1,40 +1,90 @@
 -- One row more is written: the rows before it stay, and it says which pairs occur.
-use Rattle.std.proofs.Common.{ℕ, ◌+◌, ◌-◌, ◌*◌, ◌<◌, ◌≤◌, cond, length, sym, ap, ◌∙◌, inl, inr}
+use Rattle.std.proofs.Common.{◌≡◌, ◌&&◌, ℕ, ◌+◌, ◌-◌, ◌*◌, ◌<◌, ◌≤◌, cond, length, sym}
+use Rattle.std.proofs.Common.{ap, ◌∙◌, subst, inl, inr}
 use Rattle.std.proofs.Common.{add-mul, one-mul, arith}
 use borrow.Rule.Slice.PartMut.{put_mid}
 use Rattle.std.proofs.lemmas.Nat.{mul-add-lt, mul-le}
-use Rattle.std.proofs.lemmas.Bool.{cases_eq}
+use Rattle.std.proofs.lemmas.Bool.{cases_eq, both_ways, cond-true}
 use Rattle.pairing.specs.Grid.{at}
 use Rattle.pairing.specs.Optima.{has_pair}
-use Rattle.pairing.specs.Rows.{pairings}
-use Rattle.matching.proofs.Leading.{pair_occurs, put_before, put_inside}
+use Rattle.pairing.specs.Rows.{holds, pairings}
+use Rattle.std.proofs.lemmas.List.{get_or-replicate}
+use Rattle.blockset.specs.Has.{has, no_blocks}
+use Rattle.matching.proofs.Leading.{IsClass, Classes, classes_more, is_class, in_class}
+use Rattle.matching.proofs.Leading.{class_occurs, put_before, put_inside}
 use Rattle.matching.proofs.marking.mark_all.Goals as goal
+use Rattle.matching.proofs.marking.mark_all.Goals.{then-is_empty, else-is_empty}
 
 -- the places of row l
 row_end : (l n : ℕ) → l < n → l * n + n ≤ n * n
 row_end l n i = let h : (l + 1) * n ≤ n * n = mul-le (l + 1) n n n (omega arith) (omega arith) in
     omega (arith, add-mul l 1 n, one-mul n)
 
+pub loop-l-init : goal.loop-l-init
+loop-l-init c = record {
+  marked = λ m r i j. absurd (omega arith);
+  classes = λ i a. inl (λ j. ap (λ s. has s j)
+      (get_or-replicate 64 i c.empty-classes.result no_blocks (omega (arith, c.requires.small)))
+      ∙ c.empty-classes.ensures j);
+}
+
 pub loop-l-preserved : goal.loop-l-preserved
-loop-l-preserved c m r i j =
+loop-l-preserved c =
     let rows = c.args.rows.now in
     let p = c.args.p.now in
     let n = length rows in
     let l = c.loop-l.l in
+    let own = at p l in
+    let led = c.leads-led.result in
+    let classes = c.if-is_empty.classes in
     let inside : l < n = omega arith in
+    let low : at p l < n = c.requires.pairs.below l inside in
     let short : l * n ≤ length c.loop-l.table = omega (arith, row_end l n inside) in
-    elim (cases_eq m l) [
-      | inl e ↦
-          ap (λ x. at (put_mid (l * n) (l * n + n - l * n) c.loop-l.table c.mark_row.new.marks)
-          (x * n + r)) e
-          ∙ put_inside (l * n) (l * n + n - l * n) c.loop-l.table c.mark_row.new.marks short r
-          (omega (arith, row_end l n inside))
-          ∙ c.mark_row.ensures r (omega (arith, row_end l n inside))
-          ∙ ap (λ b. cond b 1 0)
-          (pair_occurs rows p c.leads-led.result l r c.requires.pairs c.leads-led.ensures inside
-          j)
-          ∙ ap (λ x. cond (has_pair x r (pairings rows)) 1 0) (sym e)
-      | inr ne ↦ put_before (l * n) (l * n + n - l * n) c.loop-l.table c.mark_row.new.marks short
-          (m * n + r) (omega (arith, mul-add-lt m n r l (omega arith) j)) ∙ c.loop-l.invariant m r
-          (omega arith) j
-    ]
+    let known : Classes n led classes
+    × ((j : ℕ) → j < n
+    → holds classes (at p l) j ≡ (holds led (at p l) j && holds led j (at p l))) =
+    elim c.if-is_empty.branch [
+      | then-is_empty w ↦
+          let class = has w.class_of.result in
+          let leads = c.leads-led.ensures in
+          let one : IsClass n led class = is_class rows p led c.requires.pairs leads own low class
+          w.class_of.ensures in
+          let is : (i j : ℕ) → holds classes i j
+          ≡ cond (class i) (class j) (holds c.loop-l.classes i j) =
+          λ i j. ap (λ s. holds s i j) w.classes-is ∙ w.note_class.ensures i j in (
+            classes_more n led c.loop-l.classes classes class one c.loop-l.invariant.classes is,
+            λ j b. is own j ∙ cond-true (class own) _ _
+                (in_class rows p led c.requires.pairs leads own low class w.class_of.ensures)
+                ∙ w.class_of.ensures j,
+          )
+      | else-is_empty w ↦
+          let old = c.loop-l.invariant.classes in
+          let same : (j : ℕ) → holds classes (at p l) j ≡ holds c.loop-l.classes (at p l) j =
+          λ j. ap (λ s. holds s (at p l) j) w.classes-is in (
+            subst (Classes n led) (sym w.classes-is) old,
+            elim (old (at p l) low) [
+              | inl e ↦ absurd (both_ways c.is_empty.result w.if-is_empty.false
+                  (c.is_empty.ensures.1 e))
+              | inr e ↦ λ j b. same j ∙ e j b
+            ],
+          )
+    ] in
+    record {
+      classes = known.0;
+      marked = λ m r i j. elim (cases_eq m l) [
+        | inl e ↦
+            ap (λ x. at (put_mid (l * n) (l * n + n - l * n) c.loop-l.table c.mark_row.new.marks)
+            (x * n + r)) e
+            ∙ put_inside (l * n) (l * n + n - l * n) c.loop-l.table c.mark_row.new.marks short r
+            (omega (arith, row_end l n inside))
+            ∙ c.mark_row.ensures r (omega (arith, row_end l n inside))
+            ∙ ap (λ b. cond b 1 0)
+            (c.intersection.ensures r
+            ∙ class_occurs rows p led c.requires.pairs c.leads-led.ensures l r inside j
+            (holds classes own) known.1)
+            ∙ ap (λ x. cond (has_pair x r (pairings rows)) 1 0) (sym e)
+        | inr ne ↦ put_before (l * n) (l * n + n - l * n) c.loop-l.table c.mark_row.new.marks short
+            (m * n + r) (omega (arith, mul-add-lt m n r l (omega arith) j))
+            ∙ c.loop-l.invariant.marked m r (omega arith) j
+      ];
+    }

@@ -1,14 +1,21 @@
 -- Where a left block cannot have more, no pairing that agrees before it comes later; where it can,
 -- the next pairing is made. Both tell the place in the list.
-use Rattle.std.proofs.Common.{◌≡◌, ◌+◌, ◌-◌, sym, refl, ◌∙◌, subst, arith}
+use Rattle.std.proofs.Common.{◌≡◌, ◌+◌, ◌-◌, length, sym, refl, ◌∙◌, subst, arith}
+use Rattle.blockset.specs.Has.{has}
 use Rattle.pairing.specs.Optima.{Before}
 use Rattle.pairing.specs.Rows.{Pairs}
+use Rattle.matching.proofs.Held.{held_start}
 use Rattle.matching.proofs.Order.{Next, Exhausted, exhausted_start, exhausted_more, next_is}
 use Rattle.matching.proofs.Places.{placed, next_place, last_place}
 use Rattle.matching.proofs.stepping.advance.Goals as goal
 
 pub loop-l-init : goal.loop-l-init
-loop-l-init c = (refl, exhausted_start c.args.rows.now c.args.p.now c.requires.pairs)
+loop-l-init c = (
+  refl,
+  exhausted_start c.args.rows.now c.args.p.now c.requires.pairs,
+  held_start (length c.args.p.now) (length c.args.rows.now) c.args.p.now (has c.empty.result) _
+      (omega (arith, c.requires.pairs.len)) c.empty.ensures,
+)
 
 pub returns-then-improve : goal.returns-then-improve
 returns-then-improve c =
@@ -22,7 +29,7 @@ returns-then-improve c =
     let next : Next rows c.args.p.now c.make_first_from.new.p =
     subst (λ x. Next rows x c.make_first_from.new.p) c.loop-l.invariant.0
     (next_is rows l p pairs (omega arith) ended c.improve.new.p c.make_first_from.new.p
-    c.if-improve.ensures
+    c.if-improve.ensures.improved
     c.make_first_from.ensures) in
     let w = placed rows c.args.p.now c.requires.pairs in
     (w.0, w.1, next_place rows w.0 c.args.p.now w.1 c.make_first_from.new.p next)
@@ -36,10 +43,11 @@ loop-l-preserved c =
     let pairs : Pairs rows p = subst (Pairs rows) (sym c.loop-l.invariant.0) c.requires.pairs in
     let ended : Exhausted rows (l + 1) p = subst (λ m. Exhausted rows m p) up c.loop-l.invariant.1
     in
-    let stuck = c.if-improve.ensures in (
+    let stuck = c.if-improve.ensures.improved in (
       stuck.same ∙ c.loop-l.invariant.0,
       subst (Exhausted rows l) (sym stuck.same)
           (exhausted_more rows l p pairs (omega arith) ended c.improve.new.p stuck),
+      c.put_in.ensures,
     )
 
 pub returns : goal.returns

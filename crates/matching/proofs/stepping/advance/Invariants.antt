@@ -1,7 +1,9 @@
--- Nothing has changed, and no pairing that agrees with p below l comes after it.
+-- Nothing has changed, no pairing that agrees with p below l comes after it, and the holders tell
+-- of the left blocks from l on.
 use Rattle.std.proofs.Common.{◌≡◌}
+use Rattle.matching.specs.Exchange.{HeldFrom}
 use Rattle.matching.proofs.Order.{Exhausted}
 use Rattle.matching.proofs.stepping.advance.Given as goal
 
 abbrev pub invariant-loop-l : goal.invariant-loop-l
-invariant-loop-l l = (l.p ≡ l.initial.p) × Exhausted l.rows l.l l.p
+invariant-loop-l l = (l.p ≡ l.initial.p) × Exhausted l.rows l.l l.p × HeldFrom l.l l.p l.holders

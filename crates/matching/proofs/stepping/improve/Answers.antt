@@ -1,5 +1,6 @@
 -- The state of the loop is that of proofs/Trying.antt, and each way out is one of its conclusions.
-use Rattle.std.proofs.Common.{◌≡◌, ℕ, ◌<◌, ◌≤◌, Bool, true, false, not, ◌&&◌, ltb, List, length}
+use Rattle.std.proofs.Common.{◌≡◌, ℕ, ◌+◌, ◌<◌, ◌≤◌, Bool, true, false, not, ◌&&◌, eqb, ltb, List}
+use Rattle.std.proofs.Common.{length}
 use Rattle.std.proofs.Common.{sym, refl, ◌∙◌, subst, inl, inr, arith}
 use Rattle.std.proofs.lemmas.Bool.Decides.{nat_tests}
 use Rattle.std.proofs.lemmas.Bool.{cases_lt, both_ways, and_parts}
@@ -11,12 +12,14 @@ use Rattle.pairing.specs.Grid.{at}
 use Rattle.pairing.specs.Chains.{Agree}
 use Rattle.pairing.specs.Rows.{holds, Pairs}
 use Rattle.matching.specs.declared.chains.Bounds.{Bounds}
-use Rattle.matching.specs.Exchange.{GivesDistinct, Holding, Ways, Exchanged}
+use Rattle.matching.specs.declared.chains.Holders.{Holders}
+use Rattle.matching.specs.Exchange.{without, GivesDistinct, Holding, HeldFrom, Ways, Exchanged}
 use Rattle.matching.specs.Search.{along, Complete, Ended}
 use Rattle.matching.specs.Improving.{Improved}
 use Rattle.matching.proofs.Trying.{Trying, candidate, candidate_above, sent_candidate, trying_start}
 use Rattle.matching.proofs.Trying.{trying_more, along_inside, along_offer, sent, ways_from, one_in}
-use Rattle.matching.proofs.Trying.{one_is, one_other}
+use Rattle.matching.proofs.Trying.{one_is, one_other, from_later, none_left}
+use Rattle.matching.proofs.Held.{none_out, after_alone, all_back}
 use Rattle.matching.proofs.stepping.improve.Goals as goal
 
 -- a floor on blocks: what is left of a row's live blocks
@@ -54,31 +57,6 @@ module _ (rows : List BlockSet) (p : List ℕ) (l floor : ℕ) (h : Pairs rows p
   above : (r : ℕ) → C r ≡ true → (holds rows l r ≡ true) × (live r ≡ true) × (floor ≤ r)
   above r x = candidate_above (holds rows) l floor live r (sym (is r) ∙ x)
 
--- the table of holders, over as many left blocks as there are rows
-holding : (rows : List BlockSet) (p : List ℕ) (l : ℕ) (out held : ℕ → Bool) (row : List ℕ)
-    → Pairs rows p → Holding l (length p) p out held row → Holding l (length rows) p out held row
-holding rows p l out held row h w = subst (λ n. Holding l n p out held row) h.len w
-
-pub loop-r-init : goal.loop-r-init
-loop-r-init c =
-    let rows = c.args.rows.now in
-    let p = c.args.p.now in
-    let l = c.args.l in
-    let w = c.find_holders-holders.result in (
-      refl,
-      trying_start rows p l c.requires.small c.requires.pairs c.requires.inside
-          (has c.of-alone.result) (has w.held) w.row c.of-alone.ensures
-          (holding rows p l (has c.of-alone.result) (has w.held) w.row c.requires.pairs
-          c.find_holders-holders.ensures) (has c.union-live.result) (has c.of-goals.result)
-          c.of-goals.ensures c.union-live.ensures,
-      λ j. floored (holds rows l j) (has c.union-live.result j)
-          (has c.difference-candidates.result j) (has c.intersection.result j) (has c.all.result j)
-          j
-          c.args.floor
-          (has_block _ j) (c.intersection.ensures j) (c.all.ensures j)
-          (c.difference-candidates.ensures j),
-    )
-
 -- the list is as it was handed in, and as long as there are rows
 state : (rows : List BlockSet) (l : ℕ) (live : ℕ → Bool) (p q : List ℕ) → q ≡ p
     → Trying (length rows) l (holds rows) q live → Trying (length rows) l (holds rows) p live
@@ -92,8 +70,40 @@ brought : (P : ℕ → List ℕ → Type 0) (n : ℕ) (p q : List ℕ) → q ≡
     → P n p
 brought P n p q e len x = subst (λ m. P m p) len (subst (λ y. P (length y) y) e x)
 
-pub returns-then-r-own : goal.returns-then-r-own
-returns-then-r-own c =
+-- the holders of the left blocks after l, over as many left blocks as there are rows
+holding : (rows : List BlockSet) (p q : List ℕ) (l : ℕ) (h : Holders) (alone : ℕ → Bool)
+    → length rows ≤ 64 → l < length rows → ((j : ℕ) → alone j ≡ (ltb j 64 && eqb j l))
+    → Pairs rows p → q ≡ p → HeldFrom (l + 1) q h
+    → Holding l (length rows) p alone (has h.held) h.row
+holding rows p q l h alone few i is pairs same w =
+    after_alone (length rows) l p (has h.held) h.row alone (omega arith) is
+    (brought (λ n x. Holding (l + 1) n x none_out (has h.held) h.row) (length rows) p q same
+    pairs.len w)
+
+pub loop-r-init : goal.loop-r-init
+loop-r-init c =
+    let rows = c.args.rows.now in
+    let p = c.args.p.now in
+    let l = c.args.l in
+    let w = c.args.holders.now in (
+      refl,
+      trying_start rows p l c.requires.small c.requires.pairs c.requires.inside
+          (has c.of-alone.result) (has w.held) w.row c.of-alone.ensures
+          (holding rows p p l w (has c.of-alone.result) c.requires.small c.requires.inside
+          c.of-alone.ensures c.requires.pairs refl c.requires.held) (has c.union-live.result)
+          (has c.of-goals.result)
+          c.of-goals.ensures c.union-live.ensures,
+      λ j. floored (holds rows l j) (has c.union-live.result j)
+          (has c.difference-candidates.result j) (has c.intersection.result j) (has c.all.result j)
+          j
+          c.args.floor
+          (has_block _ j) (c.intersection.ensures j) (c.all.ensures j)
+          (c.difference-candidates.ensures j),
+      c.requires.held,
+    )
+
+pub returns-then-r-own-clause-improved : goal.returns-then-r-own-clause-improved
+returns-then-r-own-clause-improved c =
     let rows = c.args.rows.now in
     let p = c.args.p.now in
     let l = c.args.l in
@@ -119,14 +129,14 @@ search-reach-requires c =
     let p = c.args.p.now in
     let l = c.args.l in
     let r = c.in-Some.r in
-    let w = c.find_holders-holders.result in
+    let w = c.loop-r.holders in
     let alone = has c.of-alone.result in
     let live = has c.loop-r.live in
     let s = state rows l live p c.loop-r.p c.loop-r.invariant.0 c.loop-r.invariant.1 in
     let up = above rows p l c.args.floor c.requires.pairs c.requires.inside live s
     (has c.loop-r.candidates) c.loop-r.invariant.2 r c.in-Some.ensures.1 in
-    let hold = holding rows p l alone (has w.held) w.row c.requires.pairs
-    c.find_holders-holders.ensures in
+    let hold = holding rows p c.loop-r.p l w alone c.requires.small c.requires.inside
+    c.of-alone.ensures c.requires.pairs c.loop-r.invariant.0 c.loop-r.invariant.3 in
     let b : Bounds = record {
       roots = c.of-alone.result;
       offer = c.of.result;
@@ -151,14 +161,14 @@ exchange-requires c =
     let p = c.args.p.now in
     let l = c.args.l in
     let r = c.in-Some.r in
-    let w = c.find_holders-holders.result in
+    let w = c.loop-r.holders in
     let alone = has c.of-alone.result in
     let live = has c.loop-r.live in
     let s = state rows l live p c.loop-r.p c.loop-r.invariant.0 c.loop-r.invariant.1 in
     let up = above rows p l c.args.floor c.requires.pairs c.requires.inside live s
     (has c.loop-r.candidates) c.loop-r.invariant.2 r c.in-Some.ensures.1 in
-    let hold = holding rows p l alone (has w.held) w.row c.requires.pairs
-    c.find_holders-holders.ensures in
+    let hold = holding rows p c.loop-r.p l w alone c.requires.small c.requires.inside
+    c.of-alone.ensures c.requires.pairs c.loop-r.invariant.0 c.loop-r.invariant.3 in
     let b : Bounds = record {
       roots = c.of-alone.result;
       offer = c.of.result;
@@ -195,20 +205,20 @@ exchange-requires c =
           (c.requires.pairs.once m l j c.requires.inside (z ∙ own)));
     }
 
-pub returns-in-Some-goal : goal.returns-in-Some-goal
-returns-in-Some-goal c =
+pub returns-in-Some-goal-clause-improved : goal.returns-in-Some-goal-clause-improved
+returns-in-Some-goal-clause-improved c =
     let rows = c.args.rows.now in
     let p = c.args.p.now in
     let l = c.args.l in
     let r = c.in-Some.r in
-    let w = c.find_holders-holders.result in
+    let w = c.loop-r.holders in
     let alone = has c.of-alone.result in
     let live = has c.loop-r.live in
     let s = state rows l live p c.loop-r.p c.loop-r.invariant.0 c.loop-r.invariant.1 in
     let up = above rows p l c.args.floor c.requires.pairs c.requires.inside live s
     (has c.loop-r.candidates) c.loop-r.invariant.2 r c.in-Some.ensures.1 in
-    let hold = holding rows p l alone (has w.held) w.row c.requires.pairs
-    c.find_holders-holders.ensures in
+    let hold = holding rows p c.loop-r.p l w alone c.requires.small c.requires.inside
+    c.of-alone.ensures c.requires.pairs c.loop-r.invariant.0 c.loop-r.invariant.3 in
     let b : Bounds = record {
       roots = c.of-alone.result;
       offer = c.of.result;
@@ -236,20 +246,69 @@ returns-in-Some-goal c =
       );
     }
 
+pub take_out-requires : goal.take_out-requires
+take_out-requires c =
+    let rows = c.args.rows.now in
+    let p = c.args.p.now in
+    let l = c.args.l in
+    let r = c.in-Some.r in
+    let w = c.loop-r.holders in
+    let alone = has c.of-alone.result in
+    let live = has c.loop-r.live in
+    let s = state rows l live p c.loop-r.p c.loop-r.invariant.0 c.loop-r.invariant.1 in
+    let up = above rows p l c.args.floor c.requires.pairs c.requires.inside live s
+    (has c.loop-r.candidates) c.loop-r.invariant.2 r c.in-Some.ensures.1 in
+    let hold = holding rows p c.loop-r.p l w alone c.requires.small c.requires.inside
+    c.of-alone.ensures c.requires.pairs c.loop-r.invariant.0 c.loop-r.invariant.3 in
+    let b : Bounds = record {
+      roots = c.of-alone.result;
+      offer = c.of.result;
+      live = c.loop-r.live;
+      goals = c.of-goals.result;
+    } in
+    let x = c.search-reach.result in
+    let f = brought
+    (λ n q. Exchanged n q c.exchange.new.p alone (has x.reached) x.from c.exchange.result)
+    (length rows) p c.loop-r.p c.loop-r.invariant.0 c.requires.pairs.len
+    c.exchange.ensures.exchanged in
+    let done = sent rows p l c.requires.small c.requires.pairs c.requires.inside alone
+    (has w.held) w.row c.of-alone.ensures hold b live r s up.1 up.0 (λ j. refl)
+    (λ j. refl) c.of.ensures c.of-goals.ensures (has x.reached) x.from x.rank
+    c.search-reach.ensures.reached c.exchange.new.p c.exchange.result f in
+    let told = brought
+    (λ n q. Holding l n q alone (has w.held) w.row → Holding l n c.exchange.new.p
+    (without alone c.exchange.result) (has c.exchange.new.holders.held) c.exchange.new.holders.row)
+    (length rows) p c.loop-r.p c.loop-r.invariant.0 c.requires.pairs.len
+    (c.exchange.ensures.told_from l (from_later rows p l c.requires.small c.requires.pairs
+    c.requires.inside alone (has w.held) w.row c.of-alone.ensures hold b live r s up.1 up.0
+    (λ j. refl) (λ j. refl) c.of.ensures c.of-goals.ensures (has x.reached) x.from x.rank
+    c.search-reach.ensures.reached)) in
+    let q = c.exchange.new.p in
+    let h = c.exchange.new.holders in
+    let inside : l < length q = omega (arith, done.0.len, c.requires.inside) in
+    record {
+      inside = inside;
+      once = λ m j e. done.0.once m l (omega (arith, done.0.len)) c.requires.inside e;
+      first = subst (λ n. Holding l n q none_out (has h.held) h.row) (sym done.0.len)
+          (all_back (length rows) l q (has h.held) h.row (without alone c.exchange.result)
+          (none_left alone l (omega (arith, c.requires.small, c.requires.inside))
+          c.of-alone.ensures c.exchange.result f.was_out) (told hold));
+    }
+
 pub loop-r-smaller : goal.loop-r-smaller
 loop-r-smaller c =
     let rows = c.args.rows.now in
     let p = c.args.p.now in
     let l = c.args.l in
     let r = c.in-Some.r in
-    let w = c.find_holders-holders.result in
+    let w = c.loop-r.holders in
     let alone = has c.of-alone.result in
     let live = has c.loop-r.live in
     let s = state rows l live p c.loop-r.p c.loop-r.invariant.0 c.loop-r.invariant.1 in
     let up = above rows p l c.args.floor c.requires.pairs c.requires.inside live s
     (has c.loop-r.candidates) c.loop-r.invariant.2 r c.in-Some.ensures.1 in
-    let hold = holding rows p l alone (has w.held) w.row c.requires.pairs
-    c.find_holders-holders.ensures in
+    let hold = holding rows p c.loop-r.p l w alone c.requires.small c.requires.inside
+    c.of-alone.ensures c.requires.pairs c.loop-r.invariant.0 c.loop-r.invariant.3 in
     let b : Bounds = record {
       roots = c.of-alone.result;
       offer = c.of.result;
@@ -281,14 +340,14 @@ loop-r-preserved c =
     let p = c.args.p.now in
     let l = c.args.l in
     let r = c.in-Some.r in
-    let w = c.find_holders-holders.result in
+    let w = c.loop-r.holders in
     let alone = has c.of-alone.result in
     let live = has c.loop-r.live in
     let s = state rows l live p c.loop-r.p c.loop-r.invariant.0 c.loop-r.invariant.1 in
     let up = above rows p l c.args.floor c.requires.pairs c.requires.inside live s
     (has c.loop-r.candidates) c.loop-r.invariant.2 r c.in-Some.ensures.1 in
-    let hold = holding rows p l alone (has w.held) w.row c.requires.pairs
-    c.find_holders-holders.ensures in
+    let hold = holding rows p c.loop-r.p l w alone c.requires.small c.requires.inside
+    c.of-alone.ensures c.requires.pairs c.loop-r.invariant.0 c.loop-r.invariant.3 in
     let b : Bounds = record {
       roots = c.of-alone.result;
       offer = c.of.result;
@@ -313,10 +372,11 @@ loop-r-preserved c =
           (has c.intersection-candidates.result j)
           (c.loop-r.invariant.2 j) (c.difference-live.ensures j)
           (c.intersection-candidates.ensures j),
+      c.loop-r.invariant.3,
     )
 
-pub returns : goal.returns
-returns c =
+pub returns-clause-improved : goal.returns-clause-improved
+returns-clause-improved c =
     let rows = c.args.rows.now in
     let p = c.args.p.now in
     let s = state rows c.args.l (has c.loop-r.live) p c.loop-r.p c.loop-r.invariant.0
