@@ -3,6 +3,7 @@ pub mod Alike
 pub mod Orderly
 pub mod Tightness
 pub mod Lengths
+pub mod Gathering
 pub mod Orders
 pub mod Cells
 pub mod Writing
