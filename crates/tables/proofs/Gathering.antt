@@ -3,11 +3,12 @@
 -- number of its fault, 1 or 0, so only a fault of a standing pair is left over.
 use Rattle.std.proofs.Common.{◌≡◌, ℕ, zero, suc, ◌+◌, ◌/◌, ◌^◌, ◌<◌, ◌≤◌, Bool, true, false, not}
 use Rattle.std.proofs.Common.{◌&&◌, ◌||◌, eqb, leb, refl, ap, ap₂, ◌∙◌, inl, inr, pow-suc}
-use Rattle.std.proofs.Common.{arith}
+use Rattle.std.proofs.Common.{Decides, arith}
 use mir.Val.{bool_byte}
 use lib.Bits.{bit_and, bit_or, or_step, or_zero_r}
-use Rattle.std.proofs.lemmas.Bool.Decides.{same_from_decides}
-use Rattle.std.proofs.lemmas.Bool.{leb-true, le-leb, ne_eqb, cases_Bool}
+use Rattle.std.proofs.lemmas.Bool.Decides.{same_from_decides, Decides-and}
+use Rattle.std.proofs.lemmas.Bool.{leb-true, le-leb, ne_eqb, cases_Bool, or_cases, or_left, or_right}
+use Rattle.std.proofs.lemmas.Bool.{not-true, not_from_false, both_ways}
 use Rattle.tables.specs.PairTables.{says_stands, says_disturbed}
 
 lt_pow : (n : ℕ) → n < 2 ^ n
@@ -45,6 +46,25 @@ faultless seen faults = leb seen 1 && eqb faults 0
 -- one byte, and whether its pair would be fine if it stood
 abbrev pub is_fine : ℕ → Bool → Bool
 is_fine byte fine = not (says_disturbed byte) && (not (says_stands byte) || fine)
+
+-- it tells what is asked of a byte, where that test tells what is asked of a standing pair
+pub fine_tells : {P : Type 0} (byte : ℕ) (fine : Bool) → Decides fine P
+    → Decides (is_fine byte fine)
+    ((says_disturbed byte ≡ false) × (says_stands byte ≡ true → P))
+fine_tells byte fine told =
+    Decides-and (not (says_disturbed byte)) (not (says_stands byte) || fine)
+    (not-true (says_disturbed byte), not_from_false (says_disturbed byte)) (
+      λ e stands. elim (or_cases (not (says_stands byte)) fine e) [
+        | inl absent ↦
+            absurd (both_ways (says_stands byte) (not-true (says_stands byte) absent) stands)
+        | inr is ↦ told.0 is
+      ],
+      λ h. elim (cases_Bool (says_stands byte)) [
+        | inl stands ↦ or_right (not (says_stands byte)) fine (told.1 (h stands))
+        | inr absent ↦ or_left (not (says_stands byte)) fine
+            (not_from_false (says_stands byte) absent)
+      ],
+    )
 
 -- a byte that is not disturbed against a test
 pub and_byte : (byte : ℕ) (test : Bool) → byte ≤ 1

@@ -4,6 +4,7 @@ pub mod Orderly
 pub mod Tightness
 pub mod Lengths
 pub mod Gathering
+pub mod Sounding
 pub mod Orders
 pub mod Cells
 pub mod Writing
