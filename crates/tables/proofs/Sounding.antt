@@ -3,7 +3,7 @@
 -- left block further if they were sound and its row is. A pair that stands is sound just where its
 -- prices do not compare as greater than its cost.
 use Rattle.std.proofs.Common.{◌≡◌, ℕ, ◌+◌, ◌-◌, ◌*◌, ◌<◌, ◌≤◌, Bool, true, false, not}
-use Rattle.std.proofs.Common.{◌&&◌, cond, eqb, List, length, get_or, take, drop, ℤ}
+use Rattle.std.proofs.Common.{◌&&◌, ◌||◌, eqb, List, length, get_or, take, drop, ℤ}
 use Rattle.std.proofs.Common.{Decides, Ordering, Less, Equal, Greater, sym, refl, ap, ◌∙◌, subst}
 use Rattle.std.proofs.Common.{ap₂, inl, inr, add-mul, one-mul, arith, below_more}
 use mir.Val.{bool_byte}
@@ -20,7 +20,7 @@ use Rattle.pairing.specs.Grid.{Upto}
 use Rattle.tables.specs.PairTables.{byte_of, says_stands, says_disturbed}
 use Rattle.tables.specs.Said.{columns_at}
 use Rattle.tables.specs.PairRows.{adds_up}
-use Rattle.tables.specs.Sound.{price_order, RowUnder, IsSoundRow, AreSoundRows}
+use Rattle.tables.specs.Sound.{RowUnder, IsSoundRow, AreSoundRows}
 use Rattle.tables.proofs.Filling.{value_at, row_at, columns_at_lem}
 use Rattle.tables.proofs.Gathering.{faultless, is_fine, fine_tells, and_byte, gathered}
 
@@ -36,33 +36,6 @@ greater_tells Less = (λ e g. both_ways (is_gt Less) refl (ap is_gt g), λ h. re
 greater_tells Equal = (λ e g. both_ways (is_gt Equal) refl (ap is_gt g), λ h. refl)
 greater_tells Greater = (λ e. absurd (false≢true e), λ h. absurd (h refl))
 
-module _ (left right cost : List ℤ) where
-  near_order : within 1000000000 cost ≡ true
-      → price_order left right cost ≡ lex (sums left right) cost
-  near_order e = ap (λ w. cond w (lex (sums left right) cost) Greater) e
-
-  far_order : within 1000000000 cost ≡ false → price_order left right cost ≡ Greater
-  far_order e = ap (λ w. cond w (lex (sums left right) cost) Greater) e
-
-  -- how the prices compare tells whether a pair that stands is sound
-  order_tells : Decides (not (is_gt (price_order left right cost)))
-      (Within 1000000000 cost × Upto (sums left right) cost)
-  order_tells = elim (cases_Bool (within 1000000000 cost)) [
-    | inl near ↦
-        Decides-like (not (is_gt (price_order left right cost)))
-        (λ u. ((within_tells 1000000000 cost).0 near, u)) (λ p. p.1)
-        (Decides-at (not (is_gt (price_order left right cost)))
-        (not (is_gt (lex (sums left right) cost))) (ap (λ o. not (is_gt o)) (near_order near))
-        (greater_tells (lex (sums left right) cost)))
-    | inr far ↦
-        Decides-at (not (is_gt (price_order left right cost))) false
-        (ap (λ o. not (is_gt o)) (far_order far)) (
-          λ e. absurd (false≢true e),
-          λ p. absurd (both_ways (within 1000000000 cost) far
-              ((within_tells 1000000000 cost).1 p.0)),
-        )
-  ]
-
 byte_some : (b : Bool) → not (eqb (bool_byte b) 0) ≡ b
 byte_some true = refl
 byte_some false = refl
@@ -74,20 +47,41 @@ not_twice false = refl
 calm_byte : (byte : ℕ) → says_disturbed byte ≡ false → byte ≤ 1
 calm_byte byte e = grind (arith, nat_tests)
 
--- a sound pair is tight just where it stands and its prices compare as equal to its cost
-sound_tight : (byte : ℕ) (left right cost : List ℤ) → IsSoundPair byte left right cost
-    → not (eqb (bit_and byte (bool_byte (is_eq (price_order left right cost)))) 0)
-    ≡ adds_up (says_stands byte) left right cost
-sound_tight byte left right cost h =
-    let order = price_order left right cost in
-    ap (λ m. not (eqb m 0)) (and_byte byte (is_eq order) (calm_byte byte h.0))
-    ∙ byte_some (says_stands byte && is_eq order)
-    ∙ elim (cases_Bool (says_stands byte)) [
-      | inl s ↦ ap (λ o. says_stands byte && is_eq o)
-          (near_order left right cost ((within_tells 1000000000 cost).1 (h.1 s).0))
-      | inr a ↦ ap (λ b. b && is_eq order) a
-          ∙ sym (ap (λ b. b && is_eq (lex (sums left right) cost)) a)
-    ]
+-- where the cost is within its limit, `order` is how the prices compare with it; that tells whether a
+-- pair that stands is sound
+module _ (left right cost : List ℤ) (order : Ordering)
+    (known : within 1000000000 cost ≡ true → order ≡ lex (sums left right) cost) where
+  abbrev pub wrong : Bool
+  wrong = not (within 1000000000 cost) || is_gt order
+
+  order_tells : Decides (not wrong) (Within 1000000000 cost × Upto (sums left right) cost)
+  order_tells = elim (cases_Bool (within 1000000000 cost)) [
+    | inl near ↦
+        Decides-like (not wrong) (λ u. ((within_tells 1000000000 cost).0 near, u)) (λ p. p.1)
+        (Decides-at (not wrong) (not (is_gt (lex (sums left right) cost)))
+        (ap₂ (λ w o. not (not w || is_gt o)) near (known near))
+        (greater_tells (lex (sums left right) cost)))
+    | inr far ↦
+        Decides-at (not wrong) false (ap (λ w. not (not w || is_gt order)) far) (
+          λ e. absurd (false≢true e),
+          λ p. absurd (both_ways (within 1000000000 cost) far
+              ((within_tells 1000000000 cost).1 p.0)),
+        )
+  ]
+
+  -- a sound pair is tight just where it stands and its prices compare as equal to its cost
+  sound_tight : (byte : ℕ) → IsSoundPair byte left right cost
+      → not (eqb (bit_and byte (bool_byte (is_eq order))) 0)
+      ≡ adds_up (says_stands byte) left right cost
+  sound_tight byte h =
+      ap (λ m. not (eqb m 0)) (and_byte byte (is_eq order) (calm_byte byte h.0))
+      ∙ byte_some (says_stands byte && is_eq order)
+      ∙ elim (cases_Bool (says_stands byte)) [
+        | inl s ↦ ap (λ o. says_stands byte && is_eq o)
+            (known ((within_tells 1000000000 cost).1 (h.1 s).0))
+        | inr a ↦ ap (λ b. b && is_eq order) a
+            ∙ sym (ap (λ b. b && is_eq (lex (sums left right) cost)) a)
+      ]
 
 -- ---- A row
 
@@ -132,24 +126,33 @@ module _ {K : Type 0} (kind : Ghosts K) (costs : List K) (standing : List ℕ) (
     -- whose price and cost were read from their tables
     module _ (price cost : K) (in_right : r < length right) (read_right : price ≡ get_or right r price)
         (in_costs : r < length costs) (read_cost : cost ≡ get_or costs r cost) (order : Ordering)
-        (is : order ≡ price_order left (kind.meaning price) (kind.meaning cost)) where
+        (known : within 1000000000 (kind.meaning cost) ≡ true
+        → order ≡ lex (sums left (kind.meaning price)) (kind.meaning cost)) where
       -- the order of what the tables say
-      stated : order ≡ price_order left (columns_at kind right r) (columns_at kind costs r)
-      stated = is ∙ ap₂ (price_order left) (value_at kind right r price in_right read_right)
-          (value_at kind costs r cost in_costs read_cost)
+      priced : kind.meaning price ≡ columns_at kind right r
+      priced = value_at kind right r price in_right read_right
+
+      costed : kind.meaning cost ≡ columns_at kind costs r
+      costed = value_at kind costs r cost in_costs read_cost
+
+      stated : within 1000000000 (columns_at kind costs r) ≡ true
+          → order ≡ lex (sums left (columns_at kind right r)) (columns_at kind costs r)
+      stated near = known (ap (within 1000000000) costed ∙ near)
+          ∙ ap₂ (λ x y. lex (sums left x) y) priced costed
 
       pub row_further : (seen faults number : ℕ)
           → Decides (faultless seen faults) (IsSoundRow kind r costs standing left right)
-          → number ≡ bool_byte (is_gt order)
+          → number ≡ bool_byte (not (within 1000000000 (kind.meaning cost)) || is_gt order)
           → Decides (faultless (bit_or seen (get_or standing r 0))
           (bit_or faults (bit_and (get_or standing r 0) number)))
           (IsSoundRow kind (r + 1) costs standing left right)
       row_further seen faults number before counted =
           let byte = get_or standing r 0 in
-          let told = price_order left (columns_at kind right r) (columns_at kind costs r) in
-          let fine = not (is_gt told) in
+          let off = not (within 1000000000 (columns_at kind costs r)) || is_gt order in
+          let fine = not off in
           let fault : number ≡ bool_byte (not fine) =
-          counted ∙ ap (λ o. bool_byte (is_gt o)) stated ∙ ap bool_byte (not_twice (is_gt told)) in
+          counted ∙ ap (λ c. bool_byte (not (within 1000000000 c) || is_gt order)) costed
+          ∙ ap bool_byte (not_twice off) in
           Decides-at (faultless (bit_or seen byte) (bit_or faults (bit_and byte number)))
           (faultless seen faults && is_fine byte fine)
           (ap (λ x. faultless (bit_or seen byte) (bit_or faults (bit_and byte x))) fault
@@ -157,7 +160,7 @@ module _ {K : Type 0} (kind : Ghosts K) (costs : List K) (standing : List ℕ) (
           (Decides-like (faultless seen faults && is_fine byte fine) further back
           (Decides-and (faultless seen faults) (is_fine byte fine) before
           (fine_tells byte fine
-          (order_tells left (columns_at kind right r) (columns_at kind costs r)))))
+          (order_tells left (columns_at kind right r) (columns_at kind costs r) order stated))))
 
       pub row_tight : (number : ℕ) → number ≡ bool_byte (is_eq order)
           → IsSoundRow kind (r + 1) costs standing left right
@@ -166,9 +169,9 @@ module _ {K : Type 0} (kind : Ghosts K) (costs : List K) (standing : List ℕ) (
           (columns_at kind costs r)
       row_tight number counted h =
           let byte = get_or standing r 0 in
-          ap (λ x. not (eqb (bit_and byte x) 0))
-          (counted ∙ ap (λ o. bool_byte (is_eq o)) stated)
-          ∙ sound_tight byte left (columns_at kind right r) (columns_at kind costs r) (back h).1
+          ap (λ x. not (eqb (bit_and byte x) 0)) counted
+          ∙ sound_tight left (columns_at kind right r) (columns_at kind costs r) order stated byte
+          (back h).1
 
     pub row_before : IsSoundRow kind (r + 1) costs standing left right
         → IsSoundRow kind r costs standing left right

@@ -1,21 +1,12 @@
 -- When the pairs of lent tables are sound: the pair tables are in order, and no standing pair costs
 -- less than its two prices.
-use Rattle.std.specs.Prelude.{◌≡◌, ℕ, ◌*◌, ◌<◌, Bool, true, List, ℤ, if◌then◌else◌, slice_index}
-use Rattle.std.specs.declared.cmp.Ordering.{Ordering}
-use Rattle.std.specs.declared.cmp.Ordering.TheVariants.{Greater}
+use Rattle.std.specs.Prelude.{◌≡◌, ℕ, ◌*◌, ◌<◌, Bool, true, List, ℤ, slice_index}
 use Rattle.cost.specs.declared.Cost.{Ghosts}
-use Rattle.cost.specs.declared.TheConstants.{COST_LIMIT}
-use Rattle.cost.specs.Columns.{within, sums, lex}
+use Rattle.cost.specs.Columns.{sums}
 use Rattle.pairing.specs.Grid.{Grid, Upto}
 use Rattle.tables.specs.PairTables.{says_stands}
 use Rattle.tables.specs.Said.{columns_at, grid_of, IsInOrder}
 use Rattle.tables.specs.Lent.{Lent}
-
--- how two prices together compare with a cost, as the kinds add; a cost beyond 10^9 in a column is
--- taken for less than any prices
-abbrev pub price_order : (left right cost : List ℤ) → Ordering
-price_order left right cost =
-    (if within COST_LIMIT cost then lex (sums left right) cost else Greater)
 
 -- no standing pair of one left block costs less than its two prices, as the kinds add
 abbrev pub RowUnder : (n : ℕ) (stands : ℕ → Bool) (left : List ℤ) (right cost : ℕ → List ℤ) → Type 0

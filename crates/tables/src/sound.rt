@@ -2,32 +2,38 @@
 //! wrong of a row is gathered, and asked for once the row is through.
 
 ghost use Rattle.std.specs.Prelude.{◌≡◌, ◌≤◌, length, IsTrue, ◌↔◌, IfNone, IfSome, slice_index};
+ghost use Rattle.std.specs.Prelude.{if◌then◌else◌};
 ghost use Rattle.std.specs.Bool.{OnTrue};
 ghost use Rattle.blockset.specs.declared.TheConstants.{MOST_BLOCKS, SET_WIDTH};
-ghost use Rattle.cost.specs.declared.TheConstants.{PRICE_LIMIT};
-ghost use Rattle.cost.specs.Columns.{Within};
+ghost use Rattle.cost.specs.declared.TheConstants.{COST_LIMIT, PRICE_LIMIT};
+ghost use Rattle.cost.specs.Columns.{Within, within, sums, lex, zeros};
 ghost use Rattle.tables.specs.PairTables.{says_stands};
 ghost use Rattle.tables.specs.Said.{columns_at, grid_of, Bounded};
 ghost use Rattle.tables.specs.Lent.{HasRoom};
 ghost use Rattle.tables.specs.PairRows.{HoldsPassing, adds_up, TightRows};
-ghost use Rattle.tables.specs.Sound.{price_order, IsSoundRow, AreSoundRows};
+ghost use Rattle.tables.specs.Sound.{IsSoundRow, AreSoundRows};
 
 use blockset::BlockSet;
 use cost::{COST_LIMIT, Cost};
 use std::cmp::Ordering;
 
-/// How two prices together compare with a cost. A cost beyond 10^9 counts as less than they are, so
-/// that one answer tells both faults of a pair.
+/// A cost that is within 10^9, and zero for another, so that no pair needs a branch.
+fn cost_or_zero<K: Cost>(cost: K, near: bool) -> K
+    requires { near ≡ within COST_LIMIT (K.meaning cost) }
+    ensures value { K.meaning result ≡ (if near then K.meaning cost else zeros K.columns) }
+    ensures small { Within COST_LIMIT (K.meaning result) }
+{
+    if near { cost } else { K::zero() }
+}
+
+/// How two prices together compare with a cost.
 fn compare_prices<K: Cost>(left: K, right: K, cost: K) -> Ordering
     requires left_near { Within PRICE_LIMIT (K.meaning left) }
     requires right_near { Within PRICE_LIMIT (K.meaning right) }
-    ensures { result ≡ price_order (K.meaning left) (K.meaning right) (K.meaning cost) }
+    requires cost_small { Within COST_LIMIT (K.meaning cost) }
+    ensures { result ≡ lex (sums (K.meaning left) (K.meaning right)) (K.meaning cost) }
 {
-    if cost.within(COST_LIMIT) {
-        left.add_near(right).compare_near(cost)
-    } else {
-        Ordering::Greater
-    }
+    left.add_near(right).compare_near(cost)
 }
 
 /// The right blocks that are tight with one left block, if all its pairs are sound. This is its
@@ -51,11 +57,13 @@ fn sound_row<K: Cost>(costs: &[K], standing: &[u8], left: K, right: &[K]) -> Opt
     let mut faults = 0;
     let mut row = BlockSet::empty();
     for (r, price) in right.iter().enumerate() {
-        let byte = standing[r];
-        let order = compare_prices(left, *price, costs[r]);
+        let byte = u64::from(standing[r]);
+        let cost = costs[r];
+        let near = cost.within(COST_LIMIT);
+        let order = compare_prices(left, *price, cost_or_zero(cost, near));
         seen |= byte;
-        faults |= byte & u8::from(order.is_gt());
-        row.insert_if(r, byte & u8::from(order.is_eq()) != 0);
+        faults |= byte & u64::from(!near | order.is_gt());
+        row.insert_if(r, byte & u64::from(order.is_eq()) != 0);
     }
     if (seen <= 1) & (faults == 0) {
         Some(row)

@@ -1,7 +1,7 @@
--- Two prices within 10^12 add up to less than half of the rail, and so is a cost within 10^9.
+-- Two prices within 10^12 add up to less than half of the rail, and a cost within 10^9 is less too.
 use Rattle.std.proofs.Common.{◌+◌, sym, ◌∙◌, subst, arith}
 use Rattle.cost.specs.Columns.{Within, plus}
-use Rattle.cost.proofs.Exact.{exact, plus-within, within_more, within_tells}
+use Rattle.cost.proofs.Exact.{exact, plus-within, within_more}
 use Rattle.tables.proofs.sound.compare_prices.Goals as goal
 
 pub compare_near-requires-clause-first : goal.compare_near-requires-clause-first
@@ -16,7 +16,5 @@ compare_near-requires-clause-first g c =
     (plus-within 1000000000000 1000000000000 left right near.left_near near.right_near))
 
 pub compare_near-requires-clause-second : goal.compare_near-requires-clause-second
-compare_near-requires-clause-second g c =
-    let cost = g.K.Cost.meaning c.args.cost in
-    within_more 1000000000 500000000000000 cost (omega arith)
-    ((within_tells 1000000000 cost).0 (sym c.within.ensures ∙ c.if-within.true))
+compare_near-requires-clause-second g c = within_more 1000000000 500000000000000
+    (g.K.Cost.meaning c.args.cost) (omega arith) c.requires.cost_small
