@@ -13,14 +13,16 @@ use Rattle.std.proofs.lemmas.Nat.{mul-add-lt}
 use Rattle.std.proofs.lemmas.Bool.{cases_lt, cases_Bool, both_ways, false≢true}
 use Rattle.std.proofs.lemmas.Bool.Decides.{Decides-at, Decides-like, Decides-and, nat_tests}
 use Rattle.cost.specs.declared.Cost.{Ghosts}
-use Rattle.cost.specs.Columns.{Within, within, sums, lex}
-use Rattle.cost.proofs.Exact.{within_tells}
-use Rattle.pairing.specs.Places.{place_of}
+use Rattle.cost.specs.Columns.{Within, within, sums, plus, lex}
+use Rattle.cost.proofs.Exact.{within_tells, exact}
+use Rattle.pairing.specs.Places.{place_of, places_of}
 use Rattle.pairing.specs.Grid.{Upto}
+use Rattle.pairing.specs.Prices.{Valid}
 use Rattle.tables.specs.PairTables.{byte_of, says_stands, says_disturbed}
-use Rattle.tables.specs.Said.{columns_at}
+use Rattle.tables.specs.Said.{columns_at, Bounded, IsInOrder}
+use Rattle.tables.specs.Lent.{Lent, grid, left_price, right_price}
 use Rattle.tables.specs.PairRows.{adds_up}
-use Rattle.tables.specs.Sound.{RowUnder, IsSoundRow, AreSoundRows}
+use Rattle.tables.specs.Sound.{RowUnder, IsSoundRow, AreSoundRows, IsSound}
 use Rattle.tables.proofs.Filling.{value_at, row_at, columns_at_lem}
 use Rattle.tables.proofs.Gathering.{faultless, is_fine, fine_tells, and_byte, gathered}
 
@@ -261,3 +263,24 @@ module _ {K : Type 0} (kind : Ghosts K) (n : ℕ) (costs : List K) (standing : L
         stood : (r : ℕ) (i : r < m) → says_stands (get_or (part standing) r 0) ≡ true
             → says_stands (get_or standing (l * n + r) 0) ≡ true
         stood r i s = sym (ap says_stands (row_at standing n l inside bytes r 0 (below r i))) ∙ s
+
+-- ---- Lent tables
+
+module _ {K : Type 0} (kind : Ghosts K) (t : Lent K) (lefts : Bounded kind 1000000000000 t.size t.left)
+    (rights : Bounded kind 1000000000000 t.size t.right) where
+  -- prices within 10^12 add up without the rail
+  pub sum_exact : (l r : ℕ) → l < t.size → r < t.size
+      → sums (left_price kind t l) (right_price kind t r)
+      ≡ plus (left_price kind t l) (right_price kind t r)
+  sum_exact l r i j =
+      (exact 1000000000000 1000000000000 (left_price kind t l) (right_price kind t r) (omega arith)
+      (lefts l i) (rights r j)).0
+
+  -- so where they are valid and the pair tables in order, all pairs are sound
+  pub sound_if_valid : IsInOrder kind (places_of t.size) t.costs t.standing → (p : List ℕ)
+      → Valid (grid kind t) (left_price kind t) (right_price kind t) p → IsSound kind t
+  sound_if_valid o p v = record {
+    in_order = o;
+    under = λ l i r j s. subst (λ x. Upto x ((grid kind t).cost l r)) (sym (sum_exact l r i j))
+        (v.under l r i j s);
+  }

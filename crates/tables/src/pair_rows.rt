@@ -98,6 +98,30 @@ impl PairRows {
         }
     }
 
+    /// What `tight` answers where all pairs are known to be sound and the prices to be within 10^12,
+    /// as they are once a sheet is settled: then no sum is stopped, and no pair needs a branch.
+    pub fn tight_within<K: Cost>(tables: &Tables<'_, K>) -> PairRows
+        requires readable { IsReadable tables.now }
+        requires left_near { Bounded K.Cost PRICE_LIMIT tables.now.size tables.now.left }
+        requires right_near { Bounded K.Cost PRICE_LIMIT tables.now.size tables.now.right }
+        requires sound { IsSound K.Cost tables.now }
+        ensures long { length result ≡ tables.now.size }
+        ensures rows { TightRows (grid K.Cost tables.now) (left_price K.Cost tables.now)
+            (right_price K.Cost tables.now) result }
+    {
+        let len = tables.size as usize;
+        let mut sets = [BlockSet::empty(); SET_WIDTH];
+        let tight = &mut sets[..len];
+        let _sound = fill_sound_rows(
+            tables.costs,
+            tables.standing,
+            tables.left,
+            tables.right,
+            tight,
+        );
+        PairRows { sets, len }
+    }
+
     /// The rows, of which there are at most 64.
     pub fn as_slice(&self) -> &[BlockSet]
         ensures rows { result.now ≡ self.now }

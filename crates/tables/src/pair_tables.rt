@@ -50,9 +50,9 @@ pub fn in_order<K: Cost>(costs: &[K], standing: &[u8]) -> bool
     let mut seen = 0;
     let mut faults = 0;
     for k in 0..costs.len().min(standing.len()) {
-        let byte = standing[k];
+        let byte = u64::from(standing[k]);
         seen |= byte;
-        faults |= byte & u8::from(!costs[k].within(COST_LIMIT));
+        faults |= byte & u64::from(!costs[k].within(COST_LIMIT));
     }
     (seen <= 1) & (faults == 0)
 }

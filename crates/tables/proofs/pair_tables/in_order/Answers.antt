@@ -1,5 +1,5 @@
 -- What is left is the next place and what is left past it; past the last place nothing is left.
-use Rattle.std.proofs.Common.{◌≡◌, ◌+◌, not, ◌&&◌, get_or, drop, sym, ap, ◌∙◌, arith}
+use Rattle.std.proofs.Common.{◌≡◌, ◌+◌, not, ◌&&◌, get_or, drop, sym, ap, ap₂, ◌∙◌, arith}
 use mir.Val.{bool_byte}
 use lib.Bits.{bit_and, bit_or}
 use Rattle.std.proofs.Math.Bool.{and_assoc, and-true}
@@ -27,7 +27,8 @@ loop-k-preserved g c =
     (omega arith) (omega arith))
     ∙ sym (and_assoc before (is_fine byte fine) past)
     ∙ ap (λ t. t && past) (sym
-    (ap (λ x. faultless (bit_or c.loop-k.seen byte) (bit_or c.loop-k.faults (bit_and byte x))) fault
+    (ap₂ (λ b x. faultless (bit_or c.loop-k.seen b) (bit_or c.loop-k.faults (bit_and b x)))
+    c.from-byte.ensures fault
     ∙ gathered c.loop-k.seen c.loop-k.faults byte fine))
 
 pub returns : goal.returns
