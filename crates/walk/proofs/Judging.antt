@@ -7,8 +7,8 @@ use Rattle.std.proofs.Common.{sym, ◌∙◌, subst, arith, below_more, Contains
 use Rattle.std.proofs.lemmas.Bool.{both_ways, false≢true}
 use Rattle.std.proofs.lemmas.Bool.Decides.{Decides-like}
 use Rattle.cost.specs.declared.Cost.{Ghosts}
-use Rattle.cost.specs.Columns.{Within, within, sums, plus}
-use Rattle.cost.proofs.Exact.{within_tells, within_more, exact}
+use Rattle.cost.specs.Columns.{Within, within}
+use Rattle.cost.proofs.Exact.{within_tells, within_more}
 use Rattle.tables.specs.PairTables.{in_order}
 use Rattle.blockset.specs.declared.BlockSet.{BlockSet}
 use Rattle.pairing.specs.Grid.{Sane, Upto, Optimum}
@@ -23,6 +23,7 @@ use Rattle.tables.specs.PairRows.{TightRows}
 use Rattle.tables.proofs.Filling.{value_at}
 use Rattle.tables.proofs.Orderly.{in_order_tells, sane_in_order, columns_sized}
 use Rattle.tables.proofs.Tightness.{pairs_tight, pairings_are_optima}
+use Rattle.tables.proofs.Sounding.{sum_exact, sound_if_valid}
 use Rattle.tables.specs.Together.{ArePairTables, ArePrices, Together}
 use Rattle.walk.specs.Certified.{Sound, Certified}
 
@@ -74,22 +75,13 @@ module _ {K : Type 0} (kind : Ghosts K) (wide : (x : K) → length (kind.meaning
         (omega arith) (p.near k h);
   }
 
-  -- prices within 10^12 add up without the rail
-  sum_exact : ArePrices kind t.size t.left → ArePrices kind t.size t.right → (l r : ℕ)
-      → l < t.size → r < t.size
-      → sums (left_price kind t l) (right_price kind t r) ≡ plus (left_price kind t l)
-      (right_price kind t r)
-  sum_exact lefts rights l r i j =
-      (exact 1000000000000 1000000000000 (left_price kind t l) (right_price kind t r) (omega arith)
-      (lefts.near l i) (rights.near r j)).0
-
   pub sound_if_together : Together kind t → Sound kind t
   sound_if_together h = record {
     pair_tables = h.pair_tables;
     left_prices = h.left_prices;
     right_prices = h.right_prices;
-    under = λ l i r j s. subst (λ x. Upto x ((grid kind t).cost l r))
-        (sym (sum_exact h.left_prices h.right_prices l r i j)) (h.valid.under l r i j s);
+    under = (sound_if_valid kind t h.left_prices.near h.right_prices.near h.pair_tables.in_order
+        t.partners h.valid).under;
   }
 
   -- what was found of the prices, and then of the pairs
@@ -127,7 +119,7 @@ module _ {K : Type 0} (kind : Ghosts K) (wide : (x : K) → length (kind.meaning
             lefts = value t.left s.left_prices;
             rights = value t.right s.right_prices;
             under = λ l r h k e. subst (λ x. Upto x ((grid kind t).cost l r))
-                (sum_exact s.left_prices s.right_prices l r h k) (s.under l h r k e);
+                (sum_exact kind t s.left_prices.near s.right_prices.near l r h k) (s.under l h r k e);
             equal = tight.1;
           };
         }
