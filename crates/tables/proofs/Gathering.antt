@@ -7,8 +7,8 @@ use Rattle.std.proofs.Common.{Decides, arith}
 use mir.Val.{bool_byte}
 use lib.Bits.{bit_and, bit_or, or_step, or_zero_r}
 use Rattle.std.proofs.lemmas.Bool.Decides.{same_from_decides, Decides-and}
-use Rattle.std.proofs.lemmas.Bool.{leb-true, le-leb, ne_eqb, cases_Bool, or_cases, or_left, or_right}
-use Rattle.std.proofs.lemmas.Bool.{not-true, not_from_false, both_ways}
+use Rattle.std.proofs.lemmas.Bool.{leb-true, le-leb, ne_eqb, cases_Bool, or_cases, or_left}
+use Rattle.std.proofs.lemmas.Bool.{or_right, not-true, not_from_false, both_ways}
 use Rattle.tables.specs.PairTables.{says_stands, says_disturbed}
 
 lt_pow : (n : ℕ) → n < 2 ^ n

@@ -1,7 +1,7 @@
--- What a pass finds of the pairs decides whether they are sound, for one pair, one row and all rows.
+-- What a pass finds of the pairs decides whether they are sound: of one pair, one row and all rows.
 -- Idea: a row is sound one pair further if it was sound and the pair is, and the rows are sound one
 -- left block further if they were sound and its row is. A pair that stands is sound just where its
--- prices do not compare as greater than its cost.
+-- cost is within the limit and its prices do not compare as greater.
 use Rattle.std.proofs.Common.{◌≡◌, ℕ, ◌+◌, ◌-◌, ◌*◌, ◌<◌, ◌≤◌, Bool, true, false, not}
 use Rattle.std.proofs.Common.{◌&&◌, ◌||◌, eqb, List, length, get_or, take, drop, ℤ}
 use Rattle.std.proofs.Common.{Decides, Ordering, Less, Equal, Greater, sym, refl, ap, ◌∙◌, subst}
@@ -49,8 +49,8 @@ not_twice false = refl
 calm_byte : (byte : ℕ) → says_disturbed byte ≡ false → byte ≤ 1
 calm_byte byte e = grind (arith, nat_tests)
 
--- where the cost is within its limit, `order` is how the prices compare with it; that tells whether a
--- pair that stands is sound
+-- where the cost is within its limit, `order` is how the prices compare with it; that tells whether
+-- a pair that stands is sound
 module _ (left right cost : List ℤ) (order : Ordering)
     (known : within 1000000000 cost ≡ true → order ≡ lex (sums left right) cost) where
   abbrev pub wrong : Bool
@@ -92,7 +92,8 @@ module _ {K : Type 0} (kind : Ghosts K) (costs : List K) (standing : List ℕ) (
   -- one pair more
   module _ (r : ℕ) where
     abbrev pub Pair : Type 0
-    Pair = IsSoundPair (get_or standing r 0) left (columns_at kind right r) (columns_at kind costs r)
+    Pair = IsSoundPair (get_or standing r 0) left (columns_at kind right r)
+        (columns_at kind costs r)
 
     further : IsSoundRow kind r costs standing left right × Pair
         → IsSoundRow kind (r + 1) costs standing left right
@@ -126,7 +127,8 @@ module _ {K : Type 0} (kind : Ghosts K) (costs : List K) (standing : List ℕ) (
     )
 
     -- whose price and cost were read from their tables
-    module _ (price cost : K) (in_right : r < length right) (read_right : price ≡ get_or right r price)
+    module _ (price cost : K) (in_right : r < length right)
+        (read_right : price ≡ get_or right r price)
         (in_costs : r < length costs) (read_cost : cost ≡ get_or costs r cost) (order : Ordering)
         (known : within 1000000000 (kind.meaning cost) ≡ true
         → order ≡ lex (sums left (kind.meaning price)) (kind.meaning cost)) where
@@ -200,7 +202,8 @@ module _ {K : Type 0} (kind : Ghosts K) (n : ℕ) (costs : List K) (standing : L
           (columns_at kind left k) (columns_at kind right)
           (λ r. columns_at kind costs (place_of n k r))) l h.under
           (λ r below s.
-          subst (λ x. Upto (sums x (columns_at kind right r)) (columns_at kind costs (place_of n l r)))
+          subst (λ x. Upto (sums x (columns_at kind right r))
+          (columns_at kind costs (place_of n l r)))
           (value_at kind left l price in_left read)
           (subst (Upto (sums (kind.meaning price) (columns_at kind right r)))
           (columns_at_lem kind costs n l inside whole r below)
@@ -266,7 +269,8 @@ module _ {K : Type 0} (kind : Ghosts K) (n : ℕ) (costs : List K) (standing : L
 
 -- ---- Lent tables
 
-module _ {K : Type 0} (kind : Ghosts K) (t : Lent K) (lefts : Bounded kind 1000000000000 t.size t.left)
+module _ {K : Type 0} (kind : Ghosts K) (t : Lent K)
+    (lefts : Bounded kind 1000000000000 t.size t.left)
     (rights : Bounded kind 1000000000000 t.size t.right) where
   -- prices within 10^12 add up without the rail
   pub sum_exact : (l r : ℕ) → l < t.size → r < t.size

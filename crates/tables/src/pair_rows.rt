@@ -98,8 +98,8 @@ impl PairRows {
         }
     }
 
-    /// What `tight` answers where all pairs are known to be sound and the prices to be within 10^12,
-    /// as they are once a sheet is settled: then no sum is stopped, and no pair needs a branch.
+    /// What `tight` answers, where all pairs are known to be sound and the prices within 10^12, as
+    /// they are once a sheet is settled: then no sum is stopped, and no pair needs a branch.
     pub fn tight_within<K: Cost>(tables: &Tables<'_, K>) -> PairRows
         requires readable { IsReadable tables.now }
         requires left_near { Bounded K.Cost PRICE_LIMIT tables.now.size tables.now.left }

@@ -119,7 +119,8 @@ module _ {K : Type 0} (kind : Ghosts K) (wide : (x : K) → length (kind.meaning
             lefts = value t.left s.left_prices;
             rights = value t.right s.right_prices;
             under = λ l r h k e. subst (λ x. Upto x ((grid kind t).cost l r))
-                (sum_exact kind t s.left_prices.near s.right_prices.near l r h k) (s.under l h r k e);
+                (sum_exact kind t s.left_prices.near s.right_prices.near l r h k)
+                (s.under l h r k e);
             equal = tight.1;
           };
         }

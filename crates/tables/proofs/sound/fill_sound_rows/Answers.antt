@@ -1,5 +1,5 @@
--- One row more, made from its parts of the tables, or one that shows that not all is sound; at the end
--- all rows are made.
+-- One row more, made from its parts of the tables, or one that shows that not all is sound; at the
+-- end all rows are made.
 use Rattle.std.proofs.Common.{ℕ, ◌+◌, ◌-◌, ◌*◌, ◌<◌, length, get_or, take, drop, sym, ap, ◌∙◌}
 use Rattle.std.proofs.Common.{subst, ap₂, arith}
 use Rattle.std.proofs.lemmas.Bool.{false≢true}

@@ -1,5 +1,5 @@
--- What was gathered tells whether the pairs before r are sound, and if they are, the row has just the
--- right blocks before r that are tight.
+-- What was gathered tells whether the pairs before r are sound, and if they are, the row has just
+-- the right blocks before r that are tight.
 use Rattle.std.proofs.Common.{Decides, get_or}
 use Rattle.tables.specs.PairTables.{says_stands}
 use Rattle.tables.specs.Said.{columns_at}
