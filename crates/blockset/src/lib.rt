@@ -128,6 +128,15 @@ impl BlockSet {
         }
     }
 
+    /// Puts a block into the set if it is wanted there, and asks nothing on the way: a loop that
+    /// gathers a set has no branch on what it gathers.
+    pub fn insert_if(&mut self, block: usize, wanted: bool)
+        requires { block < SET_WIDTH }
+        ensures { (j : ℕ) → has self.new j ≡ ((wanted && j == block) || has self.old j) }
+    {
+        self.0 |= u64::from(wanted) << block;
+    }
+
     /// Takes a block out of the set, if it is in it.
     pub fn remove(&mut self, block: usize)
         ensures { (j : ℕ) → has self.new j ≡ (has self.old j && not (j == block)) }

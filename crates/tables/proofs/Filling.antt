@@ -1,9 +1,8 @@
 -- Filling rows of right blocks by a test: one row, a right block after the other, and the rows of a
 -- table, a row after the other.
--- Idea: a right block that passes is put in, and one that fails was not in yet, so in both cases
--- the row is right one right block further. A row is filled from its part of each table, in which
--- right block r stands at place r.
-use Rattle.std.proofs.Common.{◌≡◌, ℕ, ◌+◌, ◌-◌, ◌*◌, ◌<◌, ◌≤◌, Bool, false, ◌&&◌, ltb, List, []}
+-- Idea: a right block is put in just if it passes, so the row is right one right block further. A
+-- row is filled from its part of each table, in which right block r stands at place r.
+use Rattle.std.proofs.Common.{◌≡◌, ℕ, ◌+◌, ◌-◌, ◌*◌, ◌<◌, ◌≤◌, Bool, ◌&&◌, ◌||◌, eqb, ltb, List, []}
 use Rattle.std.proofs.Common.{map, length, get_or, take, drop, set, sym, ap, ◌∙◌, inl, inr}
 use Rattle.std.proofs.Common.{add-mul, one-mul, arith}
 use Rattle.std.proofs.lemmas.List.{get_or-set_same, get_or-set_other, get_or-take, get_or-drop}
@@ -20,12 +19,15 @@ use Rattle.tables.specs.Said.{columns_at}
 use Rattle.tables.specs.PairRows.{HoldsPassing}
 
 module _ (row : BlockSet) (k : ℕ) (test : ℕ → Bool) (filled : HoldsPassing k test row) where
-  pub left_out : test k ≡ false → HoldsPassing (k + 1) test row
-  left_out fails j = filled j ∙ step
+  pub put_if : (wanted : Bool) (new : BlockSet) → k < 64 → wanted ≡ test k
+      → ((j : ℕ) → has new j ≡ ((wanted && eqb j k) || has row j)) → HoldsPassing (k + 1) test new
+  put_if wanted new small is put j =
+      put j ∙ ap (λ x. (wanted && eqb j k) || x) (filled j) ∙ step
     where
-      step : (ltb j 64 && (ltb j k && test j)) ≡ (ltb j 64 && (ltb j (k + 1) && test j))
+      step : ((wanted && eqb j k) || (ltb j 64 && (ltb j k && test j)))
+          ≡ (ltb j 64 && (ltb j (k + 1) && test j))
       step = elim (cases_eq j k) [
-        | inl e ↦ (let p : test j ≡ false = ap test e ∙ fails in grind (arith, nat_tests))
+        | inl e ↦ (let p : test j ≡ wanted = ap test e ∙ sym is in grind (arith, nat_tests))
         | inr ne ↦ grind (arith, nat_tests)
       ]
 

@@ -3,6 +3,8 @@ pub mod Alike
 pub mod Orderly
 pub mod Tightness
 pub mod Lengths
+pub mod Gathering
+pub mod Sounding
 pub mod Orders
 pub mod Cells
 pub mod Writing

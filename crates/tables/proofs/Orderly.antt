@@ -1,11 +1,10 @@
 -- The test that pair tables are in order tells just that, and the grid of such tables is sane.
 -- Idea: the test asks the same of every place, so it is an induction over the tables; the pair of l
 -- and r has its own place.
-use Rattle.std.proofs.Common.{◌≡◌, ℕ, zero, suc, ◌<◌, ◌≤◌, true, false, not, ◌||◌, List, [], ◌∷◌}
-use Rattle.std.proofs.Common.{length, get_or, ℤ, Decides, refl, inl, inr, arith}
+use Rattle.std.proofs.Common.{◌≡◌, ℕ, zero, suc, ◌<◌, ◌≤◌, true, false, List, [], ◌∷◌}
+use Rattle.std.proofs.Common.{length, get_or, ℤ, Decides, refl, arith}
 use Rattle.std.proofs.lemmas.Nat.{mul-add-lt}
-use Rattle.std.proofs.lemmas.Bool.{and_parts, and_from, cases_Bool, or_cases, or_left, or_right}
-use Rattle.std.proofs.lemmas.Bool.{not-true, not_from_false, both_ways}
+use Rattle.std.proofs.lemmas.Bool.{and_parts, and_from}
 use Rattle.cost.specs.declared.Cost.{Ghosts}
 use Rattle.cost.specs.Columns.{Within, within}
 use Rattle.cost.proofs.Exact.{within_tells}
@@ -13,35 +12,12 @@ use Rattle.tables.specs.PairTables.{says_stands, says_disturbed, is_place_in_ord
 use Rattle.pairing.specs.Places.{place_of, places_of}
 use Rattle.pairing.specs.Grid.{Sane}
 use Rattle.tables.specs.Said.{columns_at, grid_of, IsInOrder}
+use Rattle.tables.proofs.Gathering.{fine_tells}
 
 place_tells : (columns : List ℤ) (byte : ℕ) → Decides (is_place_in_order columns byte)
     ((says_disturbed byte ≡ false) × (says_stands byte ≡ true → Within 1000000000 columns))
-place_tells columns byte = (tells, from)
-  where
-    tells : is_place_in_order columns byte ≡ true → (says_disturbed byte ≡ false)
-        × (says_stands byte ≡ true → Within 1000000000 columns)
-    tells e =
-        let both = and_parts (not (says_disturbed byte))
-        (not (says_stands byte) || within 1000000000 columns) e in (
-          not-true (says_disturbed byte) both.0,
-          λ stands. elim (or_cases (not (says_stands byte)) (within 1000000000 columns) both.1) [
-            | inl absent ↦
-                absurd (both_ways (says_stands byte) (not-true (says_stands byte) absent) stands)
-            | inr small ↦ (within_tells 1000000000 columns).0 small
-          ],
-        )
-
-    from : (says_disturbed byte ≡ false) × (says_stands byte ≡ true → Within 1000000000 columns)
-        → is_place_in_order columns byte ≡ true
-    from h =
-        and_from (not (says_disturbed byte)) (not (says_stands byte) || within 1000000000 columns)
-        (not_from_false (says_disturbed byte) h.0)
-        (elim (cases_Bool (says_stands byte)) [
-          | inl stands ↦ or_right (not (says_stands byte)) (within 1000000000 columns)
-              ((within_tells 1000000000 columns).1 (h.1 stands))
-          | inr absent ↦ or_left (not (says_stands byte)) (within 1000000000 columns)
-              (not_from_false (says_stands byte) absent)
-        ])
+place_tells columns byte =
+    fine_tells byte (within 1000000000 columns) (within_tells 1000000000 columns)
 
 module _ {K : Type 0} (kind : Ghosts K) where
   passes : (costs : List K) (bytes : List ℕ) (places : ℕ) → length costs ≡ places

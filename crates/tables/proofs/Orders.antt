@@ -2,8 +2,8 @@
 -- Idea: what the tables say is a recursion over them, so what is left of the tables at a place
 -- still gives the answer for the whole.
 use Rattle.std.proofs.Common.{◌≡◌, ℕ, zero, suc, ◌+◌, ◌<◌, ◌≤◌, min, true, cond, not, ◌||◌}
-use Rattle.std.proofs.Common.{List, [], ◌∷◌, length, get_or, drop, ℤ, sym, refl, ap, ◌∙◌, ⊎_elim}
-use Rattle.std.proofs.Common.{count_by, arith}
+use Rattle.std.proofs.Common.{List, [], ◌∷◌, length, get_or, drop, ℤ, sym, refl, ap, ap₂, ◌∙◌}
+use Rattle.std.proofs.Common.{⊎_elim, ◌&&◌, count_by, arith}
 use Rattle.std.proofs.lemmas.List.Sums.{sum_by-cons}
 use Rattle.std.proofs.lemmas.List.{drop_more, drop_all}
 use Rattle.std.proofs.lemmas.Bool.{cases_lt, and_parts}
@@ -24,6 +24,15 @@ module _ {K : Type 0} (meaning : K → List ℤ) (costs : List K) (bytes : List 
       ∙ in_order_no_bytes meaning (drop k costs))
       (λ l. ap (λ t. in_order meaning t (drop k bytes)) (drop_all k costs l))
       (cases_lt k (length costs))
+
+-- what is left of the tables at a place is the place and what is left past it
+pub in_order_more : {K : Type 0} (meaning : K → List ℤ) (costs : List K) (bytes : List ℕ) (d : K)
+    (k : ℕ) → k < length costs → k < length bytes
+    → in_order meaning (drop k costs) (drop k bytes)
+    ≡ (is_place_in_order (meaning (get_or costs k d)) (get_or bytes k 0)
+    && in_order meaning (drop (k + 1) costs) (drop (k + 1) bytes))
+in_order_more meaning costs bytes d k h i =
+    ap₂ (in_order meaning) (drop_more costs k d h) (drop_more bytes k 0 i)
 
 -- the pairs that stand from a place on
 pub standing_more : (bytes : List ℕ) (k : ℕ) → k < length bytes

@@ -2,7 +2,7 @@
 -- order.
 -- Idea: at the pair's place stand the new byte and the new cost, and everywhere else what stood
 -- there before.
-use Rattle.std.proofs.Common.{◌≡◌, ℕ, ◌<◌, Bool, true, false, List, [], length, get_or, set, ℤ, sym}
+use Rattle.std.proofs.Common.{◌≡◌, ℕ, ◌<◌, Bool, true, false, List, [], length, get_or, set, sym}
 use Rattle.std.proofs.Common.{ap, ◌∙◌, subst, ⊎_elim, replicate, arith}
 use Rattle.std.proofs.lemmas.List.{length-set, get_or-map, get_or-replicate, get_or-set_other}
 use Rattle.std.proofs.lemmas.Grind.{get_or-set_at}

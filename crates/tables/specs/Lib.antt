@@ -4,3 +4,4 @@ pub mod Flaws
 pub mod Lent
 pub mod PairRows
 pub mod Together
+pub mod Sound

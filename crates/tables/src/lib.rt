@@ -7,6 +7,7 @@ mod lent;
 mod pair_rows;
 mod pair_tables;
 mod rows;
+mod sound;
 
 pub use blockset::MOST_BLOCKS;
 pub use cost::COST_LIMIT;

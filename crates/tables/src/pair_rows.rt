@@ -1,14 +1,18 @@
 //! Rows of block sets as one value: which right blocks each left block may be paired with.
 
-ghost use Rattle.std.specs.Prelude.{◌≡◌, ◌≤◌, length};
+ghost use Rattle.std.specs.Prelude.{◌≡◌, ◌≤◌, length, IfNone, IfSome};
 ghost use Rattle.blockset.specs.declared.TheConstants.{MOST_BLOCKS};
+ghost use Rattle.cost.specs.declared.TheConstants.{PRICE_LIMIT};
 ghost use Rattle.pairing.specs.Places.{places_of};
 ghost use Rattle.tables.specs.PairTables.{byte_of, says_stands};
 ghost use Rattle.tables.specs.PairRows.{StandingRows, TightRows};
 ghost use Rattle.tables.specs.Lent.{IsReadable, grid, left_price, right_price};
+ghost use Rattle.tables.specs.Said.{Bounded};
+ghost use Rattle.tables.specs.Sound.{IsSound};
 
 use crate::lent::Tables;
 use crate::rows::{fill_standing_rows, fill_tight_rows};
+use crate::sound::fill_sound_rows;
 use blockset::{BlockSet, SET_WIDTH};
 use cost::Cost;
 use std::marker::Model;
@@ -62,6 +66,58 @@ impl PairRows {
             tables.left,
             tables.right,
             rows,
+        );
+        PairRows { sets, len }
+    }
+
+    /// The same, if all pairs are sound: the pair tables are in order, and no standing pair costs
+    /// less than its two prices. The prices are known to be within 10^12.
+    pub fn sound<K: Cost>(tables: &Tables<'_, K>) -> Option<PairRows>
+        requires readable { IsReadable tables.now }
+        requires left_near { Bounded K.Cost PRICE_LIMIT tables.now.size tables.now.left }
+        requires right_near { Bounded K.Cost PRICE_LIMIT tables.now.size tables.now.right }
+        ensures unsound { IfNone result (IsSound K.Cost tables.now → ⊥) }
+        ensures sound { IfSome result (λ _. IsSound K.Cost tables.now) }
+        ensures long { IfSome result (λ rows. length rows ≡ tables.now.size) }
+        ensures rows { IfSome result (TightRows (grid K.Cost tables.now)
+            (left_price K.Cost tables.now) (right_price K.Cost tables.now)) }
+    {
+        let len = tables.size as usize;
+        let mut sets = [BlockSet::empty(); SET_WIDTH];
+        let rows = &mut sets[..len];
+        if fill_sound_rows(
+            tables.costs,
+            tables.standing,
+            tables.left,
+            tables.right,
+            rows,
+        ) {
+            Some(PairRows { sets, len })
+        } else {
+            None
+        }
+    }
+
+    /// What `tight` answers, where all pairs are known to be sound and the prices within 10^12, as
+    /// they are once a sheet is settled: then no sum is stopped, and no pair needs a branch.
+    pub fn tight_within<K: Cost>(tables: &Tables<'_, K>) -> PairRows
+        requires readable { IsReadable tables.now }
+        requires left_near { Bounded K.Cost PRICE_LIMIT tables.now.size tables.now.left }
+        requires right_near { Bounded K.Cost PRICE_LIMIT tables.now.size tables.now.right }
+        requires sound { IsSound K.Cost tables.now }
+        ensures long { length result ≡ tables.now.size }
+        ensures rows { TightRows (grid K.Cost tables.now) (left_price K.Cost tables.now)
+            (right_price K.Cost tables.now) result }
+    {
+        let len = tables.size as usize;
+        let mut sets = [BlockSet::empty(); SET_WIDTH];
+        let tight = &mut sets[..len];
+        let _sound = fill_sound_rows(
+            tables.costs,
+            tables.standing,
+            tables.left,
+            tables.right,
+            tight,
         );
         PairRows { sets, len }
     }

@@ -2,7 +2,7 @@
 ghost use Rattle.std.specs.Prelude.{◌≡◌, ◌≤◌, length, replicate, count_by};
 ghost use Rattle.pairing.specs.Places.{place_of, places_of};
 ghost use Rattle.tables.specs.PairTables.{have_places, says_stands, says_disturbed};
-ghost use Rattle.tables.specs.PairTables.{is_place_in_order, in_order};
+ghost use Rattle.tables.specs.PairTables.{in_order};
 
 use cost::{COST_LIMIT, Cost};
 
@@ -41,24 +41,20 @@ pub fn disturbed(byte: u8) -> bool
     byte > 1
 }
 
-// Whether a place is in order.
-fn place_in_order<K: Cost>(cost: K, byte: u8) -> bool
-    ensures { result ≡ is_place_in_order (K.meaning cost) byte }
-{
-    !disturbed(byte) && (!stands(byte) || cost.within(COST_LIMIT))
-}
-
 /// Whether no standing byte is disturbed and each standing pair's cost is within 10^9, over the
 /// places that both tables have.
 pub fn in_order<K: Cost>(costs: &[K], standing: &[u8]) -> bool
     ensures { result ≡ in_order K.meaning costs.now standing.now }
 {
+    // Each bit that some byte has, and not 0 if a standing pair costs too much.
+    let mut seen = 0;
+    let mut faults = 0;
     for k in 0..costs.len().min(standing.len()) {
-        if !place_in_order(costs[k], standing[k]) {
-            return false;
-        }
+        let byte = u64::from(standing[k]);
+        seen |= byte;
+        faults |= byte & u64::from(!costs[k].within(COST_LIMIT));
     }
-    true
+    (seen <= 1) & (faults == 0)
 }
 
 /// How many pairs stand.

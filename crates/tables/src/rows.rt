@@ -2,7 +2,7 @@
 //! with left block l.
 
 ghost use Rattle.std.specs.Prelude.{◌≡◌, ◌≤◌, ⊤, length, IfErr, OnErr, OnOk, slice_index};
-ghost use Rattle.blockset.specs.declared.TheConstants.{MOST_BLOCKS};
+ghost use Rattle.blockset.specs.declared.TheConstants.{MOST_BLOCKS, SET_WIDTH};
 ghost use Rattle.pairing.specs.Places.{places_of};
 ghost use Rattle.tables.specs.PairTables.{byte_of, says_stands};
 ghost use Rattle.tables.specs.Said.{columns_at, grid_of};
@@ -19,13 +19,12 @@ use cost::Cost;
 
 /// The right blocks that stand with one left block, whose standing bytes these are.
 fn standing_row(bytes: &[u8]) -> BlockSet
+    requires { length bytes.now ≤ SET_WIDTH }
     ensures { HoldsPassing (length bytes.now) (λ r. says_stands (slice_index bytes.now r)) result }
 {
     let mut row = BlockSet::empty();
     for (r, byte) in bytes.iter().enumerate() {
-        if stands(*byte) {
-            row.insert(r);
-        }
+        row.insert_if(r, stands(*byte));
     }
     row
 }
@@ -72,12 +71,13 @@ fn tight<K: Cost>(byte: u8, left: K, right: K, cost: K) -> bool
     ensures { result ≡ adds_up (says_stands byte) (K.meaning left) (K.meaning right)
         (K.meaning cost) }
 {
-    stands(byte) && left.add(right).compare(cost).is_eq()
+    stands(byte) & left.add(right).compare(cost).is_eq()
 }
 
 /// The right blocks that are tight with one left block, of which this is the price and the parts of
 /// the pair tables.
 fn tight_row<K: Cost>(costs: &[K], standing: &[u8], left: K, right: &[K]) -> BlockSet
+    requires few { length right.now ≤ SET_WIDTH }
     requires priced { length costs.now ≡ length right.now }
     requires told { length standing.now ≡ length right.now }
     ensures { HoldsPassing (length right.now)
@@ -86,9 +86,7 @@ fn tight_row<K: Cost>(costs: &[K], standing: &[u8], left: K, right: &[K]) -> Blo
 {
     let mut row = BlockSet::empty();
     for (r, byte) in standing.iter().enumerate() {
-        if tight(*byte, left, right[r], costs[r]) {
-            row.insert(r);
-        }
+        row.insert_if(r, tight(*byte, left, right[r], costs[r]));
     }
     row
 }

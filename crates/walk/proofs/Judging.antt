@@ -1,16 +1,15 @@
 -- From what the parts of the tables are found to be to what is said of them.
 -- Idea: each test decides its fact, and a fact that fails at one place fails. Prices within 10^12
 -- add up without the rail, so that the kind's own sums decide about the exact ones.
-use Rattle.std.proofs.Common.{◌≡◌, ℕ, ◌+◌, ◌-◌, ◌*◌, ◌<◌, ◌≤◌, Bool, true, false, ◌↔◌, List}
-use Rattle.std.proofs.Common.{length, get_or, take, drop, ℤ, Decides}
-use Rattle.std.proofs.Common.{sym, ap, ◌∙◌, subst, arith, below_more, Contains}
+use Rattle.std.proofs.Common.{◌≡◌, ℕ, ◌+◌, ◌*◌, ◌<◌, ◌≤◌, true, false, ◌↔◌, List}
+use Rattle.std.proofs.Common.{length, get_or, Decides}
+use Rattle.std.proofs.Common.{sym, ◌∙◌, subst, arith, below_more, Contains}
 use Rattle.std.proofs.lemmas.Bool.{both_ways, false≢true}
 use Rattle.std.proofs.lemmas.Bool.Decides.{Decides-like}
 use Rattle.cost.specs.declared.Cost.{Ghosts}
-use Rattle.cost.specs.Columns.{Within, within, sums, plus}
-use Rattle.cost.proofs.Exact.{within_tells, within_more, exact}
-use Rattle.tables.specs.PairTables.{byte_of, says_stands, in_order}
-use Rattle.pairing.specs.Places.{place_of}
+use Rattle.cost.specs.Columns.{Within, within}
+use Rattle.cost.proofs.Exact.{within_tells, within_more}
+use Rattle.tables.specs.PairTables.{in_order}
 use Rattle.blockset.specs.declared.BlockSet.{BlockSet}
 use Rattle.pairing.specs.Grid.{Sane, Upto, Optimum}
 use Rattle.pairing.specs.Prices.{Value}
@@ -18,13 +17,15 @@ use Rattle.pairing.proofs.Listing.{perfects_are, optima_are as optima_are_lem}
 use Rattle.pairing.specs.Rows.{holds, Pairs}
 use Rattle.matching.specs.Fit.{Fits}
 use Rattle.tables.specs.Said.{columns_at, Bounded}
-use Rattle.tables.specs.Lent.{Lent, grid, left_price, right_price}
+use Rattle.tables.specs.Lent.{Lent, grid, left_price, right_price, IsReadable}
+use Rattle.tables.specs.Sound.{IsSound}
 use Rattle.tables.specs.PairRows.{TightRows}
-use Rattle.tables.proofs.Filling.{value_at, row_at, columns_at_lem}
+use Rattle.tables.proofs.Filling.{value_at}
 use Rattle.tables.proofs.Orderly.{in_order_tells, sane_in_order, columns_sized}
 use Rattle.tables.proofs.Tightness.{pairs_tight, pairings_are_optima}
+use Rattle.tables.proofs.Sounding.{sum_exact, sound_if_valid}
 use Rattle.tables.specs.Together.{ArePairTables, ArePrices, Together}
-use Rattle.walk.specs.Certified.{RowUnder, Sound, Certified}
+use Rattle.walk.specs.Certified.{Sound, Certified}
 
 -- what does not hold is rightly denied
 pub denied : {P : Type 0} → (P → ⊥) → Decides false P
@@ -58,52 +59,6 @@ module _ {K : Type 0} (kind : Ghosts K) (limit : ℕ) (table : List K) (k : ℕ)
       ((within_tells limit (kind.meaning x)).1
       (subst (Within limit) (sym (value_at kind table k x inside read)) (h k inside)))
 
--- ---- Prices against costs
-
--- a row by its parts of the tables
-module _ {K : Type 0} (kind : Ghosts K) (n l : ℕ) (costs : List K) (standing : List ℕ)
-    (right : ℕ → List ℤ) (inside : l < n) (whole : length costs ≡ n * n)
-    (bytes : length standing ≡ n * n) where
-  row_like : (left left' : List ℤ) → left ≡ left'
-      → RowUnder n
-      (λ r. says_stands (get_or (take (l * n + n - l * n) (drop (l * n) standing)) r 0)) left
-      right (columns_at kind (take (l * n + n - l * n) (drop (l * n) costs)))
-      → RowUnder n (λ r. says_stands (byte_of n standing l r)) left' right
-      (λ r. columns_at kind costs (place_of n l r))
-  row_like left left' e h r below t =
-      subst (λ x. Upto (sums x (right r)) (columns_at kind costs (place_of n l r))) e
-      (subst (λ c. Upto (sums left (right r)) c)
-      (columns_at_lem kind costs n l inside whole r below)
-      (h r below (ap says_stands (row_at standing n l inside bytes r 0 below) ∙ t)))
-
-  row_back : (left left' : List ℤ) → left ≡ left'
-      → RowUnder n (λ r. says_stands (byte_of n standing l r)) left' right
-      (λ r. columns_at kind costs (place_of n l r))
-      → RowUnder n
-      (λ r. says_stands (get_or (take (l * n + n - l * n) (drop (l * n) standing)) r 0)) left
-      right (columns_at kind (take (l * n + n - l * n) (drop (l * n) costs)))
-  row_back left left' e h r below t =
-      subst (λ x. Upto (sums x (right r))
-      (columns_at kind (take (l * n + n - l * n) (drop (l * n) costs)) r)) (sym e)
-      (subst (λ c. Upto (sums left' (right r)) c)
-      (sym (columns_at_lem kind costs n l inside whole r below))
-      (h r below (sym (ap says_stands (row_at standing n l inside bytes r 0 below)) ∙ t)))
-
-  pub row_decides : (b : Bool) (m : ℕ) (left left' : List ℤ) → m ≡ n → left ≡ left'
-      → Decides b
-      (RowUnder m
-      (λ r. says_stands (get_or (take (l * n + n - l * n) (drop (l * n) standing)) r 0)) left
-      right (columns_at kind (take (l * n + n - l * n) (drop (l * n) costs))))
-      → Decides b (RowUnder n (λ r. says_stands (byte_of n standing l r)) left' right
-      (λ r. columns_at kind costs (place_of n l r)))
-  row_decides b m left left' e f told =
-      let P : ℕ → Type 0 =
-      λ k. Decides b
-      (RowUnder k
-      (λ r. says_stands (get_or (take (l * n + n - l * n) (drop (l * n) standing)) r 0)) left
-      right (columns_at kind (take (l * n + n - l * n) (drop (l * n) costs)))) in
-      Decides-like b (row_like left left' f) (row_back left left' f) (subst P e told)
-
 -- ---- All of it
 
 module _ {K : Type 0} (kind : Ghosts K) (wide : (x : K) → length (kind.meaning x) ≡ kind.columns)
@@ -120,23 +75,32 @@ module _ {K : Type 0} (kind : Ghosts K) (wide : (x : K) → length (kind.meaning
         (omega arith) (p.near k h);
   }
 
-  -- prices within 10^12 add up without the rail
-  sum_exact : ArePrices kind t.size t.left → ArePrices kind t.size t.right → (l r : ℕ)
-      → l < t.size → r < t.size
-      → sums (left_price kind t l) (right_price kind t r) ≡ plus (left_price kind t l)
-      (right_price kind t r)
-  sum_exact lefts rights l r i j =
-      (exact 1000000000000 1000000000000 (left_price kind t l) (right_price kind t r) (omega arith)
-      (lefts.near l i) (rights.near r j)).0
-
   pub sound_if_together : Together kind t → Sound kind t
   sound_if_together h = record {
     pair_tables = h.pair_tables;
     left_prices = h.left_prices;
     right_prices = h.right_prices;
-    under = λ l i r j s. subst (λ x. Upto x ((grid kind t).cost l r))
-        (sym (sum_exact h.left_prices h.right_prices l r i j)) (h.valid.under l r i j s);
+    under = (sound_if_valid kind t h.left_prices.near h.right_prices.near h.pair_tables.in_order
+        t.partners h.valid).under;
   }
+
+  -- what was found of the prices, and then of the pairs
+  pub sound_from : IsReadable t → ArePrices kind t.size t.left → ArePrices kind t.size t.right
+      → IsSound kind t → Sound kind t
+  sound_from readable lefts rights s = record {
+    pair_tables = record {
+      few = readable.few;
+      costs_long = readable.room.costs_long;
+      standing_long = readable.room.standing_long;
+      in_order = s.in_order;
+    };
+    left_prices = lefts;
+    right_prices = rights;
+    under = s.under;
+  }
+
+  pub pairs_sound : Sound kind t → IsSound kind t
+  pairs_sound s = record { in_order = s.pair_tables.in_order; under = s.under }
 
   -- over the rows of tight pairs, the partners decide
   module _ (s : Sound kind t) (rows : List BlockSet) (sized : length rows ≡ t.size)
@@ -155,7 +119,8 @@ module _ {K : Type 0} (kind : Ghosts K) (wide : (x : K) → length (kind.meaning
             lefts = value t.left s.left_prices;
             rights = value t.right s.right_prices;
             under = λ l r h k e. subst (λ x. Upto x ((grid kind t).cost l r))
-                (sum_exact s.left_prices s.right_prices l r h k) (s.under l h r k e);
+                (sum_exact kind t s.left_prices.near s.right_prices.near l r h k)
+                (s.under l h r k e);
             equal = tight.1;
           };
         }

@@ -1,15 +1,15 @@
 -- What a test of lent tables hands out: rows over which just the optimum pairings are perfect.
-use Rattle.std.specs.Prelude.{◌≡◌, ℕ, ◌<◌, ◌≤◌, Bool, true, List, length, ℤ}
+use Rattle.std.specs.Prelude.{◌≡◌, ℕ, ◌≤◌, List, length}
 use Rattle.blockset.specs.declared.BlockSet.{BlockSet}
 use Rattle.blockset.specs.declared.TheConstants.{MOST_BLOCKS}
 use Rattle.cost.specs.declared.Cost.{Ghosts}
-use Rattle.cost.specs.Columns.{sums}
-use Rattle.pairing.specs.Grid.{Grid, Upto, Perfect}
+use Rattle.pairing.specs.Grid.{Perfect}
 use Rattle.pairing.specs.Optima.{optima}
 use Rattle.pairing.specs.Places.{places_of}
 use Rattle.pairing.specs.Rows.{Pairs, pairings}
 use Rattle.tables.specs.PairTables.{byte_of, says_stands}
 use Rattle.tables.specs.Lent.{Lent, grid, left_price, right_price}
+use Rattle.tables.specs.Sound.{Under}
 use Rattle.tables.specs.Together.{ArePairTables, ArePrices, Together}
 
 -- partners that are a perfect pairing over the standing pairs of at most 64 blocks a plane
@@ -17,15 +17,6 @@ pub record ArePerfect (n : ℕ) (standing partners : List ℕ) : Type 0 where
   pub few : n ≤ MOST_BLOCKS
   pub long : length standing ≡ places_of n
   pub perfect : Perfect n (λ l r. says_stands (byte_of n standing l r)) partners
-
--- no standing pair of one left block costs less than its two prices, as the kinds add
-abbrev pub RowUnder : (n : ℕ) (stands : ℕ → Bool) (left : List ℤ) (right cost : ℕ → List ℤ) → Type 0
-RowUnder n stands left right cost =
-    (r : ℕ) → r < n → stands r ≡ true → Upto (sums left (right r)) (cost r)
-
--- the same of every left block
-abbrev pub Under : Grid → (left right : ℕ → List ℤ) → Type 0
-Under g left right = (l : ℕ) → l < g.size → RowUnder g.size (g.stands l) (left l) right (g.cost l)
 
 module _ {K : Type 0} (kind : Ghosts K) (t : Lent K) where
   -- the tables hold together but for their partners

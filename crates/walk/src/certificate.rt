@@ -1,19 +1,16 @@
 //! Do lent tables hold together? Each public function says yes exactly if they do, whatever the
 //! tables hold and however long they are; `certify` hands out what it found.
 
-ghost use Rattle.std.specs.Prelude.{◌≡◌, ◌&&◌, length, IsTrue, ◌↔◌, IfNone, IfSome, slice_index};
-ghost use Rattle.std.specs.Ordering.{is_gt};
-ghost use Rattle.cost.specs.Columns.{sums, lex};
+ghost use Rattle.std.specs.Prelude.{length, IsTrue, ◌↔◌, IfNone, IfSome};
 ghost use Rattle.pairing.specs.Grid.{Optimum};
-ghost use Rattle.tables.specs.PairTables.{says_stands};
-ghost use Rattle.tables.specs.Said.{columns_at, grid_of, Bounded};
-ghost use Rattle.tables.specs.Lent.{lent, grid, left_price, right_price};
+ghost use Rattle.tables.specs.Said.{Bounded};
+ghost use Rattle.tables.specs.Lent.{lent, grid, IsReadable};
 ghost use Rattle.tables.specs.Together.{ArePairTables, ArePrices, Together};
-ghost use Rattle.walk.specs.Certified.{ArePerfect, RowUnder, Under, Sound, Certified};
+ghost use Rattle.walk.specs.Certified.{ArePerfect, Certified};
 
 use cost::{Cost, PRICE_LIMIT};
 use matching::is_pairing;
-use tables::{MOST_BLOCKS, PairRows, Tables, have_places, in_order, places, stands};
+use tables::{MOST_BLOCKS, PairRows, Tables, have_places, in_order, places};
 
 // ---- The pair tables
 
@@ -61,69 +58,19 @@ fn are_prices<K: Cost>(n: u16, prices: &[K]) -> bool
     prices.len() == n as usize && prices_within_limit(prices)
 }
 
-/// Whether a pair stands and costs less than its two prices.
-fn undercuts<K: Cost>(byte: u8, left: K, right: K, cost: K) -> bool
-    ensures { result ≡ (says_stands byte && is_gt
-        (lex (sums (K.meaning left) (K.meaning right)) (K.meaning cost))) }
-{
-    stands(byte) && left.add(right).compare(cost).is_gt()
-}
-
-/// Whether no standing pair of one left block, of which this is the price and the parts of the pair
-/// tables, costs less than its two prices.
-fn row_under<K: Cost>(costs: &[K], standing: &[u8], left: K, right: &[K]) -> bool
-    requires costs_long { length costs.now ≡ length right.now }
-    requires standing_long { length standing.now ≡ length right.now }
-    ensures { IsTrue result ↔ RowUnder (length right.now)
-        (λ r. says_stands (slice_index standing.now r)) (K.meaning left)
-        (columns_at K.Cost right.now) (columns_at K.Cost costs.now) }
-{
-    for (r, byte) in standing.iter().enumerate() {
-        if undercuts(*byte, left, right[r], costs[r]) {
-            return false;
-        }
-    }
-    true
-}
-
-/// Whether no standing pair costs less than its two prices.
-fn grid_under<K: Cost>(n: u16, costs: &[K], standing: &[u8], left: &[K], right: &[K]) -> bool
-    requires tables { ArePairTables K.Cost n costs.now standing.now }
-    requires left_long { length left.now ≡ n }
-    requires right_long { length right.now ≡ n }
-    ensures { IsTrue result ↔ Under (grid_of K.Cost n costs.now standing.now)
-        (columns_at K.Cost left.now) (columns_at K.Cost right.now) }
-{
-    let width = n as usize;
-    for (l, price) in left.iter().enumerate() {
-        let start = l * width;
-        let end = start + width;
-        if !row_under(&costs[start..end], &standing[start..end], *price, right) {
-            return false;
-        }
-    }
-    true
-}
-
-/// Whether the tables hold together but for their partners.
-fn is_sound<K: Cost>(tables: &Tables<'_, K>) -> bool
-    ensures { IsTrue result ↔ Sound K.Cost tables.now }
-{
-    let Tables {
-        size: n,
-        costs,
-        standing,
-        partners: _,
-        left,
-        right,
-    } = *tables;
-    are_pair_tables(n, costs, standing)
-        && are_prices(n, left)
-        && are_prices(n, right)
-        && grid_under(n, costs, standing, left, right)
-}
-
 // ---- All of it
+
+/// Whether the tables but the partners have the lengths that their size asks for, at most 64 blocks
+/// a plane, and each price is within 10^12 in each column.
+fn are_priced<K: Cost>(tables: &Tables<'_, K>) -> bool
+    ensures { let t = tables.now in IsTrue result ↔ (IsReadable t
+        × ArePrices K.Cost t.size t.left × ArePrices K.Cost t.size t.right) }
+{
+    tables.size <= MOST_BLOCKS
+        && have_places(tables.size, tables.costs.len(), tables.standing.len())
+        && are_prices(tables.size, tables.left)
+        && are_prices(tables.size, tables.right)
+}
 
 /// If the tables hold together, rows over which just the optimum pairings are perfect: the rows of
 /// the tight pairs.
@@ -131,10 +78,10 @@ pub fn certify<K: Cost>(tables: &Tables<'_, K>) -> Option<PairRows>
     ensures apart { IfNone result (Together K.Cost tables.now → ⊥) }
     ensures certified { IfSome result (Certified K.Cost tables.now) }
 {
-    if !is_sound(tables) {
+    if !are_priced(tables) {
         return None;
     }
-    let rows = PairRows::tight(tables);
+    let rows = PairRows::sound(tables)?;
     if is_pairing(rows.as_slice(), tables.partners) {
         Some(rows)
     } else {

@@ -1,5 +1,5 @@
 -- Past the test of the lengths, the test of the order decides.
-use Rattle.std.proofs.Common.{◌≡◌, sym, ◌∙◌, subst}
+use Rattle.std.proofs.Common.{sym, ◌∙◌, subst}
 use Rattle.std.proofs.lemmas.Bool.{both_ways}
 use Rattle.tables.specs.PairTables.{in_order}
 use Rattle.pairing.specs.Places.{places_of}
