@@ -1,1 +1,2 @@
 mod NewTables
+mod WordSteps

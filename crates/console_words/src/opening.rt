@@ -2,6 +2,7 @@
 
 ghost use Rattle.std.specs.Prelude.{◌≡◌, ◌↔◌, Ok, codes};
 ghost use Rattle.console_words.specs.declared.opening.ColumnCount.TheVariants.{One, Two};
+ghost use Rattle.console_words.specs.Naming.{columns_words};
 
 use crate::complaint::Complaint;
 use crate::sheet_size::SheetSize;
@@ -29,7 +30,9 @@ impl ColumnCount {
     }
 
     /// What is said of it.
-    pub fn in_words(self) -> &'static str {
+    pub fn in_words(self) -> &'static str
+        ensures { result.now ≡ columns_words self }
+    {
         match self {
             ColumnCount::One => "a cost is one number",
             ColumnCount::Two => "a cost is two numbers, and the first decides before the second",

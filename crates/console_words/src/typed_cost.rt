@@ -1,6 +1,6 @@
 //! Costs as they are typed and printed: one whole number, or two.
 
-ghost use Rattle.std.specs.Prelude.{◌≡◌, ℕ, List, ◌++◌, codes, OnOk, string_bytes};
+ghost use Rattle.std.specs.Prelude.{◌≡◌, ℕ, ℤ, List, [], ◌∷◌, ◌++◌, codes, OnOk, string_bytes};
 ghost use Rattle.std.specs.Fmt.{signed_decimal};
 
 use crate::complaint::Complaint;
@@ -13,8 +13,15 @@ pub trait TypedCost: Cost {
     // How a cost is written.
     ghost written: { Self → List ℕ };
 
+    // The numbers that it is typed as.
+    ghost numbers: { Self → List ℤ };
+
+    // The form of a line that enters a pair.
+    ghost entering: { List ℕ };
+
     /// The form of a line that enters a pair.
-    const ENTER_FORM: &'static str;
+    fn enter_form() -> &'static str
+        ensures { result.now ≡ entering };
 
     /// Takes the words of a cost.
     fn take_from<'a>(words: &mut Words<'a>) -> Result<Self, Complaint<'a>>;
@@ -28,7 +35,13 @@ pub trait TypedCost: Cost {
 impl TypedCost for Plain {
     ghost written = { λ cost. signed_decimal cost.0 };
 
-    const ENTER_FORM: &'static str = "enter L R COST";
+    ghost numbers = { λ cost. cost.0 ∷ [] };
+
+    ghost entering = { codes "enter L R COST" };
+
+    fn enter_form() -> &'static str {
+        "enter L R COST"
+    }
 
     fn take_from<'a>(words: &mut Words<'a>) -> Result<Plain, Complaint<'a>> {
         Ok(Plain(words.number()?))
@@ -45,7 +58,13 @@ impl TypedCost for TwoStep<Plain, Plain> {
     ghost written = { λ cost. codes "(" ++ (signed_decimal cost.0.0
         ++ (codes ", " ++ (signed_decimal cost.1.0 ++ codes ")"))) };
 
-    const ENTER_FORM: &'static str = "enter L R COST COST";
+    ghost numbers = { λ cost. cost.0.0 ∷ cost.1.0 ∷ [] };
+
+    ghost entering = { codes "enter L R COST COST" };
+
+    fn enter_form() -> &'static str {
+        "enter L R COST COST"
+    }
 
     fn take_from<'a>(words: &mut Words<'a>) -> Result<TwoStep<Plain, Plain>, Complaint<'a>> {
         let first = Plain(words.number()?);
