@@ -1,2 +1,3 @@
 mod NewTables
 mod WordSteps
+mod Places

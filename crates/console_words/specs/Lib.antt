@@ -3,6 +3,7 @@
 -- refusals in words.
 pub mod Words
 pub mod Forms
+pub mod Lines
 pub mod Naming
 pub mod Handing
 pub mod Moving

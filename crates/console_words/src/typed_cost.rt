@@ -1,7 +1,10 @@
 //! Costs as they are typed and printed: one whole number, or two.
 
-ghost use Rattle.std.specs.Prelude.{◌≡◌, ℕ, ℤ, List, [], ◌∷◌, ◌++◌, codes, OnOk, string_bytes};
+ghost use Rattle.std.specs.Prelude.{◌≡◌, ℕ, ℤ, List, [], ◌∷◌, ◌++◌, codes};
+ghost use Rattle.std.specs.Prelude.{OnOk, IfOk, IfErr, replicate, string_bytes};
 ghost use Rattle.std.specs.Fmt.{signed_decimal};
+ghost use Rattle.console_words.specs.Forms.{a_number, Takes, Fails};
+ghost use Rattle.console_words.specs.Words.{words_left, form_of};
 
 use crate::complaint::Complaint;
 use crate::words::Words;
@@ -23,8 +26,14 @@ pub trait TypedCost: Cost {
     fn enter_form() -> &'static str
         ensures { result.now ≡ entering };
 
-    /// Takes the words of a cost.
-    fn take_from<'a>(words: &mut Words<'a>) -> Result<Self, Complaint<'a>>;
+    /// Takes the words of a cost, a number for each column. Which words are left where one of them
+    /// is missing or wrong is not said.
+    fn take_from<'a>(words: &mut Words<'a>) -> Result<Self, Complaint<'a>>
+        ensures form { form_of words.new ≡ form_of words.old }
+        ensures told { IfOk result (λ cost. Takes (replicate Self.columns a_number)
+            (words_left words.old) (words_left words.new) (numbers cost)) }
+        ensures failed { IfErr result (Fails (form_of words.old)
+            (replicate Self.columns a_number) (words_left words.old)) };
 
     /// Appends the cost.
     fn push_to(self, text: &mut String) -> Result<(), AllocError>

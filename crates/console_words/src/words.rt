@@ -1,6 +1,6 @@
 //! The words of a line, taken one after the other.
 
-ghost use Rattle.std.specs.Prelude.{◌≡◌, ◌≢◌, ◌↔◌, ℕ, List, [], ◌∷◌, drop};
+ghost use Rattle.std.specs.Prelude.{◌≡◌, ◌≢◌, ◌↔◌, [], ◌∷◌, drop, pos};
 ghost use Rattle.std.specs.Prelude.{IsTrue, IfOk, IfErr, OnOk};
 ghost use Rattle.std.specs.Str.{IsUtf8};
 ghost use Rattle.std.specs.Str.Iter.{split_whitespace_rest};
@@ -21,9 +21,8 @@ pub struct Words<'a> {
 
 impl<'a> Words<'a> {
     ghost use Rattle.console_words.specs.Words.{words_of, words_left, form_of};
-    ghost use Rattle.console_words.specs.Forms.{block, number, Fits, Fails, IsTooFew, IsTooMany};
-    ghost use Rattle.console_words.specs.Forms.{number_told};
-    ghost use Rattle.console_words.specs.Sizing.{number_in};
+    ghost use Rattle.console_words.specs.Forms.{a_block, a_number, Takes, Fails};
+    ghost use Rattle.console_words.specs.Forms.{IsTooFew, IsTooMany};
 
     /// All words of a line.
     pub fn of(line: &'a str, form: &'static str) -> Words<'a>
@@ -59,11 +58,10 @@ impl<'a> Words<'a> {
     pub fn block(&mut self) -> Result<u16, Complaint<'a>>
         ensures form { form_of self.new ≡ form_of self.old }
         ensures rest { words_left self.new ≡ drop 1 (words_left self.old) }
-        ensures told { IfOk result (λ told. (word : List ℕ)
-            × (words_left self.old ≡ word ∷ words_left self.new)
-            × Fits block word × (told ≡ number_in word)) }
+        ensures told { IfOk result (λ told. Takes (a_block ∷ []) (words_left self.old)
+            (words_left self.new) (pos told ∷ [])) }
         ensures failed { IfErr result
-            (Fails (form_of self.old) (block ∷ []) (words_left self.old)) }
+            (Fails (form_of self.old) (a_block ∷ []) (words_left self.old)) }
     {
         let word = self.word()?;
         match word.parse::<u16>() {
@@ -77,11 +75,10 @@ impl<'a> Words<'a> {
     pub fn number(&mut self) -> Result<i64, Complaint<'a>>
         ensures form { form_of self.new ≡ form_of self.old }
         ensures rest { words_left self.new ≡ drop 1 (words_left self.old) }
-        ensures told { IfOk result (λ told. (word : List ℕ)
-            × (words_left self.old ≡ word ∷ words_left self.new)
-            × Fits number word × (told ≡ number_told word)) }
+        ensures told { IfOk result (λ told. Takes (a_number ∷ []) (words_left self.old)
+            (words_left self.new) (told ∷ [])) }
         ensures failed { IfErr result
-            (Fails (form_of self.old) (number ∷ []) (words_left self.old)) }
+            (Fails (form_of self.old) (a_number ∷ []) (words_left self.old)) }
     {
         let word = self.word()?;
         match word.parse::<i64>() {
