@@ -1,5 +1,5 @@
 -- The words of a text, and those that are left of a line.
-use Rattle.std.specs.Prelude.{ℕ, List, [], ◌∷◌, ◌++◌, if◌then◌else◌, encode_utf8}
+use Rattle.std.specs.Prelude.{◌≡◌, ℕ, List, [], ◌∷◌, ◌++◌, if◌then◌else◌, encode_utf8, slice_index}
 use Rattle.std.specs.Char.{is_whitespace}
 use Rattle.std.specs.Str.{chars}
 use Rattle.std.specs.Str.Iter.{split_whitespace_rest}
@@ -19,6 +19,11 @@ words_among begun (c ∷ cs) = (if is_whitespace c then ended begun ++ words_amo
 -- the words of a text: what stands between white space
 unfoldable pub words_of : List ℕ → List (List ℕ)
 words_of text = words_among [] (chars text)
+
+-- a line of these words is passed over: it is blank, or begins with `#`
+abbrev pub IsSkipped : List (List ℕ) → Type 0
+IsSkipped [] = Unit {0}
+IsSkipped (word ∷ words) = slice_index word 0 ≡ 35
 
 -- the words of a line that were not taken yet, and the form that it should have
 abbrev pub words_left : Words → List (List ℕ)
