@@ -1,1 +1,3 @@
 mod NewTables
+mod WordSteps
+mod Places

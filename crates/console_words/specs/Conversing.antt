@@ -1,16 +1,31 @@
 -- What a line does to a conversation.
-use Rattle.std.specs.Prelude.{ℕ, [], ◌∷◌, ◌++◌, pos, List, codes}
+use Rattle.std.specs.Prelude.{◌≡◌, ◌⊎◌, ℕ, ℤ, [], ◌∷◌, ◌++◌, pos, List, codes, decimal}
 use Rattle.std.specs.Fmt.{signed_decimal}
+use Rattle.std.specs.Str.{IsUtf8}
 use Rattle.cost.specs.Columns.{rail_of}
 use Rattle.cost.specs.declared.Cost.{Ghosts}
 use Rattle.cost.specs.declared.plain_kind.Plain.{Plain}
 use Rattle.cost.specs.declared.two_step_kind.TwoStep.{TwoStep}
+use Rattle.console_words.specs.declared.complaint.Complaint.{Complaint}
+use Rattle.console_words.specs.declared.complaint.Complaint.TheVariants.{NotText}
 use Rattle.console_words.specs.declared.console.Console.{Console}
 use Rattle.console_words.specs.declared.console.Console.TheVariants.{Unopened, Plain as OfPlain}
 use Rattle.console_words.specs.declared.console.Console.TheVariants.{TwoStep as OfTwoStep}
+use Rattle.console_words.specs.declared.help.TheConstants.{HELP}
+use Rattle.console_words.specs.declared.opening.ColumnCount.{ColumnCount}
 use Rattle.console_words.specs.declared.opening.ColumnCount.TheVariants.{One, Two}
+use Rattle.console_words.specs.declared.opening.Opening.{Opening}
+use Rattle.console_words.specs.declared.opening.Opening.TheVariants.{Columns as SetsColumns}
+use Rattle.console_words.specs.declared.opening.Opening.TheVariants.{Size as SetsSize}
+use Rattle.console_words.specs.declared.opening.Opening.TheVariants.{Help as AsksHelp}
+use Rattle.console_words.specs.declared.opening.Opening.TheVariants.{Quit as AsksEnd}
 use Rattle.console_words.specs.declared.turn.Turn.{Turn}
-use Rattle.console_words.specs.Moving.{IsSaid, IsBlank, Moves}
+use Rattle.console_words.specs.declared.turn.Turn.TheVariants.{Over}
+use Rattle.console_words.specs.Complaining.{complained_line}
+use Rattle.console_words.specs.Lines.{AsksOpening, IsWrongOpening}
+use Rattle.console_words.specs.Moving.{Says, IsBlank, Moves}
+use Rattle.console_words.specs.Naming.{columns_words}
+use Rattle.console_words.specs.Words.{words_of, IsSkipped}
 
 -- the kinds of costs with one column and with two, as contracts see a kind
 abbrev pub one_column : Ghosts Plain
@@ -35,13 +50,55 @@ abbrev pub two_written : TwoStep Plain Plain → List ℕ
 two_written cost = codes "(" ++ (signed_decimal cost.0.0
     ++ (codes ", " ++ (signed_decimal cost.1.0 ++ codes ")")))
 
--- Before a sheet is open a line opens none, or a blank one whose costs have the columns asked for.
--- Once one is open, a line leaves it as it is, or makes the one call that some request asks
--- for, and tells its answer in words.
-abbrev pub Turns : Console → Console → Turn → Type 0
-Turns (Unopened columns) (Unopened columns') turn = Unit {0}
-Turns (Unopened One) (OfPlain desk) turn = ((n : ℕ) × IsBlank one_column n desk) × IsSaid turn
-Turns (Unopened Two) (OfTwoStep desk) turn = ((n : ℕ) × IsBlank two_columns n desk) × IsSaid turn
-Turns (OfPlain desk) (OfPlain desk') turn = Moves one_column one_written desk desk' turn
-Turns (OfTwoStep desk) (OfTwoStep desk') turn = Moves two_columns two_written desk desk' turn
-Turns _ _ turn = ⊥
+-- the numbers that they are typed as, and the form of a line that enters a pair
+abbrev pub one_number : Plain → List ℤ
+one_number cost = cost.0 ∷ []
+
+abbrev pub two_numbers : TwoStep Plain Plain → List ℤ
+two_numbers cost = cost.0.0 ∷ (cost.1.0 ∷ [])
+
+abbrev pub one_entering : List ℕ
+one_entering = codes "enter L R COST"
+
+abbrev pub two_entering : List ℕ
+two_entering = codes "enter L R COST COST"
+
+-- what is said of a sheet that was opened
+abbrev pub opened_line : ℕ → ColumnCount → List ℕ
+opened_line n columns = codes "sheet of " ++ (decimal n ++ (codes " left and " ++ (decimal n
+    ++ (codes " right blocks; " ++ (columns_words columns ++ codes "\n")))))
+
+-- what comes of what a line asks for before a sheet is open
+abbrev pub Opens : ColumnCount → Opening → Console → Turn → Type 0
+Opens columns (SetsColumns c) console turn =
+    (console ≡ Unopened c) × Says (columns_words c ++ codes "\n") turn
+Opens One (SetsSize size) (OfPlain desk) turn =
+    IsBlank one_column size.blocks desk × Says (opened_line size.blocks One) turn
+Opens Two (SetsSize size) (OfTwoStep desk) turn =
+    IsBlank two_columns size.blocks desk × Says (opened_line size.blocks Two) turn
+Opens columns AsksHelp console turn = (console ≡ Unopened columns) × Says HELP.now turn
+Opens columns AsksEnd console turn = (console ≡ Unopened columns) × (turn ≡ Over)
+Opens _ _ _ turn = ⊥
+
+module _ (number : ℕ) where
+  -- What the line of this number and these words does. Before a sheet is open it opens a blank one
+  -- whose costs have the columns asked for, or none; once one is open it makes the one call that it
+  -- asks for. What is wrong with a line that asks for nothing is told, and nothing changes.
+  abbrev pub Turns : List (List ℕ) → Console → Console → Turn → Type 0
+  Turns words (Unopened columns) console turn =
+      ((opening : Opening) × AsksOpening words opening × Opens columns opening console turn)
+      ⊎ ((complaint : Complaint) × IsWrongOpening words complaint
+      × (console ≡ Unopened columns) × Says (complained_line number complaint) turn)
+  Turns words (OfPlain desk) (OfPlain desk') turn =
+      Moves one_column one_written one_number one_entering number words desk desk' turn
+  Turns words (OfTwoStep desk) (OfTwoStep desk') turn =
+      Moves two_columns two_written two_numbers two_entering number words desk desk' turn
+  Turns words _ _ turn = ⊥
+
+  -- What the line of this number does, of these bytes. Bytes that are no text are complained of; a
+  -- line that is blank or begins with `#` comes to no text. Neither changes anything.
+  abbrev pub Takes : List ℕ → Console → Console → Turn → Type 0
+  Takes line console console' turn =
+      (¬ IsUtf8 line × (console' ≡ console) × Says (complained_line number NotText) turn)
+      ⊎ (IsUtf8 line × IsSkipped (words_of line) × (console' ≡ console) × Says [] turn)
+      ⊎ (IsUtf8 line × ¬ IsSkipped (words_of line) × Turns (words_of line) console console' turn)

@@ -1,5 +1,5 @@
 -- What a line does to a sheet.
-use Rattle.std.specs.Prelude.{◌≡◌, ◌⊎◌, ℕ, List, Option, string_bytes}
+use Rattle.std.specs.Prelude.{◌≡◌, ◌⊎◌, ℕ, ℤ, List, Option, string_bytes}
 use Rattle.cost.specs.declared.Cost.{Ghosts}
 use Rattle.tables.specs.PairTables.{AllAbsent, cell}
 use Rattle.sheet.specs.Size.{IsSize, sheet_of}
@@ -8,20 +8,20 @@ use Rattle.session.specs.declared.call.Act.{Act}
 use Rattle.session.specs.Book.{opened}
 use Rattle.session.specs.Program.{state_at}
 use Rattle.session.specs.Runs.{state_of, tables_of, WasMade}
+use Rattle.console_words.specs.declared.complaint.Complaint.{Complaint}
 use Rattle.console_words.specs.declared.desk.Desk.{Desk}
+use Rattle.console_words.specs.declared.help.TheConstants.{HELP}
 use Rattle.console_words.specs.declared.request.Request.{Request}
 use Rattle.console_words.specs.declared.request.Request.TheVariants.{Make, Help, Quit}
 use Rattle.console_words.specs.declared.table_name.TableName.{TableName}
 use Rattle.console_words.specs.declared.turn.Turn.{Turn}
 use Rattle.console_words.specs.declared.turn.Turn.TheVariants.{Said, Over}
 use Rattle.console_words.specs.Answering.{answer_words}
+use Rattle.console_words.specs.Complaining.{complained_line}
 use Rattle.console_words.specs.Handing.{call_on}
+use Rattle.console_words.specs.Lines.{Asks, IsWrong}
 
--- there is a text to print; and this is the text
-abbrev pub IsSaid : Turn → Type 0
-IsSaid (Said text) = Unit {0}
-IsSaid Over = ⊥
-
+-- this is the text to print
 abbrev pub Says : List ℕ → Turn → Type 0
 Says words (Said text) = string_bytes text ≡ words
 Says words Over = ⊥
@@ -45,10 +45,15 @@ module _ {K : Type 0} (kind : Ghosts K) where
     Answers desk (Make act short) desk' turn = (answer : Answer K)
         × Makes desk act short answer desk'
         × Says (answer_words written act desk'.state answer) turn
-    Answers desk Help desk' turn = (desk' ≡ desk) × IsSaid turn
+    Answers desk Help desk' turn = (desk' ≡ desk) × Says HELP.now turn
     Answers desk Quit desk' turn = (desk' ≡ desk) × (turn ≡ Over)
 
-    -- what a line does: nothing, or what some request does
-    abbrev pub Moves : Desk K → Desk K → Turn → Type 0
-    Moves desk desk' turn = ((desk' ≡ desk) × IsSaid turn)
-        ⊎ ((request : Request K) × Answers desk request desk' turn)
+    -- what the line of this number and these words does: what it asks for; or if it asks for
+    -- nothing, what is wrong with it is told, and nothing changes
+    module _ (numbers : K → List ℤ) (entering : List ℕ) (number : ℕ) where
+      abbrev pub Moves : List (List ℕ) → Desk K → Desk K → Turn → Type 0
+      Moves words desk desk' turn =
+          ((request : Request K) × Asks kind numbers words request
+          × Answers desk request desk' turn)
+          ⊎ ((complaint : Complaint) × IsWrong kind entering words complaint
+          × (desk' ≡ desk) × Says (complained_line number complaint) turn)

@@ -1,5 +1,8 @@
 //! Why a line is not understood, in words for the one who typed it.
 
+ghost use Rattle.std.specs.Prelude.{Some};
+ghost use Rattle.console_words.specs.Complaining.{complaint_text};
+
 use report::{meaning, remedy};
 use sheet::Cause;
 use std::error::Error;
@@ -37,6 +40,8 @@ pub enum Complaint<'a> {
 }
 
 impl fmt::Display for Complaint<'_> {
+    ghost output = { λ complaint. Some (complaint_text complaint) };
+
     fn fmt<W: fmt::Write>(&self, f: &mut fmt::Formatter<W>) -> fmt::Result {
         match self {
             Complaint::NotText => write!(f, "this is not text in UTF-8"),

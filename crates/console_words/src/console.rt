@@ -1,10 +1,13 @@
 //! A conversation about one sheet: a line is taken, and the answer to it is given.
 
-ghost use Rattle.std.specs.Prelude.{◌≡◌, IfOk};
+ghost use Rattle.std.specs.Prelude.{◌≡◌, ◌↔◌, IsTrue, IfOk, string_bytes};
 ghost use Rattle.console_words.specs.declared.console.Console.TheVariants.{Unopened};
 ghost use Rattle.console_words.specs.declared.opening.ColumnCount.TheVariants.{One};
-ghost use Rattle.console_words.specs.Moving.{IsSaid, Moves};
-ghost use Rattle.console_words.specs.Conversing.{Turns};
+ghost use Rattle.console_words.specs.declared.opening.Opening.TheVariants.{Size};
+ghost use Rattle.console_words.specs.Complaining.{complained_line};
+ghost use Rattle.console_words.specs.Conversing.{Opens, Turns, Takes, opened_line};
+ghost use Rattle.console_words.specs.Moving.{Says, Moves};
+ghost use Rattle.console_words.specs.Words.{words_of, IsSkipped};
 
 use crate::complaint::Complaint;
 use crate::desk::Desk;
@@ -32,9 +35,27 @@ pub enum Console {
 
 // The text of a complaint about a line.
 fn complained(heap: Global, number: usize, complaint: Complaint<'_>) -> Result<Turn, AllocError>
-    ensures { IfOk result IsSaid }
+    ensures { IfOk result (Says (complained_line number complaint.entry)) }
 {
     Ok(Turn::Said(format!(in heap; "line {number}: {complaint}\n")?))
+}
+
+// Whether a line is passed over, as blank or as a comment.
+fn is_skipped(line: &str) -> bool
+    ensures { IsTrue result ↔ IsSkipped (words_of line.now) }
+{
+    match line.split_whitespace().next() {
+        Some(word) => word.starts_with('#'),
+        None => true,
+    }
+}
+
+// What is said of a sheet that was opened.
+fn opened_text(heap: Global, blocks: u16, columns: ColumnCount) -> Result<String, AllocError>
+    ensures { IfOk result (λ text. string_bytes text ≡ opened_line blocks columns) }
+{
+    let costs = columns.in_words();
+    format!(in heap; "sheet of {blocks} left and {blocks} right blocks; {costs}\n")
 }
 
 // Opens a sheet.
@@ -43,15 +64,13 @@ fn opened(
     size: SheetSize,
     columns: ColumnCount,
 ) -> Result<(Console, Turn), AllocError>
-    ensures { IfOk result (λ made. Turns (Unopened columns) made.0 made.1) }
+    ensures { IfOk result (λ made. Opens columns (Size size) made.0 made.1) }
 {
     let console = match columns {
         ColumnCount::One => Console::Plain(Desk::open(heap, size)?),
         ColumnCount::Two => Console::TwoStep(Desk::open(heap, size)?),
     };
-    let blocks = size.blocks;
-    let costs = columns.in_words();
-    let text = format!(in heap; "sheet of {blocks} left and {blocks} right blocks; {costs}\n")?;
+    let text = opened_text(heap, size.blocks, columns)?;
     Ok((console, Turn::Said(text)))
 }
 
@@ -62,7 +81,8 @@ fn take_unopened(
     number: usize,
     line: &str,
 ) -> Result<(Console, Turn), AllocError>
-    ensures { IfOk result (λ taken. Turns (Unopened columns) taken.0 taken.1) }
+    ensures { IfOk result (λ taken. Turns number (words_of line.now) (Unopened columns) taken.0
+        taken.1) }
 {
     let opening = match Opening::parse(line) {
         Ok(opening) => opening,
@@ -94,7 +114,8 @@ fn take_opened<K: TypedCost>(
     number: usize,
     line: &str,
 ) -> Result<(Desk<K>, Turn), AllocError>
-    ensures { IfOk result (λ taken. Moves K.Cost K.written desk taken.0 taken.1) }
+    ensures { IfOk result (λ taken. Moves K.Cost K.written K.numbers K.entering number
+        (words_of line.now) desk taken.0 taken.1) }
 {
     match Request::parse(line) {
         Ok(request) => desk.answer(heap, request),
@@ -117,7 +138,7 @@ impl Console {
         number: usize,
         line: &str,
     ) -> Result<(Console, Turn), AllocError>
-        ensures { IfOk result (λ taken. Turns self taken.0 taken.1) }
+        ensures { IfOk result (λ taken. Turns number (words_of line.now) self taken.0 taken.1) }
     {
         match self {
             Console::Unopened(columns) => take_unopened(heap, columns, number, line),
@@ -134,7 +155,7 @@ impl Console {
 
     /// Takes a line, of which this is the number in the input, without its line break.
     ///
-    /// An empty line and one that begins with `#` come to no text. A line that is not understood
+    /// A blank line and one that begins with `#` come to no text. A line that is not understood
     /// comes to a complaint with its number, and changes nothing. An error is want of memory.
     pub fn take(
         self,
@@ -142,13 +163,12 @@ impl Console {
         number: usize,
         line: &[u8],
     ) -> Result<(Console, Turn), AllocError>
-        ensures { IfOk result (λ taken. Turns self taken.0 taken.1) }
+        ensures { IfOk result (λ taken. Takes number line.now self taken.0 taken.1) }
     {
         let Ok(line) = str::from_utf8(line) else {
             return Ok((self, complained(heap, number, Complaint::NotText)?));
         };
-        let line = line.trim();
-        if line.is_empty() || line.starts_with('#') {
+        if is_skipped(line) {
             return Ok((self, Turn::Said(String::new(heap))));
         }
         self.take_words(heap, number, line)

@@ -1,6 +1,16 @@
 //! Lines on an open sheet.
 
+ghost use Rattle.std.specs.Prelude.{◌≡◌, ◌≢◌, List, [], ◌∷◌, pos, IfOk, IfErr};
+ghost use Rattle.console_words.specs.declared.complaint.Complaint.{Complaint};
+ghost use Rattle.console_words.specs.declared.lead.Lead.TheVariants.{Short};
+ghost use Rattle.console_words.specs.Forms.{a_block, Takes, Fails, IsTooMany};
+ghost use Rattle.console_words.specs.Lines.{slots_of, numbers_of, Asks, IsWrong};
+ghost use Rattle.console_words.specs.Lines.{IsWrongAfter, IsWrongShort};
+ghost use Rattle.console_words.specs.Naming.{lead_word, verb_of, form_words};
+ghost use Rattle.console_words.specs.Words.{words_of, words_left, form_of};
+
 use crate::complaint::Complaint;
+use crate::lead::Lead;
 use crate::table_name::TableName;
 use crate::typed_cost::TypedCost;
 use crate::verb::Verb;
@@ -21,68 +31,125 @@ pub enum Request<K> {
 
 impl<K: TypedCost> Request<K> {
     /// What a line asks for.
-    pub fn parse(line: &str) -> Result<Request<K>, Complaint<'_>> {
+    pub fn parse(line: &str) -> Result<Request<K>, Complaint<'_>>
+        ensures asked { IfOk result (Asks K.Cost K.numbers (words_of line.now)) }
+        ensures wrong { IfErr result (IsWrong K.Cost K.entering (words_of line.now)) }
+    {
         let mut words = Words::of(line, "help");
-        let request = match words.word()? {
-            "help" => Request::Help,
-            "quit" => {
-                words.expect_form("quit");
-                Request::Quit
-            }
-            "short" => short_call(&mut words)?,
-            word if word == "columns" || word == "size" => {
-                return Err(Complaint::SheetIsOpen(word));
-            }
-            word => Request::Make {
-                act: call(word, &mut words)?,
-                short: None,
-            },
+        let word = words.word()?;
+        let Some(lead) = Lead::named(word) else {
+            return Err(Complaint::Unknown(word));
         };
+        let request = led_by(lead, word, &mut words)?;
         words.end()?;
         Ok(request)
     }
 }
 
-// The call behind the word `short`, which names a table first.
-fn short_call<'a, K: TypedCost>(words: &mut Words<'a>) -> Result<Request<K>, Complaint<'a>> {
+// What a line asks for by its first word and those behind it.
+fn led_by<'a, K: TypedCost>(
+    lead: Lead,
+    word: &'a str,
+    words: &mut Words<'a>,
+) -> Result<Request<K>, Complaint<'a>>
+    requires { lead_word lead ≡ word.now }
+    ensures whole { IfOk result (λ request. words_left words.new ≡ []
+        → Asks K.Cost K.numbers (word.now ∷ words_left words.old) request) }
+    ensures longer { IfOk result (λ request. (complaint : Complaint) → words_left words.new ≢ []
+        → IsTooMany (form_of words.new) complaint
+        → IsWrongAfter K.Cost K.entering lead (words_left words.old) complaint) }
+    ensures wrong { IfErr result (IsWrongAfter K.Cost K.entering lead (words_left words.old)) }
+{
+    match lead {
+        Lead::Help => {
+            words.expect_form("help");
+            Ok(Request::Help)
+        }
+        Lead::Quit => {
+            words.expect_form("quit");
+            Ok(Request::Quit)
+        }
+        Lead::Columns | Lead::Size => Err(Complaint::SheetIsOpen(word)),
+        Lead::Short => short_call(words),
+        Lead::Call(verb) => {
+            let act = call(verb, words)?;
+            Ok(Request::Make { act, short: None })
+        }
+    }
+}
+
+// What is asked for by the words behind `short`: a table, and a call that it is short for.
+fn short_call<'a, K: TypedCost>(words: &mut Words<'a>) -> Result<Request<K>, Complaint<'a>>
+    ensures whole { IfOk result (λ request. words_left words.new ≡ []
+        → Asks K.Cost K.numbers (lead_word Short ∷ words_left words.old) request) }
+    ensures longer { IfOk result (λ request. (complaint : Complaint) → words_left words.new ≢ []
+        → IsTooMany (form_of words.new) complaint
+        → IsWrongShort K.Cost K.entering (words_left words.old) complaint) }
+    ensures wrong { IfErr result (IsWrongShort K.Cost K.entering (words_left words.old)) }
+{
     words.expect_form("short TABLE CALL ..");
     let word = words.word()?;
-    let table = TableName::named(word).ok_or(Complaint::UnknownTable(word))?;
+    let Some(table) = TableName::named(word) else {
+        return Err(Complaint::UnknownTable(word));
+    };
     let word = words.word()?;
+    let Some(verb) = Verb::named(word) else {
+        return Err(Complaint::Unknown(word));
+    };
+    let act = call(verb, words)?;
     Ok(Request::Make {
-        act: call(word, words)?,
+        act,
         short: Some(table),
     })
 }
 
-// The call that a word names, with what the words behind it say.
-fn call<'a, K: TypedCost>(word: &'a str, words: &mut Words<'a>) -> Result<Act<K>, Complaint<'a>> {
-    let verb = Verb::named(word).ok_or(Complaint::Unknown(word))?;
+// The call of this name, with what the words behind it say.
+fn call<'a, K: TypedCost>(verb: Verb, words: &mut Words<'a>) -> Result<Act<K>, Complaint<'a>>
+    ensures form { form_of words.new ≡ form_words K.entering verb }
+    ensures verb { IfOk result (λ act. verb_of act ≡ verb) }
+    ensures told { IfOk result (λ act. Takes (slots_of K.Cost verb) (words_left words.old)
+        (words_left words.new) (numbers_of K.Cost K.numbers act)) }
+    ensures failed { IfErr result (Fails (form_words K.entering verb) (slots_of K.Cost verb)
+        (words_left words.old)) }
+{
     words.expect_form(verb.form::<K>());
-    Ok(match verb {
-        Verb::Enter => Act::Enter {
-            left: words.block()?,
-            right: words.block()?,
-            cost: K::take_from(words)?,
-        },
-        Verb::Strike => Act::Strike {
-            left: words.block()?,
-            right: words.block()?,
-        },
-        Verb::Read => Act::Read {
-            left: words.block()?,
-            right: words.block()?,
-        },
-        Verb::Quote => Act::Quote {
-            left: words.block()?,
-            right: words.block()?,
-        },
-        Verb::Settle => Act::Settle,
-        Verb::Total => Act::Total,
-        Verb::Marks => Act::Marks,
-        Verb::Start => Act::Start,
-        Verb::Next => Act::Next,
-        Verb::Close => Act::Close,
-        Verb::Reopen => Act::Reopen,
-    })
+    match verb {
+        Verb::Enter => {
+            let (left, right) = pair(words)?;
+            let cost = K::take_from(words)?;
+            Ok(Act::Enter { left, right, cost })
+        }
+        Verb::Strike => {
+            let (left, right) = pair(words)?;
+            Ok(Act::Strike { left, right })
+        }
+        Verb::Read => {
+            let (left, right) = pair(words)?;
+            Ok(Act::Read { left, right })
+        }
+        Verb::Quote => {
+            let (left, right) = pair(words)?;
+            Ok(Act::Quote { left, right })
+        }
+        Verb::Settle => Ok(Act::Settle),
+        Verb::Total => Ok(Act::Total),
+        Verb::Marks => Ok(Act::Marks),
+        Verb::Start => Ok(Act::Start),
+        Verb::Next => Ok(Act::Next),
+        Verb::Close => Ok(Act::Close),
+        Verb::Reopen => Ok(Act::Reopen),
+    }
+}
+
+// The next two words as a left and a right block.
+fn pair<'a>(words: &mut Words<'a>) -> Result<(u16, u16), Complaint<'a>>
+    ensures form { form_of words.new ≡ form_of words.old }
+    ensures told { IfOk result (λ told. Takes (a_block ∷ (a_block ∷ [])) (words_left words.old)
+        (words_left words.new) (pos told.0 ∷ (pos told.1 ∷ []))) }
+    ensures failed { IfErr result (Fails (form_of words.old) (a_block ∷ (a_block ∷ []))
+        (words_left words.old)) }
+{
+    let left = words.block()?;
+    let right = words.block()?;
+    Ok((left, right))
 }

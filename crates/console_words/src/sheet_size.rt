@@ -1,6 +1,6 @@
 //! A size that a sheet can have.
 
-ghost use Rattle.std.specs.Prelude.{◌≡◌, ◌≤◌, ◌↔◌, IsOk, IfOk};
+ghost use Rattle.std.specs.Prelude.{◌≡◌, ◌≤◌, ◌↔◌, IsOk, IfOk, IfErr};
 ghost use Rattle.blockset.specs.declared.TheConstants.{MOST_BLOCKS};
 
 use crate::complaint::Complaint;
@@ -16,12 +16,14 @@ pub struct SheetSize {
 }
 
 impl SheetSize {
+    ghost use Rattle.console_words.specs.Forms.{a_size, Blames};
     ghost use Rattle.console_words.specs.Sizing.{TellsSize, number_in};
 
     /// The size that a word tells.
     pub fn told(word: &str) -> Result<SheetSize, Complaint<'_>>
         ensures told { IsOk result ↔ TellsSize word.now }
         ensures value { IfOk result (λ size. size.blocks ≡ number_in word.now) }
+        ensures other { IfErr result (Blames a_size word.now) }
     {
         match word.parse::<u16>() {
             Ok(blocks) if 1 <= blocks && blocks <= MOST_BLOCKS => Ok(SheetSize { blocks }),

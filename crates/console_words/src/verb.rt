@@ -2,7 +2,7 @@
 
 ghost use Rattle.std.specs.Prelude.{◌≡◌, ◌≢◌, IfSome, IfNone};
 ghost use Rattle.console_words.specs.declared.verb.Verb.{Verb};
-ghost use Rattle.console_words.specs.Naming.{verb_word, verb_of};
+ghost use Rattle.console_words.specs.Naming.{verb_word, verb_of, form_words};
 
 use crate::typed_cost::TypedCost;
 use session::Act;
@@ -65,9 +65,11 @@ impl Verb {
     }
 
     /// The form of a line that makes the call, on a sheet of this kind of costs.
-    pub fn form<K: TypedCost>(self) -> &'static str {
+    pub fn form<K: TypedCost>(self) -> &'static str
+        ensures { result.now ≡ form_words K.entering self }
+    {
         match self {
-            Verb::Enter => K::ENTER_FORM,
+            Verb::Enter => K::enter_form(),
             Verb::Strike => "strike L R",
             Verb::Read => "read L R",
             Verb::Quote => "quote L R",

@@ -12,17 +12,17 @@ pub open_allows : {K : Type 0} (act : Act K)
     → ((l r : ℕ) → act ≡ Read l r → ⊥)
     → (act ≡ Settle → ⊥)
     → allows opened act ≡ false
-open_allows (Enter l r c) not0 not1 not2 not3 = absurd (not0 l r c refl)
-open_allows (Strike l r) not0 not1 not2 not3 = absurd (not1 l r refl)
-open_allows (Read l r) not0 not1 not2 not3 = absurd (not2 l r refl)
-open_allows Settle not0 not1 not2 not3 = absurd (not3 refl)
-open_allows (Quote l r) not0 not1 not2 not3 = refl
-open_allows Total not0 not1 not2 not3 = refl
-open_allows Marks not0 not1 not2 not3 = refl
-open_allows Start not0 not1 not2 not3 = refl
-open_allows Next not0 not1 not2 not3 = refl
-open_allows Close not0 not1 not2 not3 = refl
-open_allows Reopen not0 not1 not2 not3 = refl
+open_allows (Enter l r c) not_enter _ _ _ = absurd (not_enter l r c refl)
+open_allows (Strike l r) _ not_strike _ _ = absurd (not_strike l r refl)
+open_allows (Read l r) _ _ not_read _ = absurd (not_read l r refl)
+open_allows Settle _ _ _ not_settle = absurd (not_settle refl)
+open_allows (Quote l r) _ _ _ _ = refl
+open_allows Total _ _ _ _ = refl
+open_allows Marks _ _ _ _ = refl
+open_allows Start _ _ _ _ = refl
+open_allows Next _ _ _ _ = refl
+open_allows Close _ _ _ _ = refl
+open_allows Reopen _ _ _ _ = refl
 
 pub settled_allows : {K : Type 0} (act : Act K)
     → ((l r : ℕ) → act ≡ Quote l r → ⊥)
@@ -31,30 +31,30 @@ pub settled_allows : {K : Type 0} (act : Act K)
     → (act ≡ Start → ⊥)
     → (act ≡ Reopen → ⊥)
     → allows settled act ≡ false
-settled_allows (Enter l r c) not0 not1 not2 not3 not4 = refl
-settled_allows (Strike l r) not0 not1 not2 not3 not4 = refl
-settled_allows (Read l r) not0 not1 not2 not3 not4 = refl
-settled_allows Settle not0 not1 not2 not3 not4 = refl
-settled_allows (Quote l r) not0 not1 not2 not3 not4 = absurd (not0 l r refl)
-settled_allows Total not0 not1 not2 not3 not4 = absurd (not1 refl)
-settled_allows Marks not0 not1 not2 not3 not4 = absurd (not2 refl)
-settled_allows Start not0 not1 not2 not3 not4 = absurd (not3 refl)
-settled_allows Next not0 not1 not2 not3 not4 = refl
-settled_allows Close not0 not1 not2 not3 not4 = refl
-settled_allows Reopen not0 not1 not2 not3 not4 = absurd (not4 refl)
+settled_allows (Enter l r c) _ _ _ _ _ = refl
+settled_allows (Strike l r) _ _ _ _ _ = refl
+settled_allows (Read l r) _ _ _ _ _ = refl
+settled_allows Settle _ _ _ _ _ = refl
+settled_allows (Quote l r) not_quote _ _ _ _ = absurd (not_quote l r refl)
+settled_allows Total _ not_total _ _ _ = absurd (not_total refl)
+settled_allows Marks _ _ not_marks _ _ = absurd (not_marks refl)
+settled_allows Start _ _ _ not_start _ = absurd (not_start refl)
+settled_allows Next _ _ _ _ _ = refl
+settled_allows Close _ _ _ _ _ = refl
+settled_allows Reopen _ _ _ _ not_reopen = absurd (not_reopen refl)
 
 pub walk_allows : {K : Type 0} (act : Act K)
     → (act ≡ Next → ⊥)
     → (act ≡ Close → ⊥)
     → allows walking act ≡ false
-walk_allows (Enter l r c) not0 not1 = refl
-walk_allows (Strike l r) not0 not1 = refl
-walk_allows (Read l r) not0 not1 = refl
-walk_allows Settle not0 not1 = refl
-walk_allows (Quote l r) not0 not1 = refl
-walk_allows Total not0 not1 = refl
-walk_allows Marks not0 not1 = refl
-walk_allows Start not0 not1 = refl
-walk_allows Next not0 not1 = absurd (not0 refl)
-walk_allows Close not0 not1 = absurd (not1 refl)
-walk_allows Reopen not0 not1 = refl
+walk_allows (Enter l r c) _ _ = refl
+walk_allows (Strike l r) _ _ = refl
+walk_allows (Read l r) _ _ = refl
+walk_allows Settle _ _ = refl
+walk_allows (Quote l r) _ _ = refl
+walk_allows Total _ _ = refl
+walk_allows Marks _ _ = refl
+walk_allows Start _ _ = refl
+walk_allows Next not_next _ = absurd (not_next refl)
+walk_allows Close _ not_close = absurd (not_close refl)
+walk_allows Reopen _ _ = refl

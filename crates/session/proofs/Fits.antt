@@ -1,13 +1,13 @@
 -- The tests of the tables' lengths, and what they tell of the tables that a call is handed.
 -- Idea: each test is a row of equations between numbers, so it tells just these equations.
 use Rattle.std.proofs.Common.{◌≡◌, ℕ, Bool, true, ◌&&◌, eqb, length}
-use Rattle.std.proofs.lemmas.Bool.{and_parts, and_from, eqb-true, eq-eqb}
+use Rattle.std.specs.Bool.{Decides}
+use Rattle.std.proofs.lemmas.Bool.Decides.{Decides-and, Decides-eqb, Decides-like}
 use Rattle.tables.specs.Lent.{HasLengths}
 use Rattle.tables.specs.PairTables.{HavePlaces}
 use Rattle.tables.proofs.Lengths.{places_from, places_told}
 use Rattle.session.specs.Book.{pair_tables_fit, tables_fit}
 use Rattle.session.specs.Program.{Tables, lengths, lending}
-use Rattle.session.proofs.Needs.{Tests}
 
 module _ {K : Type 0} (n : ℕ) (x : Tables K) where
   pub pairs_told : pair_tables_fit n (lengths x) ≡ true
@@ -26,43 +26,49 @@ module _ {K : Type 0} (n : ℕ) (x : Tables K) where
   abbrev right : Bool
   right = eqb (length x.right) n
 
-  pub fits : Tests (tables_fit n (lengths x)) (HasLengths (lending n x))
-  fits = record { told = tell; from = from' }
-    where
-      tell : tables_fit n (lengths x) ≡ true → HasLengths (lending n x)
-      tell e =
-          let a = and_parts (pairs && partners && left) right e in
-          let b = and_parts (pairs && partners) left a.0 in
-          let c = and_parts pairs partners b.0 in
-          let have = pairs_told c.0 in
-          record {
-            room = record {
-              costs_long = have.costs;
-              standing_long = have.standing;
-              left_long = eqb-true (length x.left) n b.1;
-              right_long = eqb-true (length x.right) n a.1;
-            };
-            partners_long = eqb-true (length x.partners) n c.1;
-          }
+  -- what the tests one after the other decide
+  abbrev HaveLengths : Type 0
+  HaveLengths = ((HavePlaces n (length x.costs) (length x.standing) × (length x.partners ≡ n))
+      × (length x.left ≡ n)) × (length x.right ≡ n)
 
-      from' : HasLengths (lending n x) → tables_fit n (lengths x) ≡ true
-      from' h =
-          let have : HavePlaces n (length x.costs) (length x.standing) =
-          record { costs = h.room.costs_long; standing = h.room.standing_long } in
-          and_from (pairs && partners && left) right
-          (and_from (pairs && partners) left
-          (and_from pairs partners (places_from n (length x.costs) (length x.standing) have)
-          (eq-eqb (length x.partners) n h.partners_long))
-          (eq-eqb (length x.left) n h.room.left_long))
-          (eq-eqb (length x.right) n h.room.right_long)
+  decided : Decides (tables_fit n (lengths x)) HaveLengths
+  decided = Decides-and (pairs && partners && left) right
+      (Decides-and (pairs && partners) left
+      (Decides-and pairs partners
+      (pairs_told, places_from n (length x.costs) (length x.standing))
+      (Decides-eqb (length x.partners) n))
+      (Decides-eqb (length x.left) n))
+      (Decides-eqb (length x.right) n)
+
+  pub fits : Decides (tables_fit n (lengths x)) (HasLengths (lending n x))
+  fits = Decides-like (tables_fit n (lengths x)) told back decided
+    where
+      told : HaveLengths → HasLengths (lending n x)
+      told h = record {
+        room = record {
+          costs_long = h.0.0.0.costs;
+          standing_long = h.0.0.0.standing;
+          left_long = h.0.1;
+          right_long = h.1;
+        };
+        partners_long = h.0.0.1;
+      }
+
+      back : HasLengths (lending n x) → HaveLengths
+      back h = (
+        (
+          (
+            record { costs = h.room.costs_long; standing = h.room.standing_long },
+            h.partners_long,
+          ),
+          h.room.left_long,
+        ),
+        h.room.right_long,
+      )
 
   -- with the length of one table more
   pub fits_with : (long size : ℕ)
-      → Tests (tables_fit n (lengths x) && eqb long size)
+      → Decides (tables_fit n (lengths x) && eqb long size)
       (HasLengths (lending n x) × (long ≡ size))
-  fits_with long size = record {
-    told = λ e. let both = and_parts (tables_fit n (lengths x)) (eqb long size) e in
-        (fits.told both.0, eqb-true long size both.1);
-    from = λ h. and_from (tables_fit n (lengths x)) (eqb long size) (fits.from h.0)
-        (eq-eqb long size h.1);
-  }
+  fits_with long size =
+      Decides-and (tables_fit n (lengths x)) (eqb long size) fits (Decides-eqb long size)

@@ -2,27 +2,21 @@
 -- Idea: each check refuses exactly where the need of the same place is not met, so the first check
 -- that holds is that of the first need that is not met. A need that follows from the one before it
 -- is none of the book's.
-use Rattle.std.proofs.Common.{◌≡◌, Bool, true, false, not, List, [], ◌∷◌, Some, None, sym}
+use Rattle.std.proofs.Common.{◌≡◌, Bool, not, List, [], ◌∷◌, Some, None, sym}
 use Rattle.std.proofs.Common.{refl, ap, ◌∙◌, inl, inr, ⊎_elim}
-use Rattle.std.proofs.lemmas.Bool.{cond-true, cond-false, cases_Bool}
+use Rattle.std.specs.Bool.{Decides}
+use Rattle.std.proofs.lemmas.Bool.{cond-true, cond-false}
+use Rattle.std.proofs.lemmas.Bool.Decides.{Decides-not}
 use Rattle.sheet.specs.declared.fault.Cause.{Cause}
 use Rattle.sheet.specs.declared.fault.Fault.{Fault}
 use Rattle.sheet.specs.Needs.{Needs, need, nothing, AreMet, IsFirstUnmet}
 use Rattle.sheet.specs.Refusals.{fault}
 use Rattle.session.specs.Book.{refusal_by}
 
--- a test that tells whether something holds
-pub record Tests (holds : Bool) (P : Type 0) : Type 0 where
-  pub told : holds ≡ true → P
-  pub from : P → holds ≡ true
-
-pub denied : (holds : Bool) (P : Type 0) → Tests holds P → (P → ⊥) → holds ≡ false
-denied holds P t no' = ⊎_elim (λ yes'. absurd (no' (t.told yes'))) (λ e. e) (cases_Bool holds)
-
--- each check tests the need at its place, and refuses for its cause
+-- each check decides the need at its place, and refuses for its cause
 abbrev pub Mirror : List (Bool × Cause) → Needs → Type 0
 Mirror [] nothing = Unit {0}
-Mirror (c ∷ cs) (need Need cause more) = Tests c.0 Need × (c.1 ≡ cause)
+Mirror (c ∷ cs) (need Need cause more) = Decides c.0 Need × (c.1 ≡ cause)
     × (Need → Mirror cs more)
 Mirror [] (need Need cause more) = ⊥
 Mirror (c ∷ cs) nothing = ⊥
@@ -34,10 +28,10 @@ refuses [] (need Need cause more) f m u = absurd m
 refuses (c ∷ cs) nothing f m u = absurd m
 refuses (c ∷ cs) (need Need cause more) f m (inl u) =
     cond-true (not c.0) (Some (fault c.1 0)) (refusal_by cs)
-    (ap not (denied c.0 Need m.0 u.0)) ∙ ap (λ k. Some (fault k 0)) m.1 ∙ ap Some (sym u.1)
+    ((Decides-not {P = Need} c.0 m.0).1 u.0) ∙ ap (λ k. Some (fault k 0)) m.1 ∙ ap Some (sym u.1)
 refuses (c ∷ cs) (need Need cause more) f m (inr u) =
     cond-false (not c.0) (Some (fault c.1 0)) (refusal_by cs)
-    (ap not (m.0.from u.0)) ∙ refuses cs more f (m.2 u.0) u.1
+    (ap not (m.0.1 u.0)) ∙ refuses cs more f (m.2 u.0) u.1
 
 pub passes : (cs : List (Bool × Cause)) (needs : Needs) → Mirror cs needs → AreMet needs
     → refusal_by cs ≡ None
@@ -46,7 +40,7 @@ passes [] (need Need cause more) m u = absurd m
 passes (c ∷ cs) nothing m u = absurd m
 passes (c ∷ cs) (need Need cause more) m u =
     cond-false (not c.0) (Some (fault c.1 0)) (refusal_by cs)
-    (ap not (m.0.from u.0)) ∙ passes cs more (m.2 u.0) u.1
+    (ap not (m.0.1 u.0)) ∙ passes cs more (m.2 u.0) u.1
 
 -- a need that follows from the one before it is never the first that is not met
 pub without : (First Second : Type 0) (one two : Cause) (more : Needs) (f : Fault)

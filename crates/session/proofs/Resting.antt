@@ -4,6 +4,7 @@
 use Rattle.std.proofs.Common.{◌≡◌, ◌≢◌, ℕ, Bool, true, not, ◌&&◌, ◌||◌, eqb}
 use Rattle.std.proofs.Common.{List, [], ◌∷◌, Some, None, sym}
 use Rattle.std.proofs.Common.{refl, ap, ◌∙◌, subst, ⊎_elim}
+use Rattle.std.specs.Bool.{Decides}
 use Rattle.std.proofs.lemmas.Bool.{or_right, cases_order}
 use Rattle.cost.specs.declared.Cost.{Ghosts}
 use Rattle.cost.specs.Columns.{plus, minus}
@@ -35,7 +36,7 @@ use Rattle.session.proofs.Fits.{fits, fits_with}
 use Rattle.session.proofs.Held.{Shows, Ready}
 use Rattle.session.proofs.Held.{lent_alike, ready_same}
 use Rattle.session.proofs.Judging.{never_six, length_not_six}
-use Rattle.session.proofs.Needs.{Tests, Mirror, refuses, passes, without}
+use Rattle.session.proofs.Needs.{Mirror, refuses, passes, without}
 
 -- a place of the list is told by what stands there
 pub same_place : (g : Grid) (i j : ℕ) (p : List ℕ) → IsNth (optima g) i p → IsNth (optima g) j p
@@ -90,12 +91,12 @@ module _ {K : Type 0} (kind : Ghosts K) (sheet : Sheet) (swaps : Bool) (phase : 
 
   -- ---- Quote
   module _ (l r : ℕ) where
-    pub block_test : Tests (are_blocks n l r) (AreBlocks n l r)
-    block_test = record {
-      told = λ e. let both = blocks_told n l r e in
-          record { left_below = both.0; right_below = both.1 };
-      from = λ are. blocks_from n l r are.left_below are.right_below;
-    }
+    pub blocks_decided : Decides (are_blocks n l r) (AreBlocks n l r)
+    blocks_decided = (
+      λ e. let both = blocks_told n l r e in
+          record { left_below = both.0; right_below = both.1 },
+      λ are. blocks_from n l r are.left_below are.right_below,
+    )
 
     pub stands_is : HasLengths (lending n x) → AreBlocks n l r
         → says_stands (byte_of n x.standing l r) ≡ stands_in b.cells l r
@@ -111,13 +112,10 @@ module _ {K : Type 0} (kind : Ghosts K) (sheet : Sheet) (swaps : Bool) (phase : 
       fits n x,
       refl,
       λ h. (
-        block_test,
+        blocks_decided,
         refl,
         λ are. (
-          record {
-            told = λ e. stands_is h are ∙ e;
-            from = λ e. sym (stands_is h are) ∙ e;
-          },
+          (λ e. stands_is h are ∙ e, λ e. sym (stands_is h are) ∙ e),
           refl,
           λ e. tt,
         ),

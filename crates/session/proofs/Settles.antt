@@ -5,7 +5,8 @@ use Rattle.std.proofs.Common.{◌≡◌, ◌≢◌, ℕ, ◌<◌, Bool, true, Li
 use Rattle.std.proofs.Common.{Err, Option, Result, sym, refl, ap, ◌∙◌, subst, inl, ⊎_elim, ltb}
 use Rattle.std.proofs.Common.{arith}
 use Rattle.std.specs.Prelude.{MatchOption}
-use Rattle.std.proofs.lemmas.Bool.{lt-ltb, ltb-true}
+use Rattle.std.specs.Bool.{Decides}
+use Rattle.std.proofs.lemmas.Bool.Decides.{Decides-like, Decides-ltb}
 use Rattle.cost.specs.declared.Cost.{Ghosts}
 use Rattle.pairing.specs.Grid.{Grid, PerfectIn}
 use Rattle.pairing.specs.Largest.{Unpaired}
@@ -35,7 +36,7 @@ use Rattle.session.proofs.Cells.{alike}
 use Rattle.session.proofs.Fits.{fits}
 use Rattle.session.proofs.Held.{Held, Shows, Next, Needed, held_same, lent_alike}
 use Rattle.session.proofs.Judging.{refused_next, accepted_next}
-use Rattle.session.proofs.Needs.{Tests, Mirror, refuses, passes, without}
+use Rattle.session.proofs.Needs.{Mirror, refuses, passes, without}
 
 -- some pairing is perfect exactly if the list of them has one
 filled : (ps : List (List ℕ)) (p : List ℕ) → In p ps → 0 < length ps
@@ -46,14 +47,15 @@ first_of_filled : (ps : List (List ℕ)) → 0 < length ps → (p : List ℕ) ×
 first_of_filled [] h = absurd (omega arith)
 first_of_filled (p ∷ ps) h = (p, inl refl)
 
-pub perfect_test : (g : Grid) → Tests (has_perfect g.size g.stands) ((p : List ℕ) × PerfectIn g p)
-perfect_test g = record {
-  told = λ e. let some = first_of_filled (perfects g.size g.stands)
-      (ltb-true 0 (length (perfects g.size g.stands)) e) in
-      (some.0, (in_perfects g.size g.stands some.0).0 some.1);
-  from = λ h. lt-ltb 0 (length (perfects g.size g.stands))
-      (filled (perfects g.size g.stands) h.0 ((in_perfects g.size g.stands h.0).1 h.1));
-}
+pub perfect_decided : (g : Grid)
+    → Decides (has_perfect g.size g.stands) ((p : List ℕ) × PerfectIn g p)
+perfect_decided g = let all = perfects g.size g.stands in
+    Decides-like (has_perfect g.size g.stands)
+    (λ (long : 0 < length all). let some = first_of_filled all long in
+    (some.0, (in_perfects g.size g.stands some.0).0 some.1))
+    (λ (h : (p : List ℕ) × PerfectIn g p).
+    filled all h.0 ((in_perfects g.size g.stands h.0).1 h.1))
+    (Decides-ltb 0 (length all))
 
 module _ {K : Type 0} (kind : Ghosts K) (sheet : Sheet) (swaps : Bool) (b : Book K) (s : Settling K)
     (own x x' own' : Tables K) (held : Held kind (size_of sheet) b s (state_at opened sheet) own)
@@ -87,9 +89,9 @@ module _ {K : Type 0} (kind : Ghosts K) (sheet : Sheet) (swaps : Bool) (b : Book
 
   -- the book tests for a perfect pairing of the tables' grid
   paired : HasLengths (lending n x)
-      → Tests (has_perfect n (stands_in b.cells)) ((p : List ℕ) × PerfectIn old p)
-  paired h = subst (λ ps. Tests (ltb 0 (length ps)) ((p : List ℕ) × PerfectIn old p))
-      (same h).perfects (perfect_test old)
+      → Decides (has_perfect n (stands_in b.cells)) ((p : List ℕ) × PerfectIn old p)
+  paired h = subst (λ ps. Decides (ltb 0 (length ps)) ((p : List ℕ) × PerfectIn old p))
+      (same h).perfects (perfect_decided old)
 
   mirror : Mirror (needs kind n b.cells (lengths x) Settle)
       (need (HasLengths (lending n x)) TableLength

@@ -187,16 +187,16 @@ module _ {K : Type 0} (kind : Ghosts K) (n : ℕ) where
       told_after_more (step kind n b (call_of d)) (noted_of kind n b s d.act d.outcome) es e
 
   -- all calls so far were right, and the tables hold what the book says
-  pub record Going (es : List (Exchange K)) (state : State) (own : Tables K) : Type 0 where
+  pub record RightSoFar (es : List (Exchange K)) (state : State) (own : Tables K) : Type 0 where
     pub right : AllRight kind n blank (fresh kind n) es
     pub held : Held kind n (book_after kind n blank es) (told_after blank (fresh kind n) es) state
         own
 
   going_more : (es : List (Exchange K)) (e : Exchange K) (state state' : State)
-      (own own' : Tables K) → Going es state own
+      (own own' : Tables K) → RightSoFar es state own
       → Next kind n (book_after kind n blank es) (told_after blank (fresh kind n) es) e.act e.handed
       e.outcome state' own'
-      → Going (es ++ e ∷ []) state' own'
+      → RightSoFar (es ++ e ∷ []) state' own'
   going_more es e state state' own own' g next = record {
     right = all_right_more blank (fresh kind n) es e g.right next.right;
     held =
@@ -214,7 +214,7 @@ module _ {K : Type 0} (kind : Ghosts K) (n : ℕ) where
 
   begun : (sheet : Sheet) (costs : List K) (standing : List ℕ) (own : Tables K)
       → Opened kind.zero n costs standing (Ok sheet) own.costs own.standing
-      → Going [] (state_at opened sheet) own
+      → RightSoFar [] (state_at opened sheet) own
   begun sheet costs standing own o =
       let refusal : _ = open_refusal n (length costs) (length standing) in
       let none = from_ok refusal (sheet_of n) sheet o.answers in
@@ -237,8 +237,8 @@ module _ {K : Type 0} (kind : Ghosts K) (n : ℕ) where
 
 module _ {K : Type 0} (kind : Ghosts K) (swaps : Bool) (n : ℕ) where
   gone_on : (es : List (Exchange K)) (e : Exchange K) (state state' : State) (own own' : Tables K)
-      → Makes kind swaps state own e state' own' → Going kind n es state own
-      → Going kind n (es ++ e ∷ []) state' own'
+      → Makes kind swaps state own e state' own' → RightSoFar kind n es state own
+      → RightSoFar kind n (es ++ e ∷ []) state' own'
   gone_on es e state state' own own' m g =
       let next = subst (λ k. (b : Book K) (s : Settling K) → Held kind k b s state own
       → Next kind k b s e.act e.handed e.outcome state' own') g.held.size_is
@@ -247,7 +247,7 @@ module _ {K : Type 0} (kind : Ghosts K) (swaps : Bool) (n : ℕ) where
       (next (book_after kind n blank es) (told_after kind n blank (fresh kind n) es) g.held)
 
   pub going : {es : List (Exchange K)} {state : State} {own : Tables K}
-      → Program kind swaps n es state own → Going kind n es state own
+      → Program kind swaps n es state own → RightSoFar kind n es state own
   going (opens sheet costs standing own o) = begun kind n sheet costs standing own o
   going (calls {es = es} {s = s} {s' = s'} {own = own} {own' = own'} {e = e} program m) =
       gone_on es e s s' own own' m (going program)

@@ -1,0 +1,95 @@
+-- Places in a row: what fits, fails or is too long for two rows one after the other.
+-- Idea: by the places of the first row, one after the other.
+use Rattle.std.proofs.Common.{◌≡◌, ◌≢◌, ℕ, List, [], ◌∷◌, ◌++◌, ap, sym, ◌∙◌, refl, inl, inr}
+use Rattle.std.proofs.Common.{append_assoc, ⊎_elim, false, subst, arith}
+use Rattle.std.proofs.lemmas.Bool.{cases_Bool, cond-false, eqb-true}
+use Rattle.std.specs.Prelude.{ℤ, pos, neg_ℤ, map, ◌==◌}
+use Rattle.std.specs.Str.Parse.{IsNumeral, digits_value}
+use Rattle.std.specs.Str.Parse.{without_leading_plus, without_leading_sign}
+use Rattle.console_words.specs.declared.complaint.Complaint.{Complaint}
+use Rattle.console_words.specs.Forms.{Slot, Fits, AllFit, Fails, IsTooLong, IsTooMany, Takes}
+use Rattle.console_words.specs.Forms.{a_block, a_number, number_told}
+use Rattle.console_words.specs.Sizing.{number_in}
+
+all_fit_more : (ss ts : List Slot) (xs ys : List (List ℕ)) → AllFit ss xs → AllFit ts ys
+    → AllFit (ss ++ ts) (xs ++ ys)
+all_fit_more [] ts [] ys a b = b
+all_fit_more [] ts (x ∷ xs) ys a b = absurd a
+all_fit_more (s ∷ ss) ts [] ys a b = absurd a
+all_fit_more (s ∷ ss) ts (x ∷ xs) ys a b = (a.0, all_fit_more ss ts xs ys a.1 b)
+
+map_more : (xs ys : List (List ℕ))
+    → map number_told (xs ++ ys) ≡ map number_told xs ++ map number_told ys
+map_more [] ys = refl
+map_more (x ∷ xs) ys = ap (λ zs. number_told x ∷ zs) (map_more xs ys)
+
+pub takes_more : (ss ts : List Slot) (old mid new : List (List ℕ)) (xs ys : List ℤ)
+    → Takes ss old mid xs → Takes ts mid new ys → Takes (ss ++ ts) old new (xs ++ ys)
+takes_more ss ts old mid new xs ys a b = (
+  a.0 ++ b.0,
+  a.1 ∙ ap (λ ws. a.0 ++ ws) b.1 ∙ sym (append_assoc a.0 b.0 new),
+  all_fit_more ss ts a.0 b.0 a.2 b.2,
+  ap (λ zs. zs ++ ys) a.3 ∙ ap (λ zs. map number_told a.0 ++ zs) b.3 ∙ sym (map_more a.0 b.0),
+)
+
+-- the first row fails
+pub fails_front : (form : List ℕ) (ss ts : List Slot) (ws : List (List ℕ)) (c : Complaint)
+    → Fails form ss ws c → Fails form (ss ++ ts) ws c
+fails_front form [] ts ws c f = absurd f
+fails_front form (s ∷ ss) ts [] c f = f
+fails_front form (s ∷ ss) ts (w ∷ ws) c (inl f) = inl f
+fails_front form (s ∷ ss) ts (w ∷ ws) c (inr f) = inr (f.0, fails_front form ss ts ws c f.1)
+
+-- the first row is filled, and the second fails
+fails_then : (form : List ℕ) (ss ts : List Slot) (xs ws : List (List ℕ)) (c : Complaint)
+    → AllFit ss xs → Fails form ts ws c → Fails form (ss ++ ts) (xs ++ ws) c
+fails_then form [] ts [] ws c a f = f
+fails_then form [] ts (x ∷ xs) ws c a f = absurd a
+fails_then form (s ∷ ss) ts [] ws c a f = absurd a
+fails_then form (s ∷ ss) ts (x ∷ xs) ws c a f = inr (a.0, fails_then form ss ts xs ws c a.1 f)
+
+pub fails_behind : (form : List ℕ) (ss ts : List Slot) (old mid : List (List ℕ)) (xs : List ℤ)
+    (c : Complaint) → Takes ss old mid xs → Fails form ts mid c → Fails form (ss ++ ts) old c
+fails_behind form ss ts old mid xs c a f =
+    rw a.1 (fails_then form ss ts a.0 mid c a.2 f)
+
+long : (form : List ℕ) (ss : List Slot) (xs ws : List (List ℕ)) (c : Complaint)
+    → AllFit ss xs → ws ≢ [] → IsTooMany form c → IsTooLong form ss (xs ++ ws) c
+long form [] [] [] c a more many = absurd (more refl)
+long form [] [] (w ∷ ws) c a more many = many
+long form [] (x ∷ xs) ws c a more many = absurd a
+long form (s ∷ ss) [] ws c a more many = absurd a
+long form (s ∷ ss) (x ∷ xs) ws c a more many = (a.0, long form ss xs ws c a.1 more many)
+
+-- the row is filled, and words are left
+pub too_long : (form : List ℕ) (ss : List Slot) (old new : List (List ℕ)) (xs : List ℤ)
+    (c : Complaint) → Takes ss old new xs → new ≢ [] → IsTooMany form c → IsTooLong form ss old c
+too_long form ss old new xs c a more many = rw a.1 (long form ss a.0 new c a.2 more many)
+
+-- a word that stands for a block writes its number without a minus
+unsigned : (word : List ℕ) → IsNumeral 10 (without_leading_plus word)
+    → number_told word ≡ pos (number_in word)
+unsigned [] numeral = absurd (omega arith)
+unsigned (c ∷ cs) numeral =
+    let minus = c == 45 in
+    let none : minus ≡ false = ⊎_elim (λ is. absurd (let sign : c ≡ 45 = eqb-true c 45 is in
+    let digit = (subst (λ k. IsNumeral 10 (without_leading_plus (k ∷ cs))) sign numeral).1.0 in
+    omega arith)) (λ e. e) (cases_Bool minus) in
+    cond-false minus (neg_ℤ (pos (digits_value 10 (without_leading_sign (c ∷ cs)))))
+    (pos (digits_value 10 (without_leading_sign (c ∷ cs)))) none
+    ∙ ap (λ ds. pos (digits_value 10 ds))
+    (cond-false minus cs (without_leading_plus (c ∷ cs)) none)
+
+-- the first word fills a place for a block, or for a number
+pub takes_block : (old new : List (List ℕ)) (word : List ℕ) (n : ℕ) → old ≡ word ∷ new
+    → Fits a_block word → n ≡ number_in word → Takes (a_block ∷ []) old new (pos n ∷ [])
+takes_block old new word n e fits is = (
+  word ∷ [],
+  e,
+  (fits, tt),
+  ap (λ z. z ∷ []) (ap pos is ∙ sym (unsigned word fits.0)),
+)
+
+pub takes_number : (old new : List (List ℕ)) (word : List ℕ) (z : ℤ) → old ≡ word ∷ new
+    → Fits a_number word → z ≡ number_told word → Takes (a_number ∷ []) old new (z ∷ [])
+takes_number old new word z e fits is = (word ∷ [], e, (fits, tt), ap (λ z. z ∷ []) is)
