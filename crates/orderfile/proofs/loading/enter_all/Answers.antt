@@ -26,8 +26,8 @@ slice_bounds-stated_pair-end c =
 pub enter_known-requires : goal.enter_known-requires
 enter_known-requires c =
     let sound = (entering_field c.args.file.now (size_of c.args.sheet.now) c.args.costs.now
-    c.args.standing.now c.loop-rest.rest.now c.loop-rest.costs c.loop-rest.standing c.loop-rest.invariant
-    c.requires.stated c.loop-rest-test.true).1 in
+    c.args.standing.now c.loop-rest.rest.now c.loop-rest.costs c.loop-rest.standing
+    c.loop-rest.invariant c.requires.stated c.loop-rest-test.true).1 in
     let is = c.stated_pair-pair.ensures in
     record {
       places = record {
