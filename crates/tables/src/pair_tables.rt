@@ -62,7 +62,12 @@ pub fn standing_pairs(standing: &[u8]) -> usize
     ensures value { result ≡ count_by says_stands standing.now }
     ensures bound { result ≤ length standing.now }
 {
-    standing.iter().filter(|byte| stands(**byte)).count()
+    // A sum has no branch, so several bytes are counted at once.
+    let mut count = 0;
+    for byte in standing {
+        count += usize::from(stands(*byte));
+    }
+    count
 }
 
 /// Writes `value` everywhere.
