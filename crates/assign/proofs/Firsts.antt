@@ -16,7 +16,9 @@ use Rattle.matching.proofs.Nth.{contains_nth}
 use Rattle.tables.specs.Lent.{Lent, lent, grid, left_price, right_price, IsUsable}
 use Rattle.tables.specs.PairRows.{TightRows}
 use Rattle.tables.specs.Together.{Together}
+use Rattle.tables.specs.Sound.{IsSound}
 use Rattle.tables.proofs.Orderly.{sane_in_order}
+use Rattle.tables.proofs.Sounding.{sound_if_valid}
 use Rattle.tables.proofs.Tightness.{pairs_optimum, pairings_are_optima}
 use Rattle.assign.specs.Answer.{Solved, Settled}
 
@@ -59,6 +61,10 @@ module _ {K : Type 0} (kind : Ghosts K) (wide : (x : K) → length (kind.meaning
     right_prices = record { long = usable.lengths.room.right_long; near = s.prices.right_near };
     valid = s.prices.greatest.valid;
   }
+
+  pub sound : Solved kind t → IsSound kind t
+  sound s = sound_if_valid kind t s.prices.left_near s.prices.right_near usable.in_order
+      t.partners s.prices.greatest.valid
 
   -- over the tight rows of solved tables, the pairings are the optimum ones
   module _ (solved : Solved kind t) (rows : List BlockSet) (sized : length rows ≡ t.size)

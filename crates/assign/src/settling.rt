@@ -42,7 +42,7 @@ pub fn settle<K: Cost>(
             left,
             right,
         };
-        let rows = PairRows::tight(&tables);
+        let rows = PairRows::tight_within(&tables);
         make_first(rows.as_slice(), partners);
     }
     Ok(outcome)
