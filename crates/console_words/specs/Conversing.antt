@@ -97,8 +97,8 @@ module _ (number : ℕ) where
 
   -- What the line of this number does, of these bytes. Bytes that are no text are complained of; a
   -- line that is blank or begins with `#` comes to no text. Neither changes anything.
-  abbrev pub Takes : List ℕ → Console → Console → Turn → Type 0
-  Takes line console console' turn =
+  abbrev pub TakesLine : List ℕ → Console → Console → Turn → Type 0
+  TakesLine line console console' turn =
       (¬ IsUtf8 line × (console' ≡ console) × Says (complained_line number NotText) turn)
       ⊎ (IsUtf8 line × IsSkipped (words_of line) × (console' ≡ console) × Says [] turn)
       ⊎ (IsUtf8 line × ¬ IsSkipped (words_of line) × Turns (words_of line) console console' turn)

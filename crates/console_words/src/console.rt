@@ -5,7 +5,7 @@ ghost use Rattle.console_words.specs.declared.console.Console.TheVariants.{Unope
 ghost use Rattle.console_words.specs.declared.opening.ColumnCount.TheVariants.{One};
 ghost use Rattle.console_words.specs.declared.opening.Opening.TheVariants.{Size};
 ghost use Rattle.console_words.specs.Complaining.{complained_line};
-ghost use Rattle.console_words.specs.Conversing.{Opens, Turns, Takes, opened_line};
+ghost use Rattle.console_words.specs.Conversing.{Opens, Turns, TakesLine, opened_line};
 ghost use Rattle.console_words.specs.Moving.{Says, Moves};
 ghost use Rattle.console_words.specs.Words.{words_of, IsSkipped};
 
@@ -163,7 +163,7 @@ impl Console {
         number: usize,
         line: &[u8],
     ) -> Result<(Console, Turn), AllocError>
-        ensures { IfOk result (λ taken. Takes number line.now self taken.0 taken.1) }
+        ensures { IfOk result (λ taken. TakesLine number line.now self taken.0 taken.1) }
     {
         let Ok(line) = str::from_utf8(line) else {
             return Ok((self, complained(heap, number, Complaint::NotText)?));
