@@ -4,16 +4,18 @@
 -- those that have it the least at left block 1, and so on. After p comes a pairing that agrees with
 -- p up to some left block and is greater there; of these the first one differs from p as late as
 -- possible, is as little greater there as possible, and is the first of those that begin so.
-use Rattle.std.proofs.Common.{◌≡◌, ℕ, zero, suc, ◌+◌, ◌<◌, ◌≤◌, ◌⊎◌, List, [], ◌∷◌, length, sym}
+use Rattle.std.proofs.Common.{◌≡◌, ℕ, zero, suc, ◌+◌, ◌<◌, ◌≤◌, ◌⊎◌, Bool, true, false, ◌||◌, List}
+use Rattle.std.proofs.Common.{[], ◌∷◌, length, sym}
 use Rattle.std.proofs.Common.{refl, ap, ◌∙◌, inl, inr, arith}
 use Rattle.std.proofs.lemmas.List.{ext_get_or}
-use Rattle.std.proofs.lemmas.Bool.{cases_eq, cases_order}
+use Rattle.std.proofs.lemmas.Bool.{cases_eq, cases_order, both_ways}
 use Rattle.blockset.specs.declared.BlockSet.{BlockSet}
 use Rattle.pairing.specs.Grid.{at}
 use Rattle.pairing.specs.Optima.{Before}
 use Rattle.pairing.specs.Chains.{Agree}
-use Rattle.pairing.specs.Rows.{Pairs}
-use Rattle.matching.specs.Improving.{Improved, Unimproved, IsFirstFrom}
+use Rattle.pairing.specs.Rows.{holds, Pairs}
+use Rattle.pairing.proofs.Counting.{onto}
+use Rattle.matching.specs.Improving.{Improved, Unimproved, IsFirstFrom, WantedFrom}
 
 -- `after` is the pairing that comes next after `before`
 pub record Next (rows : List BlockSet) (before after : List ℕ) : Type 0 where
@@ -161,3 +163,38 @@ module _ (rows : List BlockSet) where
                 ]
               ];
         }
+
+-- Where no later left block may have the right block of left block l, every pairing that agrees
+-- with p before l gives it to l, since no other left block can have it; so l cannot have a greater
+-- one.
+pub unwanted : (rows : List BlockSet) (p : List ℕ) (l : ℕ) (wanted : ℕ → Bool) → Pairs rows p
+    → l < length rows → WantedFrom (l + 1) rows wanted → wanted (at p l) ≡ false
+    → Unimproved rows l (at p l + 1) p p
+unwanted rows p l wanted h i w free =
+    record { same = refl; none = λ q g a. omega (arith, keeps q g a) }
+  where
+    keeps : (q : List ℕ) → Pairs rows q → Agree l p q → at q l ≡ at p l
+    keeps q g a =
+        let o = onto (length rows) (holds rows) q g (at p l) (h.below l i) in
+        elim (cases_order o.0 l) [
+          | inl same ↦ ap (at q) (sym same) ∙ o.2
+          | inr other ↦ elim other [
+            | inl less ↦
+                (let e = h.once o.0 l o.1 i (sym (a o.0 less) ∙ o.2) in absurd (omega arith))
+            | inr more ↦
+                (let held = ap (holds rows o.0) (sym o.2) ∙ g.standing o.0 o.1 in
+                absurd (both_ways (wanted (at p l)) free (w o.0 (at p l) (omega arith) o.1 held)))
+          ]
+        ]
+
+-- what one left block more may be paired with is wanted too
+pub wanted_more : (rows : List BlockSet) (l : ℕ) (wanted new : ℕ → Bool)
+    → WantedFrom (l + 1) rows wanted → ((c : ℕ) → new c ≡ (wanted c || holds rows l c))
+    → WantedFrom l rows new
+wanted_more rows l wanted new w is m c i j h = elim (cases_eq m l) [
+  | inl same ↦ is c ∙ or_true (wanted c) (holds rows l c) (ap (λ k. holds rows k c) (sym same) ∙ h)
+  | inr other ↦ is c ∙ ap (λ b. b || holds rows l c) (w m c (omega arith) j h)
+]
+  where
+    or_true : (a b : Bool) → b ≡ true → (a || b) ≡ true
+    or_true a b e = grind arith

@@ -1,10 +1,10 @@
 -- One step towards the first or the next pairing: what a pairing is made into.
-use Rattle.std.specs.Prelude.{◌≡◌, ℕ, ◌<◌, ◌≤◌, ◌⊎◌, List}
+use Rattle.std.specs.Prelude.{◌≡◌, ℕ, ◌<◌, ◌≤◌, ◌⊎◌, Bool, true, List, length}
 use Rattle.blockset.specs.declared.BlockSet.{BlockSet}
 use Rattle.pairing.specs.Grid.{at}
 use Rattle.pairing.specs.Chains.{Agree}
 use Rattle.pairing.specs.Optima.{Before}
-use Rattle.pairing.specs.Rows.{Pairs}
+use Rattle.pairing.specs.Rows.{holds, Pairs}
 
 -- `after` is a pairing that agrees with `before` below l, and has the least right block from floor
 -- on that such a pairing can have at l
@@ -25,3 +25,8 @@ pub record IsFirstFrom (rows : List BlockSet) (l : ℕ) (before after : List ℕ
   pub pairs : Pairs rows after
   pub kept : Agree l before after
   pub first : (q : List ℕ) → Pairs rows q → Agree l before q → (q ≡ after) ⊎ Before after q
+
+-- the left blocks from k on may be paired with right blocks of `wanted` only
+abbrev pub WantedFrom : ℕ → List BlockSet → (wanted : ℕ → Bool) → Type 0
+WantedFrom k rows wanted = (m c : ℕ) → k ≤ m → m < length rows → holds rows m c ≡ true
+    → wanted c ≡ true

@@ -3,10 +3,12 @@
 ghost use Rattle.std.specs.Prelude.{◌≡◌, ◌+◌, ◌<◌, ◌≤◌, ◌↔◌, length, MatchBool, IsOk, IfOk};
 ghost use Rattle.std.specs.Prelude.{IfErr, OnOk, OnErr};
 ghost use Rattle.blockset.specs.declared.TheConstants.{MOST_BLOCKS};
+ghost use Rattle.blockset.specs.Has.{has};
+ghost use Rattle.pairing.specs.Grid.{at};
 ghost use Rattle.pairing.specs.Rows.{Pairs, pairings};
 ghost use Rattle.matching.specs.Fit.{Fits, Unfits};
 ghost use Rattle.matching.specs.Exchange.{HeldFrom};
-ghost use Rattle.matching.specs.Improving.{Improved, Unimproved, IsFirstFrom};
+ghost use Rattle.matching.specs.Improving.{Improved, Unimproved, IsFirstFrom, WantedFrom};
 ghost use Rattle.matching.specs.Answers.{IsNth, Follows};
 ghost use Rattle.matching.specs.Numbers.{step_number};
 
@@ -79,6 +81,33 @@ fn improve(rows: &[BlockSet], p: &mut [u16], holders: &mut Holders, l: usize, fl
     false
 }
 
+/// Sends left block `l` to the least right block that is greater than its own and that it can have
+/// while the left blocks before it keep theirs; false, and nothing changed, if there is none. The
+/// left blocks after `l` may be paired with right blocks of `wanted` only: where its own is not
+/// among them, no other left block can have it, so it stays, and nothing is searched.
+fn raise(
+    rows: &[BlockSet],
+    p: &mut [u16],
+    holders: &mut Holders,
+    wanted: BlockSet,
+    l: usize,
+) -> bool
+    requires small { length rows.now ≤ MOST_BLOCKS }
+    requires pairs { Pairs rows.now p.old }
+    requires inside { l < length rows.now }
+    requires held { HeldFrom (l + 1) p.old holders.old }
+    requires wanted { WantedFrom (l + 1) rows.now (has wanted) }
+    ensures improved { MatchBool result (Improved rows.now l (at p.old l + 1) p.old p.new)
+        (Unimproved rows.now l (at p.old l + 1) p.old p.new) }
+    ensures held { HeldFrom (l + 1) p.new holders.new }
+{
+    let own = p[l] as usize;
+    if !wanted.contains(own) {
+        return false;
+    }
+    improve(rows, p, holders, l, own + 1)
+}
+
 /// Makes `p` the first of the pairings that agree with it below `low`, by at most n searches: one
 /// for each left block from `low` on. The holders tell of those when it begins.
 fn make_first_from(rows: &[BlockSet], p: &mut [u16], holders: &mut Holders, low: usize)
@@ -146,12 +175,13 @@ pub fn advance(rows: &[BlockSet], p: &mut [u16]) -> Step
         held: BlockSet::empty(),
         row: [0; SET_WIDTH],
     };
+    let mut wanted = BlockSet::empty();
     for l in (0..rows.len()).rev() {
-        let own = p[l] as usize;
-        if improve(rows, p, &mut holders, l, own + 1) {
+        if raise(rows, p, &mut holders, wanted, l) {
             make_first_from(rows, p, &mut holders, l + 1);
             return Step::Next;
         }
+        wanted = wanted.union(rows[l]);
         holders.put_in(p, l);
     }
     Step::End

@@ -57,8 +57,8 @@ returns-in-Optimal g c =
     subst (λ rs. IsNth (pairings rs) 0 c.make_first.new.p) c.as_slice.ensures.rows
     c.make_first.ensures in
     let done : Settled g.K.Cost new = settled g.K.Cost g.met.K.Cost.laws.column_count t usable
-    known.1 c.tight_within-rows.result c.tight_within-rows.ensures.long c.tight_within-rows.ensures.rows
-    c.make_first.new.p place in
+    known.1 c.tight_within-rows.result c.tight_within-rows.ensures.long
+    c.tight_within-rows.ensures.rows c.make_first.new.p place in
     record {
       answers = search rules;
       together = λ _. together g.K.Cost g.met.K.Cost.laws.column_count new usable_new done;
