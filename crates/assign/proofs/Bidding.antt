@@ -1,12 +1,13 @@
 -- What a left block bids.
 -- Idea: a free right block that none is nearer than is taken at its price. A held one that is
 -- nearer than every other falls to where the nearest of these is as near. Where two are equally
--- near, no price below its own leaves a held one the nearest.
-use Rattle.std.proofs.Common.{◌≡◌, ℕ, Bool, true, false, not, eqb, ℤ, ◌-ℤ◌, ◌≤ℤ◌, ◌<ℤ◌}
-use Rattle.std.proofs.Common.{sym, refl, subst, ⊎_elim, arith}
+-- near, no price below its own leaves a held one the nearest: there the nearest free one is taken
+-- if it is as near.
+use Rattle.std.proofs.Common.{◌≡◌, ℕ, Bool, true, false, not, ◌&&◌, eqb, ℤ, ◌-ℤ◌, ◌≤ℤ◌, ◌<ℤ◌}
+use Rattle.std.proofs.Common.{sym, refl, ap, ◌∙◌, subst, ⊎_elim, arith}
 use Rattle.std.proofs.lemmas.Int.{ints}
-use Rattle.std.proofs.lemmas.Bool.{cases_eq, both_ways, and_from, not_from_false}
-use Rattle.std.proofs.lemmas.Bool.{ne_eqb}
+use Rattle.std.proofs.lemmas.Bool.{cases_eq, cases_Bool, both_ways, and_from, not_from_false}
+use Rattle.std.proofs.lemmas.Bool.{ne_eqb, and_parts, not-true}
 use Rattle.blockset.proofs.Removing.{still_in}
 use Rattle.matching.specs.Exchange.{without}
 use Rattle.assign.specs.Offers.{Nearest}
@@ -22,6 +23,44 @@ module _ (to held : ℕ → Bool) (v cost : ℕ → ℤ) where
       falls = λ h. absurd (both_ways (held j) free h);
       tied = λ h. absurd (both_ways (held j) free h);
     }
+
+    module _ (free : ℕ → Bool) (free_is : (c : ℕ) → free c ≡ (to c && not (held c)))
+        (none_held : (i : ℕ) (w : ℤ) → held i ≡ true → BestBid to held v cost i w → ⊥) where
+      is_free : (i : ℕ) (w : ℤ) → BestBid to held v cost i w → (held i ≡ false) × (free i ≡ true)
+      is_free i w bid = ⊎_elim
+          (λ (h : held i ≡ true). absurd (none_held i w h bid))
+          (λ (f : held i ≡ false). (
+            f,
+            free_is i
+                ∙ and_from (to i) (not (held i)) bid.member (not_from_false (held i) f),
+          ))
+          (cases_Bool (held i))
+
+      module _ (f : ℕ) (first : Nearest free v cost f) where
+        -- the nearest free one is as near as the nearest of all
+        pub as_near : (cost f -ℤ v f) ≤ℤ (cost j -ℤ v j) → (w : ℤ) → w ≡ v f
+            → BestBid to held v cost f w
+        as_near le w same =
+            let parts = and_parts (to f) (not (held f)) (sym (free_is f) ∙ first.member) in
+            record {
+              member = parts.0;
+              best = λ c t ne. omega (arith, ints, near.least c t);
+              free = λ _. same;
+              falls = λ h. absurd (both_ways (held f) (not-true (held f) parts.1) h);
+              tied = λ h. absurd (both_ways (held f) (not-true (held f) parts.1) h);
+            }
+
+        pub no_bid_far : (cost j -ℤ v j) <ℤ (cost f -ℤ v f) → (i : ℕ) (w : ℤ)
+            → BestBid to held v cost i w → ⊥
+        no_bid_far less i w bid =
+            let own = is_free i w bid in
+            let far = first.least i own.1 in
+            ⊎_elim
+            (λ (e : j ≡ i). let x : cost j ≡ cost i = ap cost e in let y : v j ≡ v i = ap v e in
+            absurd (omega (arith, ints)))
+            (λ (ne : j ≡ i → ⊥). absurd (omega
+            (arith, ints, bid.best j near.member ne, bid.free own.0)))
+            (cases_eq j i)
 
     module _ (k : ℕ) (next : Nearest (without to j) v cost k) where
       apart : (to k ≡ true) × (k ≡ j → ⊥)

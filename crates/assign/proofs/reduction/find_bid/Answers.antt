@@ -91,8 +91,8 @@ returns-then-is_less-clause-bound g c b priced le =
     (kind.meaning c.exact_difference-price.result) (omega arith)
     (c.exact_difference-price.ensures.bound COST_LIMIT (COST_LIMIT + b) own key (omega arith))
 
-pub bid_for_free-requires-2-clause-no_held : goal.bid_for_free-requires-2-clause-no_held
-bid_for_free-requires-2-clause-no_held g c =
+pub bid_as_near-requires-clause-no_held : goal.bid_as_near-requires-clause-no_held
+bid_as_near-requires-clause-no_held g c =
     let kind = g.K.Cost in
     let near = c.in-Some.ensures.near in
     let next = c.in-Some.ensures.next in

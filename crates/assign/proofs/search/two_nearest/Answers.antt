@@ -213,7 +213,7 @@ loop-c-preserved-else-is_less-2 g c =
 pub returns-in_err-first : goal.returns-in_err-first
 returns-in_err-first g c =
     rw c.from_residual.ensures
-        (λ a b s t. absurd (both_ways (has c.args.set a) (c.in_err-first.ensures a) s))
+    (λ a b s t. absurd (both_ways (has c.args.set a) (c.in_err-first.ensures a) s))
 
 pub returns-in_err-second : goal.returns-in_err-second
 returns-in_err-second g c =
