@@ -190,9 +190,9 @@ pub fn reduce_row<K: Cost>(
     true
 }
 
-/// Lets the left blocks that are left out take right blocks, the least one first, for as many steps
-/// as there are left blocks. One that has nothing to bid for is set aside. How many are left out
-/// then is not promised: the searches pair all of them.
+/// Lets the left blocks that are left out take right blocks, the least one first, for two steps for
+/// each left block. One that has nothing to bid for is set aside. How many are left out then is not
+/// promised: the searches pair all of them.
 pub fn reduce_rows<K: Cost>(
     costs: &[K],
     rows: &[BlockSet],
@@ -216,7 +216,7 @@ pub fn reduce_rows<K: Cost>(
         mut holders,
     } = first;
     let mut aside = BlockSet::empty();
-    for _step in 0..rows.len() {
+    for _step in 0..2 * rows.len() {
         let Some(l) = out.difference(aside).least() else {
             return FirstPairs { out, holders };
         };
