@@ -5,6 +5,7 @@ pub mod Adding
 pub mod Ending
 pub mod Offering
 pub mod Nearing
+pub mod Seconding
 pub mod Bidding
 pub mod Seating
 pub mod Reducing

@@ -8,6 +8,8 @@ use Rattle.cost.specs.Columns.{Within}
 use Rattle.cost.specs.Weights.{weight}
 use Rattle.assign.specs.declared.limits.TheConstants.{KEY_LIMIT}
 use Rattle.assign.specs.declared.tree.Nearby.{Nearby}
+use Rattle.assign.specs.declared.tree.TwoNearest.{TwoNearest}
+use Rattle.matching.specs.Exchange.{without}
 use Rattle.tables.specs.Said.{columns_at}
 use Rattle.assign.specs.Weighed.{weight_at}
 
@@ -42,6 +44,12 @@ pub record NearestWithKey {K : Type 0} (kind : Ghosts K) (set : ℕ → Bool) (r
       -ℤ weight_at kind right near.block
   pub bound : Within KEY_LIMIT (kind.meaning near.key)
   pub reach : KeyReach kind right dist near.block near.key
+
+-- the nearest of a set and the nearest of the others, with their keys
+pub record NearestTwo {K : Type 0} (kind : Ghosts K) (set : ℕ → Bool) (right dist : List K)
+    (two : TwoNearest K) : Type 0 where
+  pub near : NearestWithKey kind set right dist two.near
+  pub next : NearestWithKey kind (without set two.near.block) right dist two.next
 
 -- a is held by a left block only if each free one of the set is farther beyond its price than it is
 abbrev pub FreeFirst : (set held : ℕ → Bool) (v d : ℕ → ℤ) → ℕ → Type 0

@@ -3,8 +3,8 @@
 //! A search goes along at most 64 left blocks. Each adds one cost and takes one away, and the start
 //! adds one: so a distance is within 1 + 2 × 64 times `cost::COST_LIMIT`, however often prices have
 //! changed. A price on the way is a distance less another one, plus a cost; while rows are reduced,
-//! it is a price less two costs, and there are at most 64 steps: so it is within 1 + 2 × 64 times
-//! `cost::COST_LIMIT`. So no sum comes near the rail.
+//! it is a price less two costs, and there are at most 2 × 64 steps: so it is within 1 + 4 × 64
+//! times `cost::COST_LIMIT`. So no sum comes near the rail.
 
 /// A distance is within this in each column.
 pub const DISTANCE_LIMIT: u64 = 200_000_000_000;

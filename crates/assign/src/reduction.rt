@@ -13,15 +13,80 @@ ghost use Rattle.matching.specs.Exchange.{GivesDistinct, Holding};
 ghost use Rattle.tables.specs.Said.{Bounded};
 ghost use Rattle.assign.specs.declared.limits.TheConstants.{INNER_PRICE_LIMIT, REDUCED_LIMIT};
 ghost use Rattle.assign.specs.Weighed.{weight_at, BoundedOn, SearchTables};
+ghost use Rattle.assign.specs.Offers.{NearestWithKey};
 ghost use Rattle.assign.specs.Pairs.{PricedPairing};
 ghost use Rattle.assign.specs.Bids.{BestBid, Seated, BidOf, Reduced};
 
-use crate::search::{nearest, nearest_free_first};
+use crate::search::{nearest, nearest_free_first, two_nearest};
 use crate::sums::{exact_difference, is_less};
-use crate::tree::{Bid, FirstPairs};
+use crate::tree::{Bid, FirstPairs, Nearby, TwoNearest};
 use blockset::BlockSet;
 use cost::Cost;
 use matching::Holders;
+
+/// A free right block of `to` that no other is nearer than, at its price. No held one can be taken.
+fn bid_for_free<K: Cost>(to: BlockSet, held: BlockSet, costs: &[K], right: &[K]) -> Option<Bid<K>>
+    requires sized { length right.now ≡ length costs.now }
+    requires inside { (c : ℕ) → has to c ≡ true → c < length costs.now }
+    requires modest { BoundedOn K.Cost COST_LIMIT (has to) costs.now }
+    requires priced { Bounded K.Cost INNER_PRICE_LIMIT (length costs.now) right.now }
+    requires no_held { (j : ℕ) (w : ℤ) → has held j ≡ true → BestBid (has to) (has held)
+        (weight_at K.Cost right.now) (weight_at K.Cost costs.now) j w → ⊥ }
+    ensures bid { MatchOption result
+        ((j : ℕ) (w : ℤ) → BestBid (has to) (has held) (weight_at K.Cost right.now)
+        (weight_at K.Cost costs.now) j w → ⊥)
+        (λ bid. BestBid (has to) (has held) (weight_at K.Cost right.now)
+        (weight_at K.Cost costs.now) bid.block (weight (K.meaning bid.price))) }
+    ensures bound { IfSome result (λ bid. (b : ℕ)
+        → Bounded K.Cost b (length costs.now) right.now → b ≤ REDUCED_LIMIT
+        → Within (b + 2 * COST_LIMIT) (K.meaning bid.price)) }
+{
+    let near = nearest_free_first(to, held, costs, right)?;
+    let block = near.block;
+    if held.contains(block) {
+        return None;
+    }
+    Some(Bid {
+        block,
+        price: right[block],
+    })
+}
+
+/// A free right block of `to` that is as near as `near`, the nearest, at its price. No held one can
+/// be taken.
+fn bid_as_near<K: Cost>(
+    near: Nearby<K>,
+    to: BlockSet,
+    held: BlockSet,
+    costs: &[K],
+    right: &[K],
+) -> Option<Bid<K>>
+    requires sized { length right.now ≡ length costs.now }
+    requires inside { (c : ℕ) → has to c ≡ true → c < length costs.now }
+    requires modest { BoundedOn K.Cost COST_LIMIT (has to) costs.now }
+    requires priced { Bounded K.Cost INNER_PRICE_LIMIT (length costs.now) right.now }
+    requires near { NearestWithKey K.Cost (has to) right.now costs.now near }
+    requires no_held { (j : ℕ) (w : ℤ) → has held j ≡ true → BestBid (has to) (has held)
+        (weight_at K.Cost right.now) (weight_at K.Cost costs.now) j w → ⊥ }
+    ensures bid { MatchOption result
+        ((j : ℕ) (w : ℤ) → BestBid (has to) (has held) (weight_at K.Cost right.now)
+        (weight_at K.Cost costs.now) j w → ⊥)
+        (λ bid. BestBid (has to) (has held) (weight_at K.Cost right.now)
+        (weight_at K.Cost costs.now) bid.block (weight (K.meaning bid.price))) }
+    ensures bound { IfSome result (λ bid. (b : ℕ)
+        → Bounded K.Cost b (length costs.now) right.now → b ≤ REDUCED_LIMIT
+        → Within (b + 2 * COST_LIMIT) (K.meaning bid.price)) }
+{
+    let free = nearest(to.difference(held), costs, right)?;
+    if is_less(near.key, free.key) {
+        return None;
+    }
+    let block = free.block;
+    Some(Bid {
+        block,
+        price: right[block],
+    })
+}
 
 /// The right block of `to` that a left block with these costs takes, and the price that it has
 /// then: a free one that no other is nearer than, or one that is nearer than any other.
@@ -39,7 +104,9 @@ pub fn find_bid<K: Cost>(costs: &[K], to: BlockSet, held: BlockSet, right: &[K])
         → Bounded K.Cost b (length costs.now) right.now → b ≤ REDUCED_LIMIT
         → Within (b + 2 * COST_LIMIT) (K.meaning bid.price)) }
 {
-    let near = nearest_free_first(to, held, costs, right)?;
+    let Some(TwoNearest { near, next }) = two_nearest(to, costs, right) else {
+        return bid_for_free(to, held, costs, right);
+    };
     let block = near.block;
     if !held.contains(block) {
         return Some(Bid {
@@ -47,14 +114,11 @@ pub fn find_bid<K: Cost>(costs: &[K], to: BlockSet, held: BlockSet, right: &[K])
             price: right[block],
         });
     }
-    let mut others = to;
-    others.remove(block);
-    let next = nearest(others, costs, right)?;
     if is_less(near.key, next.key) {
         let price = exact_difference(costs[block], next.key);
         return Some(Bid { block, price });
     }
-    None
+    bid_as_near(near, to, held, costs, right)
 }
 
 /// Gives right block `c` to left block `l`, which is left out. A left block that had it is left out
@@ -126,9 +190,9 @@ pub fn reduce_row<K: Cost>(
     true
 }
 
-/// Lets the left blocks that are left out take right blocks, the least one first, for as many steps
-/// as there are left blocks. One that has nothing to bid for is set aside. How many are left out
-/// then is not promised: the searches pair all of them.
+/// Lets the left blocks that are left out take right blocks, the least one first, for two steps for
+/// each left block. One that has nothing to bid for is set aside. How many are left out then is not
+/// promised: the searches pair all of them.
 pub fn reduce_rows<K: Cost>(
     costs: &[K],
     rows: &[BlockSet],
@@ -152,7 +216,7 @@ pub fn reduce_rows<K: Cost>(
         mut holders,
     } = first;
     let mut aside = BlockSet::empty();
-    for _step in 0..rows.len() {
+    for _step in 0..2 * rows.len() {
         let Some(l) = out.difference(aside).least() else {
             return FirstPairs { out, holders };
         };

@@ -5,6 +5,7 @@
 //! stay small however often prices change.
 
 ghost use Rattle.std.specs.Prelude.{◌≡◌, ℕ, ◌+◌, ◌<◌, ◌≤◌, true, false, length, MatchOption};
+ghost use Rattle.std.specs.Prelude.{◌⊎◌, ◌-ℤ◌, ◌≤ℤ◌};
 ghost use Rattle.cost.specs.declared.TheConstants.{COST_LIMIT, HALF_RAIL};
 ghost use Rattle.blockset.specs.declared.TheConstants.{MOST_BLOCKS};
 ghost use Rattle.cost.specs.Columns.{Within};
@@ -16,11 +17,11 @@ ghost use Rattle.tables.specs.Said.{columns_at, Bounded};
 ghost use Rattle.assign.specs.declared.limits.TheConstants.{DISTANCE_LIMIT, SHIFT_LIMIT};
 ghost use Rattle.assign.specs.declared.limits.TheConstants.{INNER_PRICE_LIMIT};
 ghost use Rattle.assign.specs.Weighed.{weight_at, BoundedOn, SearchTables};
-ghost use Rattle.assign.specs.Offers.{Offered, NearestWithKey, FreeFirst};
+ghost use Rattle.assign.specs.Offers.{Offered, NearestWithKey, FreeFirst, KeyReach, NearestTwo};
 ghost use Rattle.assign.specs.Trees.{Grows, GrowsFrom};
 
 use crate::sums::{exact_difference, exact_sum, is_less};
-use crate::tree::{Nearby, Tree};
+use crate::tree::{Nearby, Tree, TwoNearest};
 use blockset::{BlockSet, SET_WIDTH};
 use cost::Cost;
 use matching::{Holders, Reach};
@@ -80,6 +81,89 @@ pub fn nearest<K: Cost>(set: BlockSet, dist: &[K], right: &[K]) -> Option<Nearby
         }
     }
     Some(Nearby { block, key: least })
+}
+
+/// How far a right block is beyond its price.
+fn key_of<K: Cost>(block: usize, dist: &[K], right: &[K]) -> K
+    requires sized { length right.now ≡ length dist.now }
+    requires inside { block < length dist.now }
+    requires far { Within DISTANCE_LIMIT (columns_at K.Cost dist.now block) }
+    requires priced { Within INNER_PRICE_LIMIT (columns_at K.Cost right.now block) }
+    ensures key { weight (K.meaning result) ≡ weight_at K.Cost dist.now block
+        -ℤ weight_at K.Cost right.now block }
+    ensures reach { KeyReach K.Cost right.now dist.now block result }
+{
+    exact_difference(dist[block], right[block])
+}
+
+/// Two right blocks with their keys, the nearer one first.
+fn in_order<K: Cost>(a: Nearby<K>, b: Nearby<K>) -> TwoNearest<K>
+    requires first { Within HALF_RAIL (K.meaning a.key) }
+    requires second { Within HALF_RAIL (K.meaning b.key) }
+    ensures order { weight (K.meaning result.near.key) ≤ℤ weight (K.meaning result.next.key) }
+    ensures both { ((result.near ≡ a) × (result.next ≡ b))
+        ⊎ ((result.near ≡ b) × (result.next ≡ a)) }
+{
+    if is_less(b.key, a.key) {
+        return TwoNearest { near: b, next: a };
+    }
+    TwoNearest { near: a, next: b }
+}
+
+/// The right block of a set whose distance is least beyond its price, and the nearest of the
+/// others.
+pub fn two_nearest<K: Cost>(set: BlockSet, dist: &[K], right: &[K]) -> Option<TwoNearest<K>>
+    requires sized { length right.now ≡ length dist.now }
+    requires inside { (c : ℕ) → has set c ≡ true → c < length dist.now }
+    requires far { BoundedOn K.Cost DISTANCE_LIMIT (has set) dist.now }
+    requires priced { Bounded K.Cost INNER_PRICE_LIMIT (length dist.now) right.now }
+    ensures { MatchOption result
+        ((c c' : ℕ) → has set c ≡ true → has set c' ≡ true → c ≡ c')
+        (NearestTwo K.Cost (has set) right.now dist.now) }
+{
+    let first = set.least()?;
+    let mut rest = set;
+    rest.remove(first);
+    let second = rest.least()?;
+    rest.remove(second);
+    let two = in_order(
+        Nearby {
+            block: first,
+            key: key_of(first, dist, right),
+        },
+        Nearby {
+            block: second,
+            key: key_of(second, dist, right),
+        },
+    );
+    let mut near = two.near.block;
+    let mut near_key = two.near.key;
+    let mut next = two.next.block;
+    let mut next_key = two.next.key;
+    for c in rest {
+        let key = key_of(c, dist, right);
+        if is_less(key, next_key) {
+            if is_less(key, near_key) {
+                next = near;
+                next_key = near_key;
+                near = c;
+                near_key = key;
+            } else {
+                next = c;
+                next_key = key;
+            }
+        }
+    }
+    Some(TwoNearest {
+        near: Nearby {
+            block: near,
+            key: near_key,
+        },
+        next: Nearby {
+            block: next,
+            key: next_key,
+        },
+    })
 }
 
 /// The right block of a set whose distance is least beyond its price; of several such ones a free

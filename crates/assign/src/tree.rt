@@ -10,6 +10,13 @@ pub struct Nearby<K> {
     pub key: K,
 }
 
+/// The nearest right block, and the nearest of the others.
+#[derive(Clone, Copy)]
+pub struct TwoNearest<K> {
+    pub near: Nearby<K>,
+    pub next: Nearby<K>,
+}
+
 /// A right block for a left block to take, and the price that it has then.
 #[derive(Clone, Copy)]
 pub struct Bid<K> {

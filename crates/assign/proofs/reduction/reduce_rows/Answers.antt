@@ -1,4 +1,4 @@
--- A step leaves what `reduce_row` promises, and there are at most 64 of them.
+-- A step leaves what `reduce_row` promises, and there are at most 128 of them.
 use Rattle.std.proofs.Common.{◌+◌, ◌*◌, ◌∙◌, arith}
 use Rattle.cost.specs.declared.TheConstants.{COST_LIMIT}
 use Rattle.cost.proofs.Exact.{within_more}
