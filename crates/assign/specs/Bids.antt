@@ -1,12 +1,17 @@
 -- Which right block a left block takes from whoever has it, and at what price.
-use Rattle.std.specs.Prelude.{◌≡◌, ℕ, ◌<◌, Bool, true, false, List, length, ℤ, ◌+ℤ◌, ◌≤ℤ◌, ◌<ℤ◌}
-use Rattle.std.specs.Prelude.{◌≢◌}
+use Rattle.std.specs.Prelude.{◌≡◌, ℕ, ◌+◌, ◌*◌, ◌<◌, ◌≤◌, Bool, true, false, List, length, ℤ}
+use Rattle.std.specs.Prelude.{◌+ℤ◌, ◌≤ℤ◌, ◌<ℤ◌, ◌≢◌, Option, MatchOption}
 use Rattle.cost.specs.declared.Cost.{Ghosts}
+use Rattle.cost.specs.declared.TheConstants.{COST_LIMIT}
+use Rattle.cost.specs.Columns.{Within}
+use Rattle.cost.specs.Weights.{weight}
 use Rattle.blockset.specs.declared.BlockSet.{BlockSet}
 use Rattle.blockset.specs.Has.{has}
 use Rattle.pairing.specs.Grid.{at}
 use Rattle.pairing.specs.Rows.{holds}
-use Rattle.tables.specs.Said.{columns_at}
+use Rattle.tables.specs.Said.{columns_at, Bounded}
+use Rattle.assign.specs.declared.limits.TheConstants.{REDUCED_LIMIT}
+use Rattle.assign.specs.declared.tree.Bid.{Bid}
 use Rattle.assign.specs.Weighed.{weight_at, cost_weight}
 
 -- A left block that stands with the right blocks of `to` at these costs takes j of them, whose
@@ -19,6 +24,19 @@ pub record BestBid (to held : ℕ → Bool) (v cost : ℕ → ℤ) (j : ℕ) (w 
   pub falls : held j ≡ true → w <ℤ v j
   pub tied : held j ≡ true
       → (c : ℕ) × (to c ≡ true) × (c ≢ j) × (v c +ℤ cost j ≡ w +ℤ cost c)
+
+-- the best bid of a left block with these costs, if there is any
+abbrev pub FindsBid : {K : Type 0} (kind : Ghosts K) (to held : ℕ → Bool) (costs right : List K)
+    → Option (Bid K) → Type 0
+FindsBid kind to held costs right found = MatchOption found
+    ((j : ℕ) (w : ℤ) → BestBid to held (weight_at kind right) (weight_at kind costs) j w → ⊥)
+    (λ bid. BestBid to held (weight_at kind right) (weight_at kind costs) bid.block
+    (weight (kind.meaning bid.price)))
+
+-- the price of a bid is at most two costs farther from zero than the prices so far
+abbrev pub PricedNear : {K : Type 0} (kind : Ghosts K) (n : ℕ) (right : List K) → Bid K → Type 0
+PricedNear kind n right bid = (b : ℕ) → Bounded kind b n right → b ≤ REDUCED_LIMIT
+    → Within (b + 2 * COST_LIMIT) (kind.meaning bid.price)
 
 -- Left block l, which was left out, has right block c now. A left block that had c before is left
 -- out instead, and all others keep what they have.

@@ -3,10 +3,8 @@
 //! look along their rows.
 
 ghost use Rattle.std.specs.Prelude.{◌≡◌, ℕ, ◌+◌, ◌*◌, ◌<◌, ◌≤◌, true, length, ℤ, ◌||◌, ◌==◌};
-ghost use Rattle.std.specs.Prelude.{MatchOption, MatchBool, IfSome};
+ghost use Rattle.std.specs.Prelude.{MatchBool, IfSome};
 ghost use Rattle.cost.specs.declared.TheConstants.{COST_LIMIT};
-ghost use Rattle.cost.specs.Columns.{Within};
-ghost use Rattle.cost.specs.Weights.{weight};
 ghost use Rattle.blockset.specs.declared.TheConstants.{MOST_BLOCKS};
 ghost use Rattle.blockset.specs.Has.{has};
 ghost use Rattle.matching.specs.Exchange.{GivesDistinct, Holding};
@@ -15,7 +13,7 @@ ghost use Rattle.assign.specs.declared.limits.TheConstants.{INNER_PRICE_LIMIT, R
 ghost use Rattle.assign.specs.Weighed.{weight_at, BoundedOn, SearchTables};
 ghost use Rattle.assign.specs.Offers.{NearestWithKey};
 ghost use Rattle.assign.specs.Pairs.{PricedPairing};
-ghost use Rattle.assign.specs.Bids.{BestBid, Seated, BidOf, Reduced};
+ghost use Rattle.assign.specs.Bids.{BestBid, FindsBid, PricedNear, Seated, BidOf, Reduced};
 
 use crate::search::{nearest, nearest_free_first, two_nearest};
 use crate::sums::{exact_difference, is_less};
@@ -32,14 +30,8 @@ fn bid_for_free<K: Cost>(to: BlockSet, held: BlockSet, costs: &[K], right: &[K])
     requires priced { Bounded K.Cost INNER_PRICE_LIMIT (length costs.now) right.now }
     requires no_held { (j : ℕ) (w : ℤ) → has held j ≡ true → BestBid (has to) (has held)
         (weight_at K.Cost right.now) (weight_at K.Cost costs.now) j w → ⊥ }
-    ensures bid { MatchOption result
-        ((j : ℕ) (w : ℤ) → BestBid (has to) (has held) (weight_at K.Cost right.now)
-        (weight_at K.Cost costs.now) j w → ⊥)
-        (λ bid. BestBid (has to) (has held) (weight_at K.Cost right.now)
-        (weight_at K.Cost costs.now) bid.block (weight (K.meaning bid.price))) }
-    ensures bound { IfSome result (λ bid. (b : ℕ)
-        → Bounded K.Cost b (length costs.now) right.now → b ≤ REDUCED_LIMIT
-        → Within (b + 2 * COST_LIMIT) (K.meaning bid.price)) }
+    ensures bid { FindsBid K.Cost (has to) (has held) costs.now right.now result }
+    ensures bound { IfSome result (PricedNear K.Cost (length costs.now) right.now) }
 {
     let near = nearest_free_first(to, held, costs, right)?;
     let block = near.block;
@@ -68,14 +60,8 @@ fn bid_as_near<K: Cost>(
     requires near { NearestWithKey K.Cost (has to) right.now costs.now near }
     requires no_held { (j : ℕ) (w : ℤ) → has held j ≡ true → BestBid (has to) (has held)
         (weight_at K.Cost right.now) (weight_at K.Cost costs.now) j w → ⊥ }
-    ensures bid { MatchOption result
-        ((j : ℕ) (w : ℤ) → BestBid (has to) (has held) (weight_at K.Cost right.now)
-        (weight_at K.Cost costs.now) j w → ⊥)
-        (λ bid. BestBid (has to) (has held) (weight_at K.Cost right.now)
-        (weight_at K.Cost costs.now) bid.block (weight (K.meaning bid.price))) }
-    ensures bound { IfSome result (λ bid. (b : ℕ)
-        → Bounded K.Cost b (length costs.now) right.now → b ≤ REDUCED_LIMIT
-        → Within (b + 2 * COST_LIMIT) (K.meaning bid.price)) }
+    ensures bid { FindsBid K.Cost (has to) (has held) costs.now right.now result }
+    ensures bound { IfSome result (PricedNear K.Cost (length costs.now) right.now) }
 {
     let free = nearest(to.difference(held), costs, right)?;
     if is_less(near.key, free.key) {
@@ -95,14 +81,8 @@ pub fn find_bid<K: Cost>(costs: &[K], to: BlockSet, held: BlockSet, right: &[K])
     requires inside { (c : ℕ) → has to c ≡ true → c < length costs.now }
     requires modest { BoundedOn K.Cost COST_LIMIT (has to) costs.now }
     requires priced { Bounded K.Cost INNER_PRICE_LIMIT (length costs.now) right.now }
-    ensures bid { MatchOption result
-        ((j : ℕ) (w : ℤ) → BestBid (has to) (has held) (weight_at K.Cost right.now)
-        (weight_at K.Cost costs.now) j w → ⊥)
-        (λ bid. BestBid (has to) (has held) (weight_at K.Cost right.now)
-        (weight_at K.Cost costs.now) bid.block (weight (K.meaning bid.price))) }
-    ensures bound { IfSome result (λ bid. (b : ℕ)
-        → Bounded K.Cost b (length costs.now) right.now → b ≤ REDUCED_LIMIT
-        → Within (b + 2 * COST_LIMIT) (K.meaning bid.price)) }
+    ensures bid { FindsBid K.Cost (has to) (has held) costs.now right.now result }
+    ensures bound { IfSome result (PricedNear K.Cost (length costs.now) right.now) }
 {
     let Some(TwoNearest { near, next }) = two_nearest(to, costs, right) else {
         return bid_for_free(to, held, costs, right);

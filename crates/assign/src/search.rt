@@ -154,16 +154,7 @@ pub fn two_nearest<K: Cost>(set: BlockSet, dist: &[K], right: &[K]) -> Option<Tw
             }
         }
     }
-    Some(TwoNearest {
-        near: Nearby {
-            block: near,
-            key: near_key,
-        },
-        next: Nearby {
-            block: next,
-            key: next_key,
-        },
-    })
+    Some(TwoNearest::of(near, near_key, next, next_key))
 }
 
 /// The right block of a set whose distance is least beyond its price; of several such ones a free

@@ -1,5 +1,7 @@
 //! What the steps of the assignment hand to one another.
 
+ghost use Rattle.std.specs.Prelude.{◌≡◌};
+
 use blockset::{BlockSet, SET_WIDTH};
 use matching::{Holders, Reach};
 
@@ -15,6 +17,25 @@ pub struct Nearby<K> {
 pub struct TwoNearest<K> {
     pub near: Nearby<K>,
     pub next: Nearby<K>,
+}
+
+impl<K> TwoNearest<K> {
+    /// Two right blocks with their keys.
+    pub fn of(near: usize, near_key: K, next: usize, next_key: K) -> TwoNearest<K>
+        ensures near { result.near ≡ record { block = near; key = near_key } }
+        ensures next { result.next ≡ record { block = next; key = next_key } }
+    {
+        TwoNearest {
+            near: Nearby {
+                block: near,
+                key: near_key,
+            },
+            next: Nearby {
+                block: next,
+                key: next_key,
+            },
+        }
+    }
 }
 
 /// A right block for a left block to take, and the price that it has then.

@@ -235,7 +235,7 @@ returns g c =
     let k = weight (kind.meaning c.loop-c.near_key) in
     let k' = weight (kind.meaning c.loop-c.next_key) in
     record {
-      near = record {
+      near = rw c.of.ensures.near (record {
         inside = c.requires.inside c.loop-c.near seen.member;
         nearest = seconded_best set v d (has c.loop-c.c-iterator) c.in-None.ensures.steps
             c.loop-c.near k c.loop-c.next k' seen;
@@ -244,8 +244,8 @@ returns g c =
             c.requires.far c.requires.priced c.loop-c.near c.loop-c.near_key seen.member
             c.loop-c.invariant.3;
         reach = c.loop-c.invariant.3;
-      };
-      next = record {
+      });
+      next = rw (c.of.ensures.near, c.of.ensures.next) (record {
         inside = c.requires.inside c.loop-c.next seen.member';
         nearest = seconded_next set v d (has c.loop-c.c-iterator) c.in-None.ensures.steps
             c.loop-c.near k c.loop-c.next k' seen;
@@ -254,5 +254,5 @@ returns g c =
             c.requires.far c.requires.priced c.loop-c.next c.loop-c.next_key seen.member'
             c.loop-c.invariant.4;
         reach = c.loop-c.invariant.4;
-      };
+      });
     }
