@@ -1,0 +1,65 @@
+//! Draws the order file on standard input as a picture, in SVG on standard output; a file that is
+//! refused, or whose sheet has no perfect pairing, is told in words on standard error.
+#![tactic(auto)]
+
+mod canvas;
+mod ladder;
+mod solved;
+mod table;
+
+use report::{MOST_BYTES, explain};
+use solved::{Trouble, solve};
+use std::env;
+use std::io::Read;
+use std::process::ExitCode;
+
+const HELP: &str = "\
+usage: picture < ORDER-FILE > PICTURE.svg
+
+Draws the costs of an order file as a table: the pairs that some optimum pairing
+has are tinted, those of the first one are strong, and the greatest prices stand
+beside the blocks. The first optimum pairings follow, as lines between blocks.
+A file that is refused is told in words on standard error, with status 1.
+";
+
+// The status of a program whose order file is refused, and of one that is asked for what it does
+// not know.
+const REFUSED: u8 = 1;
+
+const USAGE: u8 = 2;
+
+fn draw_input(rt: &HostRuntime) -> anyhow::Result<ExitCode> {
+    let heap = rt.alloc();
+    let mut file = Vec::new(heap);
+    rt.stdin().take(MOST_BYTES).read_to_end(&mut file)?;
+    match solve(heap, file.as_slice()) {
+        Ok(solved) => {
+            rt.print(canvas::draw(heap, &solved)?)?;
+            Ok(ExitCode::SUCCESS)
+        }
+        Err(Trouble::Refused(fault)) => {
+            rt.eprint(explain(heap, fault)?)?;
+            Ok(ExitCode::from(REFUSED))
+        }
+        Err(Trouble::Memory(error)) => Err(error)?,
+    }
+}
+
+fn run(rt: &HostRuntime) -> anyhow::Result<ExitCode> {
+    let words = env::args(rt)?.skip(1).collect::<Vec<String>>(rt.alloc())?;
+    match words.first().map(|word| word.as_str()) {
+        None => draw_input(rt),
+        Some("--help" | "-h") => {
+            rt.print(HELP)?;
+            Ok(ExitCode::SUCCESS)
+        }
+        Some(_) => {
+            rt.eprint(HELP)?;
+            Ok(ExitCode::from(USAGE))
+        }
+    }
+}
+
+fn main(rt: HostRuntime) -> anyhow::Result<ExitCode> {
+    run(&rt)
+}
