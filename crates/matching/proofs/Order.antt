@@ -4,11 +4,11 @@
 -- those that have it the least at left block 1, and so on. After p comes a pairing that agrees with
 -- p up to some left block and is greater there; of these the first one differs from p as late as
 -- possible, is as little greater there as possible, and is the first of those that begin so.
-use Rattle.std.proofs.Common.{◌≡◌, ℕ, zero, suc, ◌+◌, ◌<◌, ◌≤◌, ◌⊎◌, Bool, true, false, ◌||◌, List}
+use Rattle.std.proofs.Common.{◌≡◌, ℕ, zero, suc, ◌+◌, ◌<◌, ◌≤◌, ◌⊎◌, Bool, false, ◌||◌, List}
 use Rattle.std.proofs.Common.{[], ◌∷◌, length, sym}
 use Rattle.std.proofs.Common.{refl, ap, ◌∙◌, inl, inr, arith}
 use Rattle.std.proofs.lemmas.List.{ext_get_or}
-use Rattle.std.proofs.lemmas.Bool.{cases_eq, cases_order, both_ways}
+use Rattle.std.proofs.lemmas.Bool.{cases_eq, cases_order, both_ways, or_right}
 use Rattle.blockset.specs.declared.BlockSet.{BlockSet}
 use Rattle.pairing.specs.Grid.{at}
 use Rattle.pairing.specs.Optima.{Before}
@@ -192,9 +192,6 @@ pub wanted_more : (rows : List BlockSet) (l : ℕ) (wanted new : ℕ → Bool)
     → WantedFrom (l + 1) rows wanted → ((c : ℕ) → new c ≡ (wanted c || holds rows l c))
     → WantedFrom l rows new
 wanted_more rows l wanted new w is m c i j h = elim (cases_eq m l) [
-  | inl same ↦ is c ∙ or_true (wanted c) (holds rows l c) (ap (λ k. holds rows k c) (sym same) ∙ h)
+  | inl same ↦ is c ∙ or_right (wanted c) (holds rows l c) (ap (λ k. holds rows k c) (sym same) ∙ h)
   | inr other ↦ is c ∙ ap (λ b. b || holds rows l c) (w m c (omega arith) j h)
 ]
-  where
-    or_true : (a b : Bool) → b ≡ true → (a || b) ≡ true
-    or_true a b e = grind arith

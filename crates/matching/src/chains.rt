@@ -2,7 +2,7 @@
 //! right block of its row, on to the left block that has that right block, and so on.
 
 ghost use Rattle.std.specs.Prelude.{◌≡◌, ℕ, ◌<◌, ◌≤◌, true, false, ◌||◌, length, IfSome, IfNone};
-ghost use Rattle.std.specs.Prelude.{◌==◌, ◌≢◌, ◌+◌};
+ghost use Rattle.std.specs.Prelude.{◌==◌, ◌≢◌, ◌+◌, List};
 ghost use Rattle.blockset.specs.declared.TheConstants.{MOST_BLOCKS, SET_WIDTH};
 ghost use Rattle.blockset.specs.Has.{has};
 ghost use Rattle.pairing.specs.Grid.{at};
@@ -20,6 +20,29 @@ pub struct Holders {
 }
 
 impl Holders {
+    /// Holders that tell of no left block yet.
+    pub(crate) fn new() -> Holders
+        ensures { (k : ℕ) (p : List ℕ) → length p ≤ k → HeldFrom k p result }
+    {
+        Holders {
+            held: BlockSet::empty(),
+            row: [0; SET_WIDTH],
+        }
+    }
+
+    /// The holders that `p` has, one for each right block that it gives.
+    pub(crate) fn of(p: &[u16]) -> Holders
+        requires small { length p.now ≤ MOST_BLOCKS }
+        requires blocks { (l : ℕ) → l < length p.now → at p.now l < SET_WIDTH }
+        ensures { HeldFrom 0 p.now result }
+    {
+        let mut holders = Holders::new();
+        for l in (0..p.len()).rev() {
+            holders.put_in(p, l);
+        }
+        holders
+    }
+
     /// Tells of left block `l` too, where it told of those after it.
     pub fn put_in(&mut self, p: &[u16], l: usize)
         requires small { length p.now ≤ MOST_BLOCKS }
@@ -64,25 +87,6 @@ pub struct Reach {
     pub from: [u8; SET_WIDTH],
     pub rank: [u8; SET_WIDTH],
     pub goal: Option<usize>,
-}
-
-/// The holders among the left blocks from `k` on, where those of `out` have nothing.
-pub fn find_holders(p: &[u16], k: usize, out: BlockSet) -> Holders
-    requires small { length p.now ≤ MOST_BLOCKS }
-    requires start { k ≤ length p.now }
-    requires below { (l : ℕ) → l < length p.now → has out l ≡ false → at p.now l < SET_WIDTH }
-    ensures { Holding k (length p.now) p.now (has out) (has result.held) result.row }
-{
-    let mut held = BlockSet::empty();
-    let mut row = [0u8; SET_WIDTH];
-    for l in k..p.len() {
-        if !out.contains(l) {
-            let c = p[l] as usize;
-            held.insert(c);
-            row[c] = l as u8;
-        }
-    }
-    Holders { held, row }
 }
 
 /// A right block that left block `l` leads to and that is not reached yet: one of the goals, if

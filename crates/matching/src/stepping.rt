@@ -12,9 +12,9 @@ ghost use Rattle.matching.specs.Improving.{Improved, Unimproved, IsFirstFrom, Wa
 ghost use Rattle.matching.specs.Answers.{IsNth, Follows};
 ghost use Rattle.matching.specs.Numbers.{step_number};
 
-use crate::chains::{Bounds, Holders, exchange, find_holders, search};
+use crate::chains::{Bounds, Holders, exchange, search};
 use crate::fitting::{Unfit, fit};
-use blockset::{BlockSet, SET_WIDTH};
+use blockset::BlockSet;
 
 /// Where a step from a perfect pairing leads. The numbers are part of the interface and never move:
 /// a host in C sees them.
@@ -142,7 +142,7 @@ pub fn make_first(rows: &[BlockSet], p: &mut [u16])
     requires pairs { Pairs rows.now p.old }
     ensures { IsNth (pairings rows.now) 0 p.new }
 {
-    let mut holders = find_holders(p, 0, BlockSet::empty());
+    let mut holders = Holders::of(p);
     make_first_from(rows, p, &mut holders, 0);
 }
 
@@ -171,10 +171,7 @@ pub fn advance(rows: &[BlockSet], p: &mut [u16]) -> Step
     requires pairs { Pairs rows.now p.old }
     ensures { Follows (pairings rows.now) p.old p.new result }
 {
-    let mut holders = Holders {
-        held: BlockSet::empty(),
-        row: [0; SET_WIDTH],
-    };
+    let mut holders = Holders::new();
     let mut wanted = BlockSet::empty();
     for l in (0..rows.len()).rev() {
         if raise(rows, p, &mut holders, wanted, l) {

@@ -1,36 +1,16 @@
 -- What a pass over the pair tables gathers of their bytes tells whether it met a fault.
 -- Idea: what is gathered by `or` is small just where each part of it is. A byte is cut short by the
 -- number of its fault, 1 or 0, so only a fault of a standing pair is left over.
-use Rattle.std.proofs.Common.{◌≡◌, ℕ, zero, suc, ◌+◌, ◌/◌, ◌^◌, ◌<◌, ◌≤◌, Bool, true, false, not}
-use Rattle.std.proofs.Common.{◌&&◌, ◌||◌, eqb, leb, refl, ap, ap₂, ◌∙◌, inl, inr, pow-suc}
+use Rattle.std.proofs.Common.{◌≡◌, ℕ, zero, suc, ◌/◌, ◌≤◌, Bool, true, false, not}
+use Rattle.std.proofs.Common.{◌&&◌, ◌||◌, eqb, leb, refl, ap, ap₂, ◌∙◌, inl, inr}
 use Rattle.std.proofs.Common.{Decides, arith}
 use mir.Val.{bool_byte}
 use lib.Bits.{bit_and, bit_or, or_step, or_zero_r}
+use Rattle.std.proofs.lemmas.Nat.{le_or_l, le_or_r}
 use Rattle.std.proofs.lemmas.Bool.Decides.{same_from_decides, Decides-and}
 use Rattle.std.proofs.lemmas.Bool.{leb-true, le-leb, ne_eqb, cases_Bool, or_cases, or_left}
 use Rattle.std.proofs.lemmas.Bool.{or_right, not-true, not_from_false, both_ways}
 use Rattle.tables.specs.PairTables.{says_stands, says_disturbed}
-
-lt_pow : (n : ℕ) → n < 2 ^ n
-lt_pow zero = omega arith
-lt_pow (suc n) = omega (arith, pow-suc 2 n, lt_pow n)
-
-or_none_below : (w a b : ℕ) → a < 2 ^ w → b < 2 ^ w → bit_or a b ≡ 0 → (a ≡ 0) × (b ≡ 0)
-or_none_below zero a b h k e = (omega arith, omega arith)
-or_none_below (suc w) a b h k e =
-    let halves : bit_or (a / 2) (b / 2) ≡ 0 = omega (arith, or_step a b) in
-    let ih = or_none_below w (a / 2) (b / 2) (omega (arith, pow-suc 2 w))
-    (omega (arith, pow-suc 2 w)) halves in
-    (omega (arith, or_step a b, ih.0), omega (arith, or_step a b, ih.1))
-
-or_none : (a b : ℕ) → bit_or a b ≡ 0 → (a ≡ 0) × (b ≡ 0)
-or_none a b = or_none_below (a + b) a b (omega (arith, lt_pow (a + b)))
-    (omega (arith, lt_pow (a + b)))
-
-or_few : (a b : ℕ) → bit_or a b ≤ 1 → (a ≤ 1) × (b ≤ 1)
-or_few a b h =
-    let halves = or_none (a / 2) (b / 2) (omega (arith, or_step a b)) in
-    (omega (arith, halves.0), omega (arith, halves.1))
 
 few_or : (a b : ℕ) → a ≤ 1 → b ≤ 1 → bit_or a b ≤ 1
 few_or a b h k =
@@ -77,16 +57,18 @@ and_byte (suc (suc byte)) test h = absurd (omega arith)
 
 few_same : (seen : ℕ) → leb (bit_or seen 1) 1 ≡ leb seen 1
 few_same seen = same_from_decides (leb (bit_or seen 1) 1) (leb seen 1) (
-  λ e. (or_few seen 1 (leb-true (bit_or seen 1) 1 e)).0,
+  λ e. omega (arith, le_or_l seen 1, leb-true (bit_or seen 1) 1 e),
   λ h. le-leb (bit_or seen 1) 1 (few_or seen 1 h (omega arith)),
 )
     (leb-true seen 1, le-leb seen 1)
 
 many : (seen byte : ℕ) → leb (bit_or seen (suc (suc byte))) 1 ≡ false
 many seen byte = elim (cases_Bool (leb (bit_or seen (suc (suc byte))) 1)) [
-  | inl e ↦
-      let h = (or_few seen (suc (suc byte)) (leb-true (bit_or seen (suc (suc byte))) 1 e)).1 in
-      absurd (omega (arith, h))
+  | inl e ↦ absurd (omega (
+    arith,
+    le_or_r seen (suc (suc byte)),
+    leb-true (bit_or seen (suc (suc byte))) 1 e,
+  ))
   | inr f ↦ f
 ]
 
@@ -100,7 +82,7 @@ gathered seen faults (suc zero) true =
     ap₂ (λ x y. x && eqb y 0) (few_same seen) (or_zero_r faults) ∙ grind arith
 gathered seen faults (suc zero) false =
     let some : eqb (bit_or faults 1) 0 ≡ false =
-    ne_eqb (bit_or faults 1) 0 (λ e. let h = (or_none faults 1 e).1 in omega (arith, h)) in
+    ne_eqb (bit_or faults 1) 0 (λ e. omega (arith, le_or_r faults 1)) in
     ap (λ x. leb (bit_or seen 1) 1 && x) some ∙ grind arith
 gathered seen faults (suc (suc byte)) fine =
     ap (λ x. x && eqb (bit_or faults (bit_and (suc (suc byte)) (bool_byte (not fine)))) 0)

@@ -9,6 +9,7 @@ use Rattle.std.proofs.Common.{ap₂, inl, inr, add-mul, one-mul, arith, below_mo
 use mir.Val.{bool_byte}
 use lib.Bits.{bit_and, bit_or}
 use Rattle.std.specs.Ordering.{is_gt, is_eq}
+use Rattle.std.proofs.Math.Bool.{not-not}
 use Rattle.std.proofs.lemmas.Nat.{mul-add-lt}
 use Rattle.std.proofs.lemmas.Bool.{cases_lt, cases_Bool, both_ways, false≢true}
 use Rattle.std.proofs.lemmas.Bool.Decides.{Decides-at, Decides-like, Decides-and, nat_tests}
@@ -41,10 +42,6 @@ greater_tells Greater = (λ e. absurd (false≢true e), λ h. absurd (h refl))
 byte_some : (b : Bool) → not (eqb (bool_byte b) 0) ≡ b
 byte_some true = refl
 byte_some false = refl
-
-not_twice : (b : Bool) → b ≡ not (not b)
-not_twice true = refl
-not_twice false = refl
 
 calm_byte : (byte : ℕ) → says_disturbed byte ≡ false → byte ≤ 1
 calm_byte byte e = grind (arith, nat_tests)
@@ -156,7 +153,7 @@ module _ {K : Type 0} (kind : Ghosts K) (costs : List K) (standing : List ℕ) (
           let fine = not off in
           let fault : number ≡ bool_byte (not fine) =
           counted ∙ ap (λ c. bool_byte (not (within 1000000000 c) || is_gt order)) costed
-          ∙ ap bool_byte (not_twice off) in
+          ∙ ap bool_byte (sym (not-not off)) in
           Decides-at (faultless (bit_or seen byte) (bit_or faults (bit_and byte number)))
           (faultless seen faults && is_fine byte fine)
           (ap (λ x. faultless (bit_or seen byte) (bit_or faults (bit_and byte x))) fault

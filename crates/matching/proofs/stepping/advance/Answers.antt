@@ -4,7 +4,6 @@ use Rattle.std.proofs.Common.{◌≡◌, ◌+◌, ◌-◌, length, sym, refl, �
 use Rattle.blockset.specs.Has.{has}
 use Rattle.pairing.specs.Optima.{Before}
 use Rattle.pairing.specs.Rows.{Pairs}
-use Rattle.matching.proofs.Held.{held_start}
 use Rattle.matching.specs.Improving.{WantedFrom}
 use Rattle.matching.proofs.Order.{Next, Exhausted, exhausted_start, exhausted_more, next_is}
 use Rattle.matching.proofs.Order.{wanted_more}
@@ -15,8 +14,7 @@ pub loop-l-init : goal.loop-l-init
 loop-l-init c = (
   refl,
   exhausted_start c.args.rows.now c.args.p.now c.requires.pairs,
-  held_start (length c.args.p.now) (length c.args.rows.now) c.args.p.now (has c.empty.result) _
-      (omega (arith, c.requires.pairs.len)) c.empty.ensures,
+  c.new-holders.ensures (length c.args.rows.now) c.args.p.now (omega (arith, c.requires.pairs.len)),
   λ m r i j. absurd (omega arith),
 )
 
