@@ -253,8 +253,8 @@ void files_and_tables(const sheets::Sheet &sheet) {
     measure("`open`", bench_open, NO_RESET, sheet.n, costs.data(), costs.size(), standing.data(),
             standing.size());
     measure("`save`, after `open`", bench_save, NO_RESET, sheet.n, opened_costs.data(),
-            costs.size(), opened.data(), opened.size(), sheet.costs.data(), costs.size(), sheet.standing.data(),
-            standing.size(), file.data(), file.size());
+            costs.size(), opened.data(), opened.size(), sheet.costs.data(), costs.size(),
+            sheet.standing.data(), standing.size(), file.data(), file.size());
 }
 
 // ---- The sheets
