@@ -75,6 +75,13 @@ bool is_perfect(const struct sheet *sheet, const uint8_t *pairing)
     return true;
 }
 
+void swap_blocks(uint8_t *pairing, size_t l, size_t k)
+{
+    const uint8_t kept = pairing[l];
+    pairing[l] = pairing[k];
+    pairing[k] = kept;
+}
+
 int64_t total_cost(const struct sheet *sheet, const uint8_t *pairing)
 {
     int64_t total = 0;
@@ -118,24 +125,27 @@ bool is_optimum(const struct sheet *sheet, const uint8_t *pairing)
 
 /* ---- All pairings, of few blocks */
 
+/* Where the longest end of the n bytes begins that falls all the way. */
+static size_t falling_end(const uint8_t *bytes, size_t n)
+{
+    size_t at = n - 1;
+    while (at > 0 && bytes[at - 1] > bytes[at])
+        --at;
+    return at;
+}
+
 /* Goes to the next order of the n bytes in dictionary order; false, and no change, at the last. */
 static bool next_order(uint8_t *bytes, size_t n)
 {
-    size_t at = n - 1, other = n - 1;
-    while (at > 0 && bytes[at - 1] > bytes[at])
-        --at;
+    const size_t at = falling_end(bytes, n);
+    size_t larger = n - 1;
     if (at == 0)
         return false;
-    while (bytes[other] < bytes[at - 1])
-        --other;
-    const uint8_t kept = bytes[at - 1];
-    bytes[at - 1] = bytes[other];
-    bytes[other] = kept;
-    for (size_t from = at, to = n - 1; from < to; ++from, --to) {
-        const uint8_t moved = bytes[from];
-        bytes[from] = bytes[to];
-        bytes[to] = moved;
-    }
+    while (bytes[larger] < bytes[at - 1])
+        --larger;
+    swap_blocks(bytes, at - 1, larger);
+    for (size_t from = at, to = n - 1; from < to; ++from, --to)
+        swap_blocks(bytes, from, to);
     return true;
 }
 

@@ -27,6 +27,9 @@ bool has_perfect_pairing(const struct sheet *sheet);
 /* Whether the n bytes pair each left block with a right block of its own by a standing pair. */
 bool is_perfect(const struct sheet *sheet, const uint8_t *pairing);
 
+/* Lets two left blocks change their right blocks. */
+void swap_blocks(uint8_t *pairing, size_t l, size_t k);
+
 /* The total cost of a perfect pairing. */
 int64_t total_cost(const struct sheet *sheet, const uint8_t *pairing);
 

@@ -28,13 +28,13 @@ struct call {
 
 static const struct call FIRST = {"first", tulvasne_first}, AFTER = {"after", tulvasne_after};
 
-/* The file that is tried, the number of its record, its first fault, and what it states if that is
- * none. */
+/* The file that is tried, the number of its record, and what it states. The verdict is 0, or the
+ * number of the first fault, or that no pairing is perfect. */
 struct trial {
     size_t number;
     enum placing where;
     struct buffer file;
-    uint8_t fault;
+    uint8_t verdict;
     struct sheet sheet;
     uint64_t random;
 };
@@ -146,9 +146,9 @@ static void want_refused(const struct trial *trial, size_t out_len, uint32_t wan
 
 static void try_fault(const struct trial *trial)
 {
-    want_refused(trial, 0, trial->fault);
-    want_refused(trial, 1, trial->fault);
-    want_refused(trial, TULVASNE_MOST_BLOCKS, trial->fault);
+    want_refused(trial, 0, trial->verdict);
+    want_refused(trial, 1, trial->verdict);
+    want_refused(trial, TULVASNE_MOST_BLOCKS, trial->verdict);
 }
 
 static void try_short(const struct trial *trial)
@@ -243,23 +243,16 @@ static size_t draw(struct trial *trial, size_t below)
     return trial->random % below;
 }
 
-static void swap(uint8_t *pairing, size_t l, size_t k)
-{
-    const uint8_t kept = pairing[l];
-    pairing[l] = pairing[k];
-    pairing[k] = kept;
-}
-
 /* Makes a start of an optimum pairing; the kinds are swapped blocks, any order, a block twice, a
  * block that is not below n, one block for all, any bytes. */
 static void make_start(struct trial *trial, int kind, uint8_t *start)
 {
     const size_t n = trial->sheet.n, l = draw(trial, n);
     if (kind == 0)
-        swap(start, l, draw(trial, n));
+        swap_blocks(start, l, draw(trial, n));
     else if (kind == 1)
         for (size_t k = n; k > 1; --k)
-            swap(start, k - 1, draw(trial, k));
+            swap_blocks(start, k - 1, draw(trial, k));
     else if (kind == 2)
         start[l] = start[draw(trial, n)];
     else if (kind == 3)
@@ -311,7 +304,7 @@ static void try_pairings(struct trial *trial)
 
 static void try_file(struct trial *trial)
 {
-    if (trial->fault != 0) {
+    if (trial->verdict != 0) {
         try_fault(trial);
         return;
     }
@@ -320,7 +313,7 @@ static void try_file(struct trial *trial)
     if (has_perfect_pairing(&trial->sheet))
         try_pairings(trial);
     else {
-        trial->fault = TULVASNE_NO_PERFECT_PAIRING;
+        trial->verdict = TULVASNE_NO_PERFECT_PAIRING;
         try_unpaired(trial);
     }
 }
@@ -350,14 +343,15 @@ static void try_placed(size_t number, enum placing where, const uint8_t *file, s
                        uint8_t fault)
 {
     static struct trial trial;
-    trial = (struct trial){.number = number, .where = where, .fault = fault, .random = number + 1};
+    trial = (struct trial){.number = number, .where = where, .verdict = fault,
+                           .random = number + 1};
     trial.file = make_buffer(where, length);
     memcpy(trial.file.bytes, file, length);
     lock_buffer(&trial.file);
     try_file(&trial);
     if (memcmp(trial.file.bytes, file, length) != 0)
         wrong(&trial, "the file changed");
-    ++told.files[trial.fault];
+    ++told.files[trial.verdict];
     free_buffer(&trial.file);
 }
 

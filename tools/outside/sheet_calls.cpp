@@ -275,6 +275,16 @@ void try_open(int n) {
     want(counted(bench_open(n + 1, c.data(), c.size, s.data(), s.size)) != DONE, "a wrong size");
 }
 
+// Tables with no place at all: whatever a call answers, there is nothing that it may touch.
+template <class Cost, class Call> void try_nothing(Call call) {
+    Tables<Cost> t;
+    std::vector<uint16_t> list;
+    std::vector<uint8_t> marked;
+    t.settle(call);
+    t.next(list);
+    t.marks(marked);
+}
+
 void try_sheet(const std::string &name, const sheets::Sheet &sheet, bool paired) {
     at_work = name + ", " + std::to_string(sheet.n) + " blocks a plane";
     ++sheets_tried;
@@ -302,6 +312,9 @@ int main(int count, char **words) {
     if (words[1] == std::string("fences")) places = {BEFORE_FENCE, BEHIND_FENCE};
     for (placing place : places) {
         where = place;
+        try_nothing<int64_t>(bench_optimum);
+        try_nothing<int64_t>(bench_settle);
+        try_nothing<Two>(bench_two_settle);
         for (int n = 1; n <= 64; ++n)
             if (many || n <= 8 || n % 16 == 15 || n % 16 <= 1) try_size(n);
     }

@@ -252,9 +252,9 @@ void files_and_tables(const sheets::Sheet &sheet) {
             standing.data(), standing.size());
     measure("`open`", bench_open, NO_RESET, sheet.n, costs.data(), costs.size(), standing.data(),
             standing.size());
-    measure("`save`", bench_save, NO_RESET, sheet.n, opened_costs.data(), costs.size(),
-            opened.data(), opened.size(), sheet.costs.data(), costs.size(), sheet.standing.data(),
-            standing.size(), file.data(), file.size());
+    measure("`save`, after `open`", bench_save, NO_RESET, sheet.n, opened_costs.data(),
+            costs.size(), opened.data(), opened.size(), sheet.costs.data(), costs.size(),
+            sheet.standing.data(), standing.size(), file.data(), file.size());
 }
 
 // ---- The sheets
