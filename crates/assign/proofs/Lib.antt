@@ -19,3 +19,6 @@ pub mod Solving
 pub mod Pricing
 pub mod Sweeping
 pub mod Firsts
+pub mod Looking
+pub mod Nearer
+pub mod Parts

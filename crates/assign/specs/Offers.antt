@@ -1,7 +1,7 @@
 -- What one left block offers the right blocks that it stands with, and which right block is the
 -- nearest.
 use Rattle.std.specs.Prelude.{◌≡◌, ℕ, ◌+◌, ◌<◌, ◌≤◌, Bool, true, false, ◌⊎◌, List, length, ℤ, ◌+ℤ◌}
-use Rattle.std.specs.Prelude.{◌-ℤ◌, ◌≤ℤ◌, ◌<ℤ◌}
+use Rattle.std.specs.Prelude.{◌-ℤ◌, ◌≤ℤ◌, ◌<ℤ◌, Option, Some, None}
 use Rattle.cost.specs.declared.TheConstants.{RAIL}
 use Rattle.cost.specs.declared.Cost.{Ghosts}
 use Rattle.cost.specs.Columns.{Within}
@@ -55,3 +55,12 @@ pub record NearestTwo {K : Type 0} (kind : Ghosts K) (set : ℕ → Bool) (right
 abbrev pub FreeFirst : (set held : ℕ → Bool) (v d : ℕ → ℤ) → ℕ → Type 0
 FreeFirst set held v d a = held a ≡ true → (c : ℕ) → set c ≡ true → held c ≡ false
     → (d a +ℤ v c) <ℤ (d c +ℤ v a)
+
+-- the nearer one of two right blocks with their keys, the first one if both are as near
+abbrev pub Nearer : {K : Type 0} (kind : Ghosts K) (first second result : Option (Nearby K))
+    → Type 0
+Nearer kind None second result = result ≡ second
+Nearer kind (Some a) None result = result ≡ Some a
+Nearer kind (Some a) (Some b) result =
+    ((result ≡ Some a) × (weight (kind.meaning a.key) ≤ℤ weight (kind.meaning b.key)))
+    ⊎ ((result ≡ Some b) × (weight (kind.meaning b.key) <ℤ weight (kind.meaning a.key)))

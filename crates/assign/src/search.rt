@@ -5,7 +5,7 @@
 //! stay small however often prices change.
 
 ghost use Rattle.std.specs.Prelude.{◌≡◌, ℕ, ◌+◌, ◌<◌, ◌≤◌, true, false, length, MatchOption};
-ghost use Rattle.std.specs.Prelude.{◌⊎◌, ◌-ℤ◌, ◌≤ℤ◌};
+ghost use Rattle.std.specs.Prelude.{◌⊎◌, ◌-ℤ◌, ◌≤ℤ◌, ◌<ℤ◌, ◌≢◌, ◌&&◌, IfSome};
 ghost use Rattle.cost.specs.declared.TheConstants.{COST_LIMIT, HALF_RAIL};
 ghost use Rattle.blockset.specs.declared.TheConstants.{MOST_BLOCKS};
 ghost use Rattle.cost.specs.Columns.{Within};
@@ -18,6 +18,7 @@ ghost use Rattle.assign.specs.declared.limits.TheConstants.{DISTANCE_LIMIT, SHIF
 ghost use Rattle.assign.specs.declared.limits.TheConstants.{INNER_PRICE_LIMIT};
 ghost use Rattle.assign.specs.Weighed.{weight_at, BoundedOn, SearchTables};
 ghost use Rattle.assign.specs.Offers.{Offered, NearestWithKey, FreeFirst, KeyReach, NearestTwo};
+ghost use Rattle.assign.specs.Offers.{Nearer};
 ghost use Rattle.assign.specs.Trees.{Grows, GrowsFrom};
 
 use crate::sums::{exact_difference, exact_sum, is_less};
@@ -157,6 +158,24 @@ pub fn two_nearest<K: Cost>(set: BlockSet, dist: &[K], right: &[K]) -> Option<Tw
     Some(TwoNearest::of(near, near_key, next, next_key))
 }
 
+/// The nearer one of two right blocks, the first one if both are as near.
+fn nearer<K: Cost>(first: Option<Nearby<K>>, second: Option<Nearby<K>>) -> Option<Nearby<K>>
+    requires first { IfSome first (λ near. Within HALF_RAIL (K.meaning near.key)) }
+    requires second { IfSome second (λ near. Within HALF_RAIL (K.meaning near.key)) }
+    ensures { Nearer K.Cost first second result }
+{
+    let Some(a) = first else {
+        return second;
+    };
+    let Some(b) = second else {
+        return Some(a);
+    };
+    if is_less(b.key, a.key) {
+        return Some(b);
+    }
+    Some(a)
+}
+
 /// The right block of a set whose distance is least beyond its price; of several such ones a free
 /// one, if there is any.
 pub fn nearest_free_first<K: Cost>(
@@ -174,16 +193,147 @@ pub fn nearest_free_first<K: Cost>(
         × FreeFirst (has set) (has held) (weight_at K.Cost right.now)
         (weight_at K.Cost dist.now) near.block) }
 {
-    let Some(free) = nearest(set.difference(held), dist, right) else {
-        return nearest(set, dist, right);
-    };
-    let Some(other) = nearest(set.intersection(held), dist, right) else {
-        return Some(free);
-    };
-    if is_less(other.key, free.key) {
-        return Some(other);
+    let free = nearest(set.difference(held), dist, right);
+    let other = nearest(set.intersection(held), dist, right);
+    nearer(free, other)
+}
+
+/// Offers right block `c` the distance `shift` plus its cost, if it is one of `to`: it takes that
+/// distance if it is less than the one it has. Answers how far it is then.
+fn offer_one<K: Cost>(
+    c: usize,
+    to: BlockSet,
+    costs: &[K],
+    shift: K,
+    from: usize,
+    via: &mut [u8; SET_WIDTH],
+    dist: &mut [K],
+) -> K
+    requires few { length costs.now ≤ MOST_BLOCKS }
+    requires sized { length dist.old ≡ length costs.now }
+    requires block { from < MOST_BLOCKS }
+    requires inside { c < length costs.now }
+    requires modest { BoundedOn K.Cost COST_LIMIT (has to) costs.now }
+    requires near { Within SHIFT_LIMIT (K.meaning shift) }
+    requires known { Within HALF_RAIL (columns_at K.Cost dist.old c) }
+    ensures offered { Offered (weight (K.meaning shift)) (weight_at K.Cost costs.now) from (has to)
+        (λ _. true) (weight_at K.Cost dist.old) (at via.old) (weight_at K.Cost dist.new)
+        (at via.new) c }
+    ensures others { (j : ℕ) → j ≢ c
+        → (columns_at K.Cost dist.new j ≡ columns_at K.Cost dist.old j)
+        × (at via.new j ≡ at via.old j) }
+    ensures answer { K.meaning result ≡ columns_at K.Cost dist.new c }
+    ensures nearer { (columns_at K.Cost dist.new c ≡ columns_at K.Cost dist.old c)
+        ⊎ (weight_at K.Cost dist.new c <ℤ weight_at K.Cost dist.old c) }
+    ensures bound { (b : ℕ) → Within b (K.meaning shift) → b ≤ SHIFT_LIMIT
+        → Within (b + COST_LIMIT) (columns_at K.Cost dist.old c)
+        → Within (b + COST_LIMIT) (columns_at K.Cost dist.new c) }
+{
+    let far = dist[c];
+    if !to.contains(c) {
+        return far;
     }
-    Some(free)
+    let way = exact_sum(shift, costs[c]);
+    if !is_less(way, far) {
+        return far;
+    }
+    dist[c] = way;
+    via[c] = from as u8;
+    way
+}
+
+/// Offers each right block of `set` that is also one of `to` the distance `shift` plus its cost, as
+/// `offer` does; all of `set` are reached. Answers which one of `set` is nearest then: so each of
+/// them is looked at once.
+pub fn offer_and_find<K: Cost>(
+    set: BlockSet,
+    to: BlockSet,
+    costs: &[K],
+    shift: K,
+    from: usize,
+    via: &mut [u8; SET_WIDTH],
+    dist: &mut [K],
+    right: &[K],
+) -> Option<Nearby<K>>
+    requires few { length costs.now ≤ MOST_BLOCKS }
+    requires sized { length dist.old ≡ length costs.now }
+    requires rights { length right.now ≡ length costs.now }
+    requires block { from < MOST_BLOCKS }
+    requires inside { (c : ℕ) → has set c ≡ true → c < length costs.now }
+    requires modest { BoundedOn K.Cost COST_LIMIT (has to) costs.now }
+    requires near { Within SHIFT_LIMIT (K.meaning shift) }
+    requires far { BoundedOn K.Cost DISTANCE_LIMIT (has set) dist.old }
+    requires priced { Bounded K.Cost INNER_PRICE_LIMIT (length costs.now) right.now }
+    ensures offered { (c : ℕ) → Offered (weight (K.meaning shift)) (weight_at K.Cost costs.now)
+        from (λ k. has set k && has to k) (λ _. true) (weight_at K.Cost dist.old) (at via.old)
+        (weight_at K.Cost dist.new) (at via.new) c }
+    ensures others { (c : ℕ) → has set c ≡ false
+        → columns_at K.Cost dist.new c ≡ columns_at K.Cost dist.old c }
+    ensures bound { (b c : ℕ) → Within b (K.meaning shift) → b ≤ SHIFT_LIMIT
+        → Within (b + COST_LIMIT) (columns_at K.Cost dist.old c)
+        → Within (b + COST_LIMIT) (columns_at K.Cost dist.new c) }
+    ensures found { MatchOption result ((c : ℕ) → has set c ≡ false)
+        (NearestWithKey K.Cost (has set) right.now dist.new) }
+{
+    let mut block = set.least()?;
+    let mut lowest = exact_difference(dist[block], right[block]);
+    for c in set {
+        let far = offer_one(c, to, costs, shift, from, via, dist);
+        let key = exact_difference(far, right[c]);
+        if is_less(key, lowest) {
+            block = c;
+            lowest = key;
+        }
+    }
+    Some(Nearby { block, key: lowest })
+}
+
+/// Offers each right block of `to` the distance `shift` plus its cost, as `offer` does, and answers
+/// which one of `rest` is nearest then; of several such ones a free one, if there is any. Each of
+/// `rest` is reached, or is now.
+pub fn offer_and_choose<K: Cost>(
+    costs: &[K],
+    shift: K,
+    from: usize,
+    to: BlockSet,
+    reached: BlockSet,
+    rest: BlockSet,
+    held: BlockSet,
+    via: &mut [u8; SET_WIDTH],
+    dist: &mut [K],
+    right: &[K],
+) -> Option<Nearby<K>>
+    requires few { length costs.now ≤ MOST_BLOCKS }
+    requires sized { length dist.old ≡ length costs.now }
+    requires rights { length right.now ≡ length costs.now }
+    requires block { from < MOST_BLOCKS }
+    requires inside { (c : ℕ) → has rest c ≡ true → c < length costs.now }
+    requires waiting { (c : ℕ) → has to c ≡ true → has rest c ≡ true }
+    requires come_to { (c : ℕ) → has rest c ≡ true → has to c ≡ false → has reached c ≡ true }
+    requires modest { BoundedOn K.Cost COST_LIMIT (has to) costs.now }
+    requires near { Within SHIFT_LIMIT (K.meaning shift) }
+    requires known { BoundedOn K.Cost DISTANCE_LIMIT (has reached) dist.old }
+    requires priced { Bounded K.Cost INNER_PRICE_LIMIT (length costs.now) right.now }
+    ensures offered { (c : ℕ) → Offered (weight (K.meaning shift)) (weight_at K.Cost costs.now)
+        from (has to) (has reached) (weight_at K.Cost dist.old) (at via.old)
+        (weight_at K.Cost dist.new) (at via.new) c }
+    ensures bound { (b c : ℕ) → Within b (K.meaning shift) → b ≤ SHIFT_LIMIT
+        → (has to c ≡ false → Within (b + COST_LIMIT) (columns_at K.Cost dist.old c))
+        → (has reached c ≡ true → Within (b + COST_LIMIT) (columns_at K.Cost dist.old c))
+        → Within (b + COST_LIMIT) (columns_at K.Cost dist.new c) }
+    ensures found { MatchOption result ((c : ℕ) → has rest c ≡ false)
+        (λ near. NearestWithKey K.Cost (has rest) right.now dist.new near
+        × FreeFirst (has rest) (has held) (weight_at K.Cost right.now)
+        (weight_at K.Cost dist.new) near.block) }
+{
+    let fresh = to.difference(reached);
+    offer(costs, shift, from, fresh, reached, via, dist);
+    let known = to.intersection(reached);
+    let free_ones = rest.difference(held);
+    let held_ones = rest.intersection(held);
+    let free = offer_and_find(free_ones, known, costs, shift, from, via, dist, right);
+    let other = offer_and_find(held_ones, known, costs, shift, from, via, dist, right);
+    nearer(free, other)
 }
 
 /// Takes right blocks by their distance beyond their price, up to the first that is free. It starts
@@ -220,9 +370,9 @@ pub fn grow<K: Cost>(
         rank: [0u8; SET_WIDTH],
         goal: None,
     };
+    let mut next = nearest_free_first(start, holders.held, dist, right);
     for t in 0..n {
-        let untaken = seen.difference(taken.reached);
-        let Some(near) = nearest_free_first(untaken, holders.held, dist, right) else {
+        let Some(near) = next else {
             return Tree { seen, taken };
         };
         let a = near.block;
@@ -236,8 +386,12 @@ pub fn grow<K: Cost>(
         let to = rows[l].difference(taken.reached);
         let row = &costs[l * n..l * n + n];
         let shift = exact_difference(dist[a], row[a]);
-        offer(row, shift, l, to, seen, &mut taken.from, dist);
+        let reached = seen;
         seen = seen.union(to);
+        let rest = seen.difference(taken.reached);
+        let held = holders.held;
+        let via = &mut taken.from;
+        next = offer_and_choose(row, shift, l, to, reached, rest, held, via, dist, right);
     }
     Tree { seen, taken }
 }

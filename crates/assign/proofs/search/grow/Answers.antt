@@ -1,13 +1,13 @@
 -- Each turn takes the nearest right block, and ends the search if it is free; else its left block
--- offers the ways through it.
-use Rattle.std.proofs.Common.{◌≡◌, ℕ, ◌+◌, ◌-◌, ◌*◌, ◌<◌, ◌≤◌, true, cond, not, List, length}
+-- offers the ways through it, and the nearest one is known that is taken next.
+use Rattle.std.proofs.Common.{◌≡◌, ℕ, ◌+◌, ◌-◌, ◌*◌, ◌<◌, ◌≤◌, true, cond, not, ◌&&◌, Bool}
+use Rattle.std.proofs.Common.{false, List, length}
 use Rattle.std.proofs.Common.{get_or}
 use Rattle.std.proofs.Common.{take, drop, replicate, ℤ, ◌+ℤ◌, ◌-ℤ◌, sym, refl, ap, ◌∙◌, subst}
 use Rattle.std.proofs.Common.{⊎_elim, arith}
-use mathlib.Core.Path.{fun_ext}
 use Rattle.std.proofs.lemmas.List.{length-set}
 use Rattle.std.proofs.lemmas.Int.{ints}
-use Rattle.std.proofs.lemmas.Bool.{and_parts, or_cases, both_ways}
+use Rattle.std.proofs.lemmas.Bool.{and_parts, and_from, or_right, or_cases, both_ways}
 use Rattle.cost.specs.declared.TheConstants.{RAIL, HALF_RAIL, COST_LIMIT}
 use Rattle.cost.specs.declared.Cost.{Ghosts}
 use Rattle.cost.specs.Columns.{Within}
@@ -22,37 +22,27 @@ use Rattle.tables.proofs.Filling.{value_at, row_length, columns_at_lem}
 use Rattle.matching.proofs.Inserting.{inserted}
 use Rattle.assign.specs.declared.limits.TheConstants.{DISTANCE_LIMIT, SHIFT_LIMIT}
 use Rattle.assign.specs.Weighed.{weight_at, cost_weight}
-use Rattle.assign.specs.Offers.{Nearest}
+use Rattle.assign.specs.Offers.{FreeFirst}
 use Rattle.assign.specs.Search.{Ends}
 use Rattle.assign.specs.Trees.{stage_at_first, stage_in}
 use Rattle.assign.proofs.Entries.{read_within}
 use Rattle.assign.proofs.Turns.{turning_none, turning_stuck, turning_over, took_one, turning_more}
-use Rattle.assign.proofs.Turns.{taken_stage, among_too}
+use Rattle.assign.proofs.Turns.{taken_stage, among_too, waiting}
+use Rattle.assign.proofs.Parts.{found_in}
 use Rattle.assign.proofs.search.grow.Goals as goal
 
 -- a distance at the beginning of turn t
 abbrev far_at : ℕ → ℕ
 far_at t = COST_LIMIT + t * (2 * COST_LIMIT)
 
-pub nearest_free_first-requires : goal.nearest_free_first-requires
-nearest_free_first-requires g c =
-    let kind = g.K.Cost in
-    let seen = λ (k : ℕ) (r : has c.difference-untaken.result k ≡ true).
-    (and_parts (has c.loop-t.seen k) (not (has c.loop-t.taken.reached k))
-    (sym (c.difference-untaken.ensures k) ∙ r)).0 in
-    record {
-      sized = c.requires.rights ∙ sym c.requires.dists ∙ sym c.loop-t.auto.dist;
-      inside = λ k r. omega (
-        arith,
-        c.loop-t.invariant.0.inside k (seen k r),
-        c.requires.dists,
-        c.loop-t.auto.dist,
-      );
-      far = λ k r. within_more (far_at c.loop-t.t) DISTANCE_LIMIT
-          (columns_at kind c.loop-t.dist k) (omega (arith, c.requires.lent.few))
-          (c.loop-t.invariant.1 k (seen k r));
-      priced = λ k h. c.requires.priced k (omega (arith, c.requires.dists, c.loop-t.auto.dist));
-    }
+pub nearest_free_first-next-requires : goal.nearest_free_first-next-requires
+nearest_free_first-next-requires g c = record {
+  sized = c.requires.rights ∙ sym c.requires.dists;
+  inside = λ k r. omega (arith, c.requires.begins k r, c.requires.dists);
+  far = λ k r. within_more COST_LIMIT DISTANCE_LIMIT (columns_at g.K.Cost c.args.dist.now k)
+      (omega arith) (c.requires.near k r);
+  priced = λ k h. c.requires.priced k (omega (arith, c.requires.dists));
+}
 
 pub loop-t-init : goal.loop-t-init
 loop-t-init g c =
@@ -69,7 +59,16 @@ loop-t-init g c =
       c.requires.near,
       refl,
       refl,
+      found_in kind seen (waiting (has c.empty.result) seen) c.args.right.now c.args.dist.now
+          (λ near. FreeFirst seen (has c.args.holders.now.held) (weight_at kind c.args.right.now)
+          (weight_at kind c.args.dist.now) near.block) c.nearest_free_first-next.result
+          (λ k. ap (λ z. seen k && not z) (c.empty.ensures k) ∙ and_true (seen k))
+          c.nearest_free_first-next.ensures,
     )
+  where
+    and_true : (x : Bool) → (x && true) ≡ x
+    and_true true = refl
+    and_true false = refl
 
 pub returns-in_default : goal.returns-in_default
 returns-in_default g c =
@@ -88,7 +87,7 @@ returns-in_default g c =
                 (stage_at_first (has c.args.start)) (at c.args.via) (has c.loop-t.taken.reached)
                 (has c.loop-t.seen) c.loop-t.taken.rank (at c.loop-t.taken.from)
                 (weight_at kind c.loop-t.dist) c.loop-t.t over
-                (λ k. sym (c.difference-untaken.ensures k) ∙ c.in_default.ensures k),
+                (rw c.in_default.is at c.loop-t.invariant.4),
             (c.loop-t.t, over.grown out start p kept first),
           );
       inside = λ k t. over.inside k (over.among k t);
@@ -102,11 +101,10 @@ returns-then-not-contains g c =
     let kind = g.K.Cost in
     let n = length c.args.rows.now in
     let over = c.loop-t.invariant.0 in
+    let found = rw c.in-Some.is at c.loop-t.invariant.4 in
     let ha : c.in-Some.near.block < length c.args.rows.now =
-    omega (arith, c.in-Some.ensures.0.inside, c.requires.dists, c.loop-t.auto.dist) in
-    let near =
-    subst (λ s. Nearest s (weight_at kind c.args.right.now) (weight_at kind c.loop-t.dist)
-    c.in-Some.near.block) (fun_ext c.difference-untaken.ensures) c.in-Some.ensures.0.nearest in
+    omega (arith, found.0, c.requires.dists, c.loop-t.auto.dist) in
+    let near = found.1 in
     let taken' = inserted (has c.loop-t.taken.reached) (has c.insert.new.self) c.in-Some.near.block
     (omega (arith, ha, c.requires.lent.few)) c.insert.ensures in
     let among = among_too n (holds c.args.rows.now) (cost_weight kind n c.args.costs.now)
@@ -209,15 +207,15 @@ exact_difference-shift-requires g c =
     let n = length c.args.rows.now in
     let a = c.in-Some.near.block in
     let l = at c.args.holders.now.row c.in-Some.near.block in
+    let found = rw c.in-Some.is at c.loop-t.invariant.4 in
     let sized = c.loop-t.auto.dist ∙ c.requires.dists in
-    let ha : c.in-Some.near.block < length c.args.rows.now =
-    omega (arith, c.in-Some.ensures.0.inside) in
+    let ha : c.in-Some.near.block < length c.args.rows.now = omega (arith, found.0) in
     let held = sym c.contains.ensures ∙ c.if-not-contains.false in
     let hl = c.requires.holders a held in
     let modest = c.requires.lent.modest l a hl (c.requires.own a held) in
     let far =
     c.loop-t.invariant.1 a (and_parts (has c.loop-t.seen a) (not (has c.loop-t.taken.reached a))
-    (sym (c.difference-untaken.ensures a) ∙ c.in-Some.ensures.0.nearest.member)).0 in
+    found.1.member).0 in
     record {
       first = dist_within g.K.Cost c.args.costs.now c.loop-t.dist n l a c.loop-t.t
           c.requires.lent.few
@@ -232,31 +230,51 @@ exact_difference-shift-requires g c =
           c.index-dist-a.is c.index-row-a.is modest far HALF_RAIL (omega arith);
     }
 
-pub offer-requires : goal.offer-requires
-offer-requires g c =
+pub offer_and_choose-next-requires : goal.offer_and_choose-next-requires
+offer_and_choose-next-requires g c =
     let kind = g.K.Cost in
     let n = length c.args.rows.now in
     let a = c.in-Some.near.block in
     let l = at c.args.holders.now.row c.in-Some.near.block in
+    let found = rw c.in-Some.is at c.loop-t.invariant.4 in
     let sized = c.loop-t.auto.dist ∙ c.requires.dists in
-    let ha : c.in-Some.near.block < length c.args.rows.now =
-    omega (arith, c.in-Some.ensures.0.inside) in
+    let ha : c.in-Some.near.block < length c.args.rows.now = omega (arith, found.0) in
     let held = sym c.contains.ensures ∙ c.if-not-contains.false in
     let hl = c.requires.holders a held in
     let modest = c.requires.lent.modest l a hl (c.requires.own a held) in
     let far =
     c.loop-t.invariant.1 a (and_parts (has c.loop-t.seen a) (not (has c.loop-t.taken.reached a))
-    (sym (c.difference-untaken.ensures a) ∙ c.in-Some.ensures.0.nearest.member)).0 in
+    found.1.member).0 in
     let long = row_length c.args.costs.now n l hl c.requires.lent.square in
     let stands : (j : ℕ) → has c.difference-to.result j ≡ true → holds c.args.rows.now
     (at c.args.holders.now.row c.in-Some.near.block) j ≡ true =
     λ j r. (and_parts (holds c.args.rows.now (at c.args.holders.now.row c.in-Some.near.block) j)
     (not (has c.insert.new.self j)) (sym (c.difference-to.ensures j) ∙ r)).0 in
+    let rest = λ (j : ℕ) (r : has c.difference-rest.result j ≡ true).
+    and_parts (has c.union-seen.result j) (not (has c.insert.new.self j))
+    (sym (c.difference-rest.ensures j) ∙ r) in
     record {
       few = omega (arith, long, c.requires.lent.few);
       sized = sized ∙ sym long;
+      rights = c.requires.rights ∙ sym long;
       block = omega (arith, hl, c.requires.lent.few);
-      inside = λ j r. omega (arith, long, c.requires.lent.inside l j hl (stands j r));
+      inside = λ j r. omega (
+        arith,
+        long,
+        ⊎_elim (λ s. c.loop-t.invariant.0.inside j s)
+            (λ s. c.requires.lent.inside l j hl (stands j s))
+            (or_cases (has c.loop-t.seen j) (has c.difference-to.result j)
+            (sym (c.union-seen.ensures j) ∙ (rest j r).0)),
+      );
+      waiting = λ j r. c.difference-rest.ensures j
+          ∙ and_from (has c.union-seen.result j) (not (has c.insert.new.self j))
+          (c.union-seen.ensures j ∙ or_right (has c.loop-t.seen j) (has c.difference-to.result j) r)
+          (and_parts (holds c.args.rows.now (at c.args.holders.now.row c.in-Some.near.block) j)
+          (not (has c.insert.new.self j)) (sym (c.difference-to.ensures j) ∙ r)).1;
+      come_to = λ j r f. ⊎_elim (λ s. s)
+          (λ s. absurd (both_ways (has c.difference-to.result j) f s))
+          (or_cases (has c.loop-t.seen j) (has c.difference-to.result j)
+          (sym (c.union-seen.ensures j) ∙ (rest j r).0));
       modest = λ j r. subst (Within COST_LIMIT)
           (sym (columns_at_lem kind c.args.costs.now n l hl c.requires.lent.square j
           (c.requires.lent.inside l j hl (stands j r))))
@@ -268,8 +286,10 @@ offer-requires g c =
           c.requires.lent.square sized hl ha c.loop-t-test.true c.index-dist-a.result
           c.index-row-a.result c.exact_difference-shift.result
           c.index-dist-a.is c.index-row-a.is modest far c.exact_difference-shift.ensures.bound);
-      known = λ j r. within_more (far_at c.loop-t.t) HALF_RAIL (columns_at kind c.loop-t.dist j)
-          (omega (arith, c.requires.lent.few)) (c.loop-t.invariant.1 j r);
+      known = λ j r. within_more (far_at c.loop-t.t) DISTANCE_LIMIT
+          (columns_at kind c.loop-t.dist j) (omega (arith, c.requires.lent.few))
+          (c.loop-t.invariant.1 j r);
+      priced = λ j h. c.requires.priced j (omega (arith, long));
     }
 
 pub loop-t-preserved : goal.loop-t-preserved
@@ -278,18 +298,16 @@ loop-t-preserved g c =
     let n = length c.args.rows.now in
     let a = c.in-Some.near.block in
     let l = at c.args.holders.now.row c.in-Some.near.block in
+    let found = rw c.in-Some.is at c.loop-t.invariant.4 in
     let sized = c.loop-t.auto.dist ∙ c.requires.dists in
-    let ha : c.in-Some.near.block < length c.args.rows.now =
-    omega (arith, c.in-Some.ensures.0.inside) in
+    let ha : c.in-Some.near.block < length c.args.rows.now = omega (arith, found.0) in
     let held = sym c.contains.ensures ∙ c.if-not-contains.false in
     let hl = c.requires.holders a held in
     let modest = c.requires.lent.modest l a hl (c.requires.own a held) in
     let far =
     c.loop-t.invariant.1 a (and_parts (has c.loop-t.seen a) (not (has c.loop-t.taken.reached a))
-    (sym (c.difference-untaken.ensures a) ∙ c.in-Some.ensures.0.nearest.member)).0 in
-    let near =
-    subst (λ s. Nearest s (weight_at kind c.args.right.now) (weight_at kind c.loop-t.dist)
-    c.in-Some.near.block) (fun_ext c.difference-untaken.ensures) c.in-Some.ensures.0.nearest in
+    found.1.member).0 in
+    let near = found.1 in
     let taken' = inserted (has c.loop-t.taken.reached) (has c.insert.new.self) c.in-Some.near.block
     (omega (arith, ha, c.requires.lent.few)) c.insert.ensures in
     let stands : (j : ℕ) → has c.difference-to.result j ≡ true → holds c.args.rows.now
@@ -318,11 +336,12 @@ loop-t-preserved g c =
           c.index-row-a.result c.exact_difference-shift.result
           c.index-dist-a.is c.index-row-a.is modest far c.exact_difference-shift.ensures.sum)
           c.union-seen.ensures (λ j r. c.requires.lent.inside l j hl (stands j r))
-          (at c.offer.new.via) (weight_at kind c.offer.new.dist) c.offer.ensures.offered,
+          (at c.offer_and_choose-next.new.via) (weight_at kind c.offer_and_choose-next.new.dist)
+          c.offer_and_choose-next.ensures.offered,
       λ j r. within_more (far_at c.loop-t.t + COST_LIMIT + COST_LIMIT) (far_at (c.loop-t.t + 1))
-          (columns_at kind c.offer.new.dist j)
+          (columns_at kind c.offer_and_choose-next.new.dist j)
           (omega arith)
-          (c.offer.ensures.bound (far_at c.loop-t.t + COST_LIMIT) j within
+          (c.offer_and_choose-next.ensures.bound (far_at c.loop-t.t + COST_LIMIT) j within
           (omega (arith, c.requires.lent.few))
           (λ f. still_near c.loop-t.t (columns_at kind c.loop-t.dist j)
           (c.loop-t.invariant.1 j
@@ -333,6 +352,14 @@ loop-t-preserved g c =
           (c.loop-t.invariant.1 j x))),
       length-set c.loop-t.taken.rank a c.loop-t.t ∙ c.loop-t.invariant.2,
       c.loop-t.invariant.3,
+      found_in kind (has c.difference-rest.result)
+          (waiting (has c.insert.new.self) (has c.union-seen.result)) c.args.right.now
+          c.offer_and_choose-next.new.dist
+          (λ near. FreeFirst (has c.difference-rest.result) (has c.args.holders.now.held)
+          (weight_at kind c.args.right.now)
+          (weight_at kind c.offer_and_choose-next.new.dist) near.block)
+          c.offer_and_choose-next.result (λ k. sym (c.difference-rest.ensures k))
+          c.offer_and_choose-next.ensures.found,
     )
   where
     still_near : (t : ℕ) (xs : List ℤ) → Within (far_at t) xs

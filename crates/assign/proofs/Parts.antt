@@ -1,0 +1,154 @@
+-- The offers of one left block, made in three parts: to right blocks that are reached for the first
+-- time, to free ones and to held ones.
+-- Idea: a right block is in one part at most, and the other two leave it as it is.
+use Rattle.std.proofs.Common.{◌≡◌, ℕ, Bool, true, false, not, ◌&&◌, List, length, ℤ}
+use Rattle.std.proofs.Common.{◌<◌, sym, refl, ◌∙◌, ⊎_elim, Option, Some, None, MatchOption}
+use Rattle.std.proofs.lemmas.Bool.{cases_Bool, both_ways, and_from, not_from_false}
+use Rattle.std.proofs.lemmas.Bool.{and_parts, not-true}
+use Rattle.cost.specs.declared.Cost.{Ghosts}
+use Rattle.tables.specs.Said.{columns_at}
+use Rattle.assign.specs.declared.tree.Nearby.{Nearby}
+use Rattle.assign.specs.Weighed.{weight_at}
+use Rattle.assign.specs.Offers.{Offered, Nearest, NearestWithKey}
+use Rattle.assign.proofs.Looking.{offered_like, offered_none}
+use Rattle.assign.proofs.Nearer.{near_still}
+
+no_second : (x y : Bool) → y ≡ false → (x && y) ≡ false
+no_second true y e = e
+no_second false y e = refl
+
+no_first : (x y : Bool) → x ≡ false → (x && y) ≡ false
+no_first true y e = absurd (both_ways true e refl)
+no_first false y e = refl
+
+no_not : (x : Bool) → x ≡ true → not x ≡ false
+no_not true e = refl
+no_not false e = absurd (both_ways false refl e)
+
+-- what was found stays where nothing of its set has changed
+pub found_still : {K : Type 0} (kind : Ghosts K) (set : ℕ → Bool) (right d d' : List K)
+    (found : Option (Nearby K)) → length d' ≡ length d
+    → ((c : ℕ) → set c ≡ true → columns_at kind d' c ≡ columns_at kind d c)
+    → MatchOption found ((c : ℕ) → set c ≡ false) (NearestWithKey kind set right d)
+    → MatchOption found ((c : ℕ) → set c ≡ false) (NearestWithKey kind set right d')
+found_still kind set right d d' None long same h = h
+found_still kind set right d d' (Some near) long same h =
+    near_still kind set right d d' near long same h
+
+-- a free one is not among the held ones
+pub not_other : (held rest free other : ℕ → Bool)
+    → ((j : ℕ) → free j ≡ (rest j && not (held j))) → ((j : ℕ) → other j ≡ (rest j && held j))
+    → (c : ℕ) → free c ≡ true → other c ≡ false
+not_other held rest free other free_is other_is c t = other_is c ∙ no_second (rest c) (held c)
+    (not-true (held c) (and_parts (rest c) (not (held c)) (sym (free_is c) ∙ t)).1)
+
+-- what is not reached for the first time was reached before, if it is reached at all
+pub reached_before : (to reached fresh : ℕ → Bool)
+    → ((j : ℕ) → fresh j ≡ (to j && not (reached j))) → (c : ℕ)
+    → (to c ≡ false → reached c ≡ true) → fresh c ≡ false → reached c ≡ true
+reached_before to reached fresh fresh_is c come f = ⊎_elim (λ (r : reached c ≡ true). r)
+    (λ (n : reached c ≡ false). absurd (⊎_elim
+    (λ (t : to c ≡ true). both_ways (fresh c) f
+    (fresh_is c ∙ and_from (to c) (not (reached c)) t (not_from_false (reached c) n)))
+    (λ (o : to c ≡ false). both_ways (reached c) n (come o)) (cases_Bool (to c))))
+    (cases_Bool (reached c))
+
+module _ (to reached held rest fresh known free other : ℕ → Bool)
+    (fresh_is : (j : ℕ) → fresh j ≡ (to j && not (reached j)))
+    (known_is : (j : ℕ) → known j ≡ (to j && reached j))
+    (free_is : (j : ℕ) → free j ≡ (rest j && not (held j)))
+    (other_is : (j : ℕ) → other j ≡ (rest j && held j)) where
+  -- which part a right block is in
+  module _ (c : ℕ) where
+    not_fresh : (to c ≡ false) → fresh c ≡ false
+    not_fresh f = fresh_is c ∙ no_first (to c) (not (reached c)) f
+
+    fresh_no_more : reached c ≡ true → fresh c ≡ false
+    fresh_no_more r = fresh_is c ∙ no_second (to c) (not (reached c)) (no_not (reached c) r)
+
+    is_fresh : to c ≡ true → reached c ≡ false → fresh c ≡ true
+    is_fresh t f = fresh_is c ∙ and_from (to c) (not (reached c)) t (not_from_false (reached c) f)
+
+    is_known : to c ≡ true → reached c ≡ true → known c ≡ true
+    is_known t r = known_is c ∙ and_from (to c) (reached c) t r
+
+    not_known : to c ≡ false → known c ≡ false
+    not_known f = known_is c ∙ no_first (to c) (reached c) f
+
+    unknown : reached c ≡ false → known c ≡ false
+    unknown f = known_is c ∙ no_second (to c) (reached c) f
+
+  module _ (shift : ℤ) (cost : ℕ → ℤ) (from : ℕ) (d : ℕ → ℤ) (via : ℕ → ℕ) (d₁ : ℕ → ℤ)
+      (via₁ : ℕ → ℕ) (d₂ : ℕ → ℤ) (via₂ : ℕ → ℕ) (d₃ : ℕ → ℤ) (via₃ : ℕ → ℕ) (c : ℕ)
+      (waiting : to c ≡ true → rest c ≡ true)
+      (first : Offered shift cost from fresh reached d via d₁ via₁ c)
+      (second : Offered shift cost from (λ k. free k && known k) (λ _. true) d₁ via₁ d₂ via₂ c)
+      (third : Offered shift cost from (λ k. other k && known k) (λ _. true) d₂ via₂ d₃ via₃ c)
+    where
+      passed_by : to c ≡ false → Offered shift cost from to reached d via d₃ via₃ c
+      passed_by f =
+          let n = not_known c f in
+          let x = first.others (not_fresh c f) in
+          let y = second.others (no_second (free c) (known c) n) in
+          let z = third.others (no_second (other c) (known c) n) in
+          offered_like shift cost from to to reached reached d d via via d d₃ via via₃ c refl
+          (λ _. refl) refl refl (z.0 ∙ y.0 ∙ x.0) (z.1 ∙ y.1 ∙ x.1)
+          (offered_none shift cost from to reached d via c f)
+
+      at_first : to c ≡ true → reached c ≡ false
+          → Offered shift cost from to reached d via d₃ via₃ c
+      at_first t f =
+          let n = unknown c f in
+          let y = second.others (no_second (free c) (known c) n) in
+          let z = third.others (no_second (other c) (known c) n) in
+          offered_like shift cost from fresh to reached reached d d via via d₁ d₃ via₁ via₃ c
+          (t ∙ sym (is_fresh c t f)) (λ _. refl) refl refl (z.0 ∙ y.0) (z.1 ∙ y.1) first
+
+      among_free : to c ≡ true → reached c ≡ true → held c ≡ false
+          → Offered shift cost from to reached d via d₃ via₃ c
+      among_free t r f =
+          let x = first.others (fresh_no_more c r) in
+          let z = third.others (no_first (other c) (known c)
+          (other_is c ∙ no_second (rest c) (held c) f)) in
+          let here = and_from (free c) (known c)
+          (free_is c ∙ and_from (rest c) (not (held c)) (waiting t) (not_from_false (held c) f))
+          (is_known c t r) in
+          offered_like shift cost from (λ k. free k && known k) to (λ _. true) reached d₁ d via₁ via
+          d₂ d₃ via₂ via₃ c (t ∙ sym here) (λ _. sym r) (sym x.0) (sym x.1) z.0 z.1 second
+
+      among_held : to c ≡ true → reached c ≡ true → held c ≡ true
+          → Offered shift cost from to reached d via d₃ via₃ c
+      among_held t r h =
+          let x = first.others (fresh_no_more c r) in
+          let y = second.others (no_first (free c) (known c)
+          (free_is c ∙ no_second (rest c) (not (held c)) (no_not (held c) h))) in
+          let here = and_from (other c) (known c)
+          (other_is c ∙ and_from (rest c) (held c) (waiting t) h) (is_known c t r) in
+          offered_like shift cost from (λ k. other k && known k) to (λ _. true) reached d₂ d via₂
+          via d₃ d₃ via₃ via₃ c (t ∙ sym here) (λ _. sym r) (sym (y.0 ∙ x.0)) (sym (y.1 ∙ x.1)) refl
+          refl third
+
+      pub offered_parts : Offered shift cost from to reached d via d₃ via₃ c
+      offered_parts = ⊎_elim
+          (λ (t : to c ≡ true). ⊎_elim
+          (λ (r : reached c ≡ true). ⊎_elim (λ (h : held c ≡ true). among_held t r h)
+          (λ (f : held c ≡ false). among_free t r f) (cases_Bool (held c)))
+          (λ (f : reached c ≡ false). at_first t f) (cases_Bool (reached c)))
+          (λ (f : to c ≡ false). passed_by f) (cases_Bool (to c))
+
+-- what was found of a set is the nearest of it, however the set is told
+pub found_in : {K : Type 0} (kind : Ghosts K) (set set' : ℕ → Bool) (right d : List K)
+    (Free : Nearby K → Type 0) (found : Option (Nearby K)) → ((c : ℕ) → set' c ≡ set c)
+    → MatchOption found ((c : ℕ) → set c ≡ false)
+    (λ near. NearestWithKey kind set right d near × Free near)
+    → MatchOption found ((c : ℕ) → set' c ≡ false)
+    (λ near. (near.block < length d)
+    × Nearest set' (weight_at kind right) (weight_at kind d) near.block)
+found_in kind set set' right d Free None e h = λ c. e c ∙ h c
+found_in kind set set' right d Free (Some near) e h = (
+  h.0.inside,
+  record {
+    member = e near.block ∙ h.0.nearest.member;
+    least = λ c s. h.0.nearest.least c (sym (e c) ∙ s);
+  },
+)

@@ -1,0 +1,244 @@
+-- One right block more is offered its way, and becomes the best where it is less far beyond its
+-- price then.
+use Rattle.std.proofs.Common.{◌≡◌, ℕ, ◌+◌, ◌<◌, List, length, ℤ, ◌-ℤ◌}
+use Rattle.std.proofs.Common.{◌<ℤ◌, ◌≤ℤ◌, ◌⊎◌, sym, ap, ◌∙◌, subst, ⊎_elim, arith}
+use Rattle.std.proofs.lemmas.Int.{ints}
+use Rattle.std.proofs.lemmas.Bool.{cases_eq}
+use Rattle.cost.specs.declared.TheConstants.{COST_LIMIT, HALF_RAIL}
+use Rattle.cost.specs.declared.Cost.{Ghosts}
+use Rattle.cost.specs.Columns.{Within}
+use Rattle.cost.proofs.Exact.{within_more}
+use Rattle.cost.specs.Weights.{weight}
+use Rattle.blockset.specs.Has.{has}
+use Rattle.pairing.specs.Grid.{at}
+use Rattle.tables.specs.Said.{columns_at}
+use Rattle.tables.proofs.Filling.{value_at}
+use Rattle.assign.specs.declared.limits.TheConstants.{DISTANCE_LIMIT, KEY_LIMIT, INNER_PRICE_LIMIT}
+use Rattle.assign.specs.declared.limits.TheConstants.{SHIFT_LIMIT}
+use Rattle.assign.specs.Weighed.{weight_at}
+use Rattle.assign.proofs.Entries.{read_within}
+use Rattle.assign.proofs.Nearing.{nearing_none}
+use Rattle.assign.proofs.Looking.{looking_none, looking_one, looked_keep, looked_take, key_weighs}
+use Rattle.assign.proofs.Looking.{key_reaches}
+use Rattle.assign.proofs.search.offer_and_find.Goals as goal
+
+pub exact_difference-lowest-requires : goal.exact_difference-lowest-requires
+exact_difference-lowest-requires g c =
+    let kind = g.K.Cost in
+    let i = c.in_ok-block.block in
+    let member = c.in_ok-block.ensures.1 in
+    let inside = c.requires.inside c.in_ok-block.block member in
+    record {
+      first = read_within kind DISTANCE_LIMIT HALF_RAIL c.args.dist.now i c.index-dist-block.result
+          (omega (arith, c.requires.sized)) c.index-dist-block.is (omega arith)
+          (c.requires.far i member);
+      second = read_within kind INNER_PRICE_LIMIT HALF_RAIL c.args.right.now i
+          c.index-right-block.result (omega (arith, c.requires.rights)) c.index-right-block.is
+          (omega arith) (c.requires.priced i inside);
+    }
+
+pub loop-c-init : goal.loop-c-init
+loop-c-init g c =
+    let kind = g.K.Cost in
+    let i = c.in_ok-block.block in
+    let member = c.in_ok-block.ensures.1 in
+    let inside = c.requires.inside c.in_ok-block.block member in
+    let in-right : c.in_ok-block.block < length c.args.right.now =
+    omega (arith, c.requires.rights) in
+    let far = value_at kind c.args.dist.now i c.index-dist-block.result
+    (omega (arith, c.requires.sized)) c.index-dist-block.is in
+    let reach = key_reaches kind c.args.dist.now c.args.right.now i c.index-dist-block.result
+    c.index-right-block.result c.exact_difference-lowest.result in-right far c.index-right-block.is
+    c.exact_difference-lowest.ensures.bound in (
+      tt,
+      tt,
+      rw c.into_iter-c-iterator.ensures.into_iter_gives
+          (looking_none (kind.meaning c.args.shift) (columns_at kind c.args.costs.now) c.args.from
+          (has c.args.set) (has c.args.to) (columns_at kind c.args.dist.now) (at c.args.via.now)),
+      rw c.into_iter-c-iterator.ensures.into_iter_gives
+          (nearing_none (has c.args.set) (weight_at kind c.args.right.now)
+          (weight_at kind c.args.dist.now) i
+          (weight (kind.meaning c.exact_difference-lowest.result))
+          member
+          (key_weighs kind c.args.dist.now c.args.right.now i c.index-dist-block.result
+          c.index-right-block.result c.exact_difference-lowest.result in-right far
+          c.index-right-block.is c.exact_difference-lowest.ensures.sum)),
+      reach DISTANCE_LIMIT INNER_PRICE_LIMIT (c.requires.far i member) (c.requires.priced i inside)
+          (omega arith),
+      reach,
+    )
+
+pub offer_one-far-requires : goal.offer_one-far-requires
+offer_one-far-requires g c =
+    let i = c.in-Some.c in
+    let member = c.loop-c.invariant.3.part i c.in-Some.ensures.steps.member in
+    let waits = (c.loop-c.invariant.2.waits i c.in-Some.ensures.steps.member).0 in
+    record {
+      few = c.requires.few;
+      sized = c.loop-c.auto.dist ∙ c.requires.sized;
+      block = c.requires.block;
+      inside = c.requires.inside i member;
+      modest = c.requires.modest;
+      near = c.requires.near;
+      known = within_more DISTANCE_LIMIT HALF_RAIL (columns_at g.K.Cost c.loop-c.dist i)
+          (omega arith) (subst (Within DISTANCE_LIMIT) (sym waits) (c.requires.far i member));
+    }
+
+pub exact_difference-key-requires : goal.exact_difference-key-requires
+exact_difference-key-requires g c =
+    let kind = g.K.Cost in
+    let i = c.in-Some.c in
+    let member = c.loop-c.invariant.3.part i c.in-Some.ensures.steps.member in
+    let waits = (c.loop-c.invariant.2.waits i c.in-Some.ensures.steps.member).0 in
+    let inside = c.requires.inside c.in-Some.c member in
+    let far = c.offer_one-far.ensures.bound SHIFT_LIMIT c.requires.near (omega arith)
+    (within_more DISTANCE_LIMIT (SHIFT_LIMIT + COST_LIMIT) (columns_at kind c.loop-c.dist i)
+    (omega arith) (subst (Within DISTANCE_LIMIT) (sym waits) (c.requires.far i member))) in
+    record {
+      first = within_more (SHIFT_LIMIT + COST_LIMIT) HALF_RAIL (kind.meaning c.offer_one-far.result)
+          (omega arith)
+          (subst (Within (SHIFT_LIMIT + COST_LIMIT)) (sym c.offer_one-far.ensures.answer) far);
+      second = read_within kind INNER_PRICE_LIMIT HALF_RAIL c.args.right.now i
+          c.index-right-c.result (omega (arith, c.requires.rights)) c.index-right-c.is
+          (omega arith) (c.requires.priced i inside);
+    }
+
+pub is_less-requires : goal.is_less-requires
+is_less-requires g c =
+    let kind = g.K.Cost in
+    let i = c.in-Some.c in
+    let member = c.loop-c.invariant.3.part i c.in-Some.ensures.steps.member in
+    let waits = (c.loop-c.invariant.2.waits i c.in-Some.ensures.steps.member).0 in
+    let inside = c.requires.inside c.in-Some.c member in
+    let one = c.offer_one-far.ensures in
+    let far = one.bound SHIFT_LIMIT c.requires.near (omega arith)
+    (within_more DISTANCE_LIMIT (SHIFT_LIMIT + COST_LIMIT) (columns_at kind c.loop-c.dist i)
+    (omega arith) (subst (Within DISTANCE_LIMIT) (sym waits) (c.requires.far i member))) in
+    let reach = key_reaches kind c.offer_one-far.new.dist c.args.right.now i c.offer_one-far.result
+    c.index-right-c.result c.exact_difference-key.result (omega (arith, c.requires.rights))
+    one.answer c.index-right-c.is c.exact_difference-key.ensures.bound in
+    record {
+      first = within_more (SHIFT_LIMIT + COST_LIMIT + INNER_PRICE_LIMIT) HALF_RAIL
+          (kind.meaning c.exact_difference-key.result) (omega arith)
+          (reach (SHIFT_LIMIT + COST_LIMIT) INNER_PRICE_LIMIT far (c.requires.priced i inside)
+          (omega arith));
+      second = within_more KEY_LIMIT HALF_RAIL (kind.meaning c.loop-c.lowest) (omega arith)
+          c.loop-c.invariant.4;
+    }
+
+pub loop-c-preserved-then-is_less : goal.loop-c-preserved-then-is_less
+loop-c-preserved-then-is_less g c =
+    let kind = g.K.Cost in
+    let i = c.in-Some.c in
+    let member = c.loop-c.invariant.3.part i c.in-Some.ensures.steps.member in
+    let waits = (c.loop-c.invariant.2.waits i c.in-Some.ensures.steps.member).0 in
+    let inside = c.requires.inside c.in-Some.c member in
+    let in-right : c.in-Some.c < length c.args.right.now = omega (arith, c.requires.rights) in
+    let one = c.offer_one-far.ensures in
+    let far = one.bound SHIFT_LIMIT c.requires.near (omega arith)
+    (within_more DISTANCE_LIMIT (SHIFT_LIMIT + COST_LIMIT) (columns_at kind c.loop-c.dist i)
+    (omega arith) (subst (Within DISTANCE_LIMIT) (sym waits) (c.requires.far i member))) in
+    let reach = key_reaches kind c.offer_one-far.new.dist c.args.right.now i c.offer_one-far.result
+    c.index-right-c.result c.exact_difference-key.result in-right
+    one.answer c.index-right-c.is c.exact_difference-key.ensures.bound in
+    let is = key_weighs kind c.offer_one-far.new.dist c.args.right.now i c.offer_one-far.result
+    c.index-right-c.result c.exact_difference-key.result in-right
+    one.answer c.index-right-c.is c.exact_difference-key.ensures.sum in (
+      tt,
+      tt,
+      looking_one (kind.meaning c.args.shift) (columns_at kind c.args.costs.now) c.args.from
+          (has c.args.set) (has c.args.to) (columns_at kind c.args.dist.now) (at c.args.via.now)
+          (has c.loop-c.c-iterator) (has c.next.new.self) i c.in-Some.ensures.steps.others
+          c.in-Some.ensures.steps.member member (columns_at kind c.loop-c.dist)
+          (at c.loop-c.via) c.loop-c.invariant.2 (columns_at kind c.offer_one-far.new.dist)
+          (at c.offer_one-far.new.via) one.others one.offered one.bound,
+      looked_take (has c.args.set) (weight_at kind c.args.right.now) (weight_at kind c.loop-c.dist)
+          (weight_at kind c.offer_one-far.new.dist) (has c.loop-c.c-iterator)
+          (has c.next.new.self) i c.in-Some.ensures.steps.others c.in-Some.ensures.steps.member
+          c.loop-c.block (weight (kind.meaning c.loop-c.lowest)) c.loop-c.invariant.3
+          (λ j ne. ap weight (one.others j ne).0)
+          (weight (kind.meaning c.exact_difference-key.result)) is
+          (c.is_less.ensures.less c.if-is_less.true),
+      within_more (SHIFT_LIMIT + COST_LIMIT + INNER_PRICE_LIMIT) KEY_LIMIT
+          (kind.meaning c.exact_difference-key.result) (omega arith)
+          (reach (SHIFT_LIMIT + COST_LIMIT) INNER_PRICE_LIMIT far (c.requires.priced i inside)
+          (omega arith)),
+      reach,
+    )
+
+-- where no lesser key was found, the best so far is at the distance it had
+still_there : {K : Type 0} (kind : Ghosts K) (dist dist' right : List K) (block i : ℕ) (k k' : ℤ)
+    → ((j : ℕ) → (j ≡ i → ⊥) → columns_at kind dist' j ≡ columns_at kind dist j)
+    → (columns_at kind dist' i ≡ columns_at kind dist i)
+    ⊎ (weight_at kind dist' i <ℤ weight_at kind dist i)
+    → k ≡ weight_at kind dist block -ℤ weight_at kind right block
+    → k' ≡ weight_at kind dist' i -ℤ weight_at kind right i → k ≤ℤ k'
+    → columns_at kind dist' block ≡ columns_at kind dist block
+still_there kind dist dist' right block i k k' others nearer is is' le = ⊎_elim
+    (λ (e : block ≡ i). ⊎_elim
+    (λ (same : columns_at kind dist' i ≡ columns_at kind dist i).
+    subst (λ (z : ℕ). columns_at kind dist' z ≡ columns_at kind dist z) (sym e) same)
+    (λ (less : weight_at kind dist' i <ℤ weight_at kind dist i).
+    let x : weight_at kind dist block ≡ weight_at kind dist i = ap (weight_at kind dist) e in
+    let y : weight_at kind right block ≡ weight_at kind right i = ap (weight_at kind right) e in
+    absurd (omega (arith, ints)))
+    nearer)
+    (λ (ne : block ≡ i → ⊥). others block ne)
+    (cases_eq block i)
+
+pub loop-c-preserved : goal.loop-c-preserved
+loop-c-preserved g c =
+    let kind = g.K.Cost in
+    let i = c.in-Some.c in
+    let member = c.loop-c.invariant.3.part i c.in-Some.ensures.steps.member in
+    let inside = c.requires.inside c.in-Some.c member in
+    let one = c.offer_one-far.ensures in
+    let is = key_weighs kind c.offer_one-far.new.dist c.args.right.now i c.offer_one-far.result
+    c.index-right-c.result c.exact_difference-key.result (omega (arith, c.requires.rights))
+    one.answer c.index-right-c.is c.exact_difference-key.ensures.sum in
+    let kept = c.is_less.ensures.not_less c.if-is_less.false in
+    let same = still_there kind c.loop-c.dist c.offer_one-far.new.dist c.args.right.now
+    c.loop-c.block i (weight (kind.meaning c.loop-c.lowest))
+    (weight (kind.meaning c.exact_difference-key.result)) (λ j ne. (one.others j ne).0) one.nearer
+    c.loop-c.invariant.3.is is kept in (
+      tt,
+      tt,
+      looking_one (kind.meaning c.args.shift) (columns_at kind c.args.costs.now) c.args.from
+          (has c.args.set) (has c.args.to) (columns_at kind c.args.dist.now) (at c.args.via.now)
+          (has c.loop-c.c-iterator) (has c.next.new.self) i c.in-Some.ensures.steps.others
+          c.in-Some.ensures.steps.member member (columns_at kind c.loop-c.dist)
+          (at c.loop-c.via) c.loop-c.invariant.2 (columns_at kind c.offer_one-far.new.dist)
+          (at c.offer_one-far.new.via) one.others one.offered one.bound,
+      looked_keep (has c.args.set) (weight_at kind c.args.right.now) (weight_at kind c.loop-c.dist)
+          (weight_at kind c.offer_one-far.new.dist) (has c.loop-c.c-iterator)
+          (has c.next.new.self) i c.in-Some.ensures.steps.others c.in-Some.ensures.steps.member
+          c.loop-c.block (weight (kind.meaning c.loop-c.lowest)) c.loop-c.invariant.3
+          (λ j ne. ap weight (one.others j ne).0) (ap weight same) (omega (arith, ints)),
+      c.loop-c.invariant.4,
+      λ x y far priced le. c.loop-c.invariant.5 x y (subst (Within x) same far) priced le,
+    )
+
+pub returns : goal.returns
+returns g c =
+    let looking = c.loop-c.invariant.2 in
+    let nearing = c.loop-c.invariant.3 in
+    record {
+      offered = λ j. looking.done j (c.in-None.ensures.steps j);
+      others = looking.outside;
+      bound = λ b j s le old. looking.near j b s le old;
+      found = record {
+        inside = omega (
+          arith,
+          c.requires.inside c.loop-c.block nearing.member,
+          c.requires.sized,
+          c.loop-c.auto.dist,
+        );
+        nearest = record {
+          member = nearing.member;
+          least = λ j s. nearing.least j s (c.in-None.ensures.steps j);
+        };
+        key = nearing.is;
+        bound = c.loop-c.invariant.4;
+        reach = c.loop-c.invariant.5;
+      };
+    }

@@ -1,0 +1,25 @@
+-- What is not left in the iterator was offered its way, and `block` is the nearest of it; each turn
+-- takes one right block out. No key is far.
+use Rattle.cost.specs.Columns.{Within}
+use Rattle.cost.specs.Weights.{weight}
+use Rattle.blockset.specs.Has.{has}
+use Rattle.pairing.specs.Grid.{at}
+use Rattle.tables.specs.Said.{columns_at}
+use Rattle.assign.specs.declared.limits.TheConstants.{KEY_LIMIT}
+use Rattle.assign.specs.Weighed.{weight_at}
+use Rattle.assign.specs.Offers.{KeyReach}
+use Rattle.assign.proofs.Nearing.{Nearing}
+use Rattle.assign.proofs.Looking.{Looking}
+use Rattle.assign.proofs.search.offer_and_find.Given as goal
+
+abbrev pub invariant-loop-c : goal.invariant-loop-c
+invariant-loop-c g l =
+    let kind = g.K.Cost in
+    (goal.iterator-loop-c g).can_next l.c-iterator × (goal.iterator-loop-c g).is_finite l.c-iterator
+    × Looking (kind.meaning l.shift) (columns_at kind l.costs) l.from (has l.fn.set) (has l.to)
+    (columns_at kind l.initial.dist) (at l.initial.via) (has l.c-iterator)
+    (columns_at kind l.dist) (at l.via)
+    × Nearing (has l.fn.set) (weight_at kind l.right) (weight_at kind l.dist) (has l.c-iterator)
+    l.block (weight (kind.meaning l.lowest))
+    × Within KEY_LIMIT (kind.meaning l.lowest)
+    × KeyReach kind l.right l.dist l.block l.lowest
