@@ -9,6 +9,7 @@ pub mod Seconding
 pub mod Bidding
 pub mod Seating
 pub mod Reducing
+pub mod Going
 pub mod Turns
 pub mod Choosing
 pub mod Lowering

@@ -13,22 +13,27 @@ use Rattle.matching.specs.Exchange.{Holding}
 use Rattle.assign.specs.Search.{Kept}
 use Rattle.assign.specs.Bids.{BestBid, Seated}
 
+-- no price rises with a bid
+pub price_falls : (to held : ℕ → Bool) (v cost : ℕ → ℤ) (j : ℕ) (w : ℤ)
+    → BestBid to held v cost j w → (v' : ℕ → ℤ) → v' j ≡ w
+    → ((c : ℕ) → (c ≡ j → ⊥) → v' c ≡ v c) → (c : ℕ) → v' c ≤ℤ v c
+price_falls to held v cost j w bid v' new same c = ⊎_elim
+    (λ (e : c ≡ j).
+    let now : v' c ≡ w = ap v' e ∙ new in
+    let before : v c ≡ v j = ap v e in
+    ⊎_elim (λ (h : held j ≡ true). omega (arith, ints, bid.falls h))
+    (λ (f : held j ≡ false). omega (arith, ints, bid.free f)) (cases_Bool (held j)))
+    (λ (ne : c ≡ j → ⊥). omega (arith, ints, same c ne))
+    (cases_eq c j)
+
 module _ (n : ℕ) (stands : ℕ → ℕ → Bool) (cost : ℕ → ℕ → ℤ) (out : ℕ → Bool) (p : List ℕ)
     (o : Holders) (v : ℕ → ℤ) (kept : Kept n stands cost out p o v) (l j : ℕ) (below : j < n)
     (w : ℤ) (bid : BestBid (stands l) (has o.held) v (cost l) j w) (out' : ℕ → Bool) (p' : List ℕ)
     (seated : Seated n out p l j out' p') (o' : Holders)
     (told : Holding 0 n p' out' (has o'.held) o'.row) (v' : ℕ → ℤ) (new : v' j ≡ w)
     (same : (c : ℕ) → (c ≡ j → ⊥) → v' c ≡ v c) where
-  -- no price rises
   falls : (c : ℕ) → v' c ≤ℤ v c
-  falls c = ⊎_elim
-      (λ (e : c ≡ j).
-      let now : v' c ≡ w = ap v' e ∙ new in
-      let before : v c ≡ v j = ap v e in
-      ⊎_elim (λ (h : has o.held j ≡ true). omega (arith, ints, bid.falls h))
-      (λ (f : has o.held j ≡ false). omega (arith, ints, bid.free f)) (cases_Bool (has o.held j)))
-      (λ (ne : c ≡ j → ⊥). omega (arith, ints, same c ne))
-      (cases_eq c j)
+  falls = price_falls (stands l) (has o.held) v (cost l) j w bid v' new same
 
   fair_new : (c : ℕ) → stands l c ≡ true → (v' c +ℤ cost l j) ≤ℤ (v' j +ℤ cost l c)
   fair_new c st = ⊎_elim

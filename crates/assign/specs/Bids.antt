@@ -1,12 +1,12 @@
 -- Which right block a left block takes from whoever has it, and at what price.
 use Rattle.std.specs.Prelude.{◌≡◌, ℕ, ◌+◌, ◌*◌, ◌<◌, ◌≤◌, Bool, true, false, List, length, ℤ}
-use Rattle.std.specs.Prelude.{◌+ℤ◌, ◌≤ℤ◌, ◌<ℤ◌, ◌≢◌, Option, MatchOption}
+use Rattle.std.specs.Prelude.{◌+ℤ◌, ◌≤ℤ◌, ◌<ℤ◌, ◌≢◌, ◌⊎◌, Option, MatchOption}
 use Rattle.cost.specs.declared.Cost.{Ghosts}
 use Rattle.cost.specs.declared.TheConstants.{COST_LIMIT}
 use Rattle.cost.specs.Columns.{Within}
 use Rattle.cost.specs.Weights.{weight}
 use Rattle.blockset.specs.declared.BlockSet.{BlockSet}
-use Rattle.blockset.specs.Has.{has}
+use Rattle.blockset.specs.Has.{has, IsLeast}
 use Rattle.pairing.specs.Grid.{at}
 use Rattle.pairing.specs.Rows.{holds}
 use Rattle.tables.specs.Said.{columns_at, Bounded}
@@ -64,3 +64,23 @@ pub record Reduced {K : Type 0} (kind : Ghosts K) (rows : List BlockSet) (costs 
   pub bid : BidOf kind rows costs held right l block (weight_at kind right' block)
   pub seated : Seated (length rows) out p l block out' p'
   pub others : (c : ℕ) → c ≢ block → columns_at kind right' c ≡ columns_at kind right c
+
+-- every right block that was held is held, and no price has risen
+pub record GoesOn (before after : ℕ → Bool) (v v' : ℕ → ℤ) : Type 0 where
+  pub held : (c : ℕ) → before c ≡ true → after c ≡ true
+  pub falls : (c : ℕ) → v' c ≤ℤ v c
+
+-- Left block l has had its turn: a right block that it could bid for is held, at no higher price
+-- than it bid; or there was none that it could bid for.
+abbrev pub HadTurn : {K : Type 0} (kind : Ghosts K) (rows : List BlockSet) (costs : List K)
+    (held : BlockSet) (right : List K) (l : ℕ) (held' : BlockSet) (right' : List K) → Type 0
+HadTurn kind rows costs held right l held' right' =
+    ((j : ℕ) (w : ℤ) → BidOf kind rows costs held right l j w → ⊥)
+    ⊎ ((j : ℕ) × (w : ℤ) × BidOf kind rows costs held right l j w × (has held' j ≡ true)
+    × (weight_at kind right' j ≤ℤ w))
+
+-- the left block that is left out first has had its turn
+abbrev pub FirstHadTurn : {K : Type 0} (kind : Ghosts K) (rows : List BlockSet) (costs : List K)
+    (out held : BlockSet) (right : List K) (held' : BlockSet) (right' : List K) → Type 0
+FirstHadTurn kind rows costs out held right held' right' =
+    (l : ℕ) → IsLeast out l → HadTurn kind rows costs held right l held' right'

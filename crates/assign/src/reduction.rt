@@ -14,6 +14,7 @@ ghost use Rattle.assign.specs.Weighed.{weight_at, BoundedOn, SearchTables};
 ghost use Rattle.assign.specs.Offers.{NearestWithKey};
 ghost use Rattle.assign.specs.Pairs.{PricedPairing};
 ghost use Rattle.assign.specs.Bids.{BestBid, FindsBid, PricedNear, Seated, BidOf, Reduced};
+ghost use Rattle.assign.specs.Bids.{GoesOn, FirstHadTurn};
 
 use crate::search::{nearest, nearest_free_first, two_nearest};
 use crate::sums::{exact_difference, is_less};
@@ -154,6 +155,8 @@ pub fn reduce_row<K: Cost>(
         (((j : ℕ) (w : ℤ) → BidOf K.Cost rows.now costs.now holders.old.held right.old l j w → ⊥)
         × (out.new ≡ out.old) × (partners.new ≡ partners.old) × (holders.new ≡ holders.old)
         × (right.new ≡ right.old)) }
+    ensures goes_on { GoesOn (has holders.old.held) (has holders.new.held)
+        (weight_at K.Cost right.old) (weight_at K.Cost right.new) }
     ensures inside { (m : ℕ) → has out.new m ≡ true → m < length rows.now }
     ensures paired { PricedPairing K.Cost rows.now costs.now (has out.new) partners.new
         holders.new right.new }
@@ -171,8 +174,9 @@ pub fn reduce_row<K: Cost>(
 }
 
 /// Lets the left blocks that are left out take right blocks, the least one first, for two steps for
-/// each left block. One that has nothing to bid for is set aside. How many are left out then is not
-/// promised: the searches pair all of them.
+/// each left block. One that has nothing to bid for is set aside. No right block is let go, no
+/// price rises, and the first left block has its turn. How many are left out then is not promised:
+/// the searches pair all of them.
 pub fn reduce_rows<K: Cost>(
     costs: &[K],
     rows: &[BlockSet],
@@ -187,6 +191,10 @@ pub fn reduce_rows<K: Cost>(
     requires paired { PricedPairing K.Cost rows.now costs.now (has first.out) partners.old
         first.holders right.old }
     requires near { Bounded K.Cost COST_LIMIT (length rows.now) right.old }
+    ensures goes_on { GoesOn (has first.holders.held) (has result.holders.held)
+        (weight_at K.Cost right.old) (weight_at K.Cost right.new) }
+    ensures begun { FirstHadTurn K.Cost rows.now costs.now first.out first.holders.held right.old
+        result.holders.held right.new }
     ensures inside { (l : ℕ) → has result.out l ≡ true → l < length rows.now }
     ensures paired { PricedPairing K.Cost rows.now costs.now (has result.out) partners.new
         result.holders right.new }

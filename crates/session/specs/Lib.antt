@@ -4,3 +4,4 @@ pub mod Promise
 pub mod Program
 pub mod Runs
 pub mod Example
+pub mod Zeros

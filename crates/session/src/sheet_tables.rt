@@ -1,13 +1,14 @@
 //! The tables of one sheet as one value, and their lengths.
 
-ghost use Rattle.std.specs.Prelude.{◌≡◌, IfOk, ◌↔◌, IsTrue};
+ghost use Rattle.std.specs.Prelude.{◌≡◌, IfOk, ◌↔◌, IsTrue, replicate};
 ghost use Rattle.session.specs.Runs.{tables_of, right_lengths, IsWithin};
 ghost use Rattle.session.specs.Program.{lengths};
+ghost use Rattle.session.specs.Zeros.{zeros};
 
 use crate::call::Lengths;
 use cost::Cost;
 use std::alloc::{AllocError, Global};
-use tables::places;
+use tables::{fill, places};
 
 /// The tables of a sheet of n left and n right blocks: a cost, a standing byte and a mark for each
 /// pair, n * n; a partner, a left price, a right price and a place of the walk for each block, n.
@@ -25,18 +26,19 @@ pub struct SheetTables<K> {
 impl<K: Cost> SheetTables<K> {
     /// Tables of the right lengths for n blocks a plane, with zero in every place.
     pub fn new(heap: Global, n: u16) -> Result<SheetTables<K>, AllocError>
-        ensures { IfOk result (λ made. lengths (tables_of made) ≡ right_lengths n) }
+        ensures lengths { IfOk result (λ made. lengths (tables_of made) ≡ right_lengths n) }
+        ensures zeros { IfOk result (λ made. tables_of made ≡ zeros K.zero n) }
     {
         let blocks = n as usize;
         let pairs = places(n);
         Ok(SheetTables {
-            costs: vec![in heap; K::zero(); pairs]?,
-            standing: vec![in heap; 0u8; pairs]?,
-            partners: vec![in heap; 0u16; blocks]?,
-            left: vec![in heap; K::zero(); blocks]?,
-            right: vec![in heap; K::zero(); blocks]?,
-            walk: vec![in heap; 0u16; blocks]?,
-            marks: vec![in heap; 0u8; pairs]?,
+            costs: table(heap, K::zero(), pairs)?,
+            standing: table(heap, 0u8, pairs)?,
+            partners: table(heap, 0u16, blocks)?,
+            left: table(heap, K::zero(), blocks)?,
+            right: table(heap, K::zero(), blocks)?,
+            walk: table(heap, 0u16, blocks)?,
+            marks: table(heap, 0u8, pairs)?,
         })
     }
 
@@ -86,4 +88,14 @@ impl Lengths {
             && self.walk <= most.walk
             && self.marks <= most.marks
     }
+}
+
+// A table with the same value in each place. What `vec!` makes are clones, which need not be the
+// value.
+fn table<T: Copy>(heap: Global, value: T, places: usize) -> Result<Vec<T>, AllocError>
+    ensures { IfOk result (λ made. made.items ≡ replicate places value) }
+{
+    let mut made = vec![in heap; value; places]?;
+    fill(made.as_mut_slice(), value);
+    Ok(made)
 }

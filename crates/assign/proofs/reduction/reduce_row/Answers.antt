@@ -18,7 +18,8 @@ use Rattle.assign.specs.Weighed.{weight_at, cost_weight}
 use Rattle.assign.specs.Bids.{Seated, BidOf}
 use Rattle.assign.proofs.Entries.{put_same, put_other}
 use Rattle.assign.proofs.Bidding.{bid_like}
-use Rattle.assign.proofs.Reducing.{reduced_kept}
+use Rattle.assign.proofs.Reducing.{reduced_kept, price_falls}
+use Rattle.assign.proofs.Going.{same_goes_on}
 use Rattle.assign.proofs.reduction.reduce_row.Goals as goal
 
 pub find_bid-requires-clause-modest : goal.find_bid-requires-clause-modest
@@ -153,4 +154,29 @@ returns-clause-paired g c =
           (λ z. z) (cases_Bool (held k)) in
           subst (Within COST_LIMIT) (sym (put_other kind right j k price ne))
           (c.requires.paired.unsold k h free);
+    }
+
+pub returns-in_default-clause-goes_on : goal.returns-in_default-clause-goes_on
+returns-in_default-clause-goes_on g c =
+    same_goes_on (has c.args.holders.now.held) (weight_at g.K.Cost c.args.right.now)
+
+pub returns-clause-goes_on : goal.returns-clause-goes_on
+returns-clause-goes_on g c =
+    let kind = g.K.Cost in
+    let n = length c.args.rows.now in
+    let l = c.args.l in
+    let room = c.requires.inside l c.requires.left_out in
+    let right = c.args.right.now in
+    let held = has c.args.holders.now.held in
+    let row = weight_at kind (take (l * n + n - l * n) (drop (l * n) c.args.costs.now)) in
+    let j = c.in-Some.bid.block in
+    let price = c.in-Some.bid.price in
+    let inside = c.requires.lent.inside l j room c.in-Some.ensures.bid.member in
+    let here = put_same kind right j price (omega (arith, inside, c.requires.rights)) in
+    record {
+      held = λ k t. c.seat.ensures.held k ∙ or_right (eqb k j) (held k) t;
+      falls = price_falls (holds c.args.rows.now l) held (weight_at kind right) row j
+          (weight (kind.meaning price)) c.in-Some.ensures.bid
+          (weight_at kind (set right j price)) (ap weight here)
+          (λ k ne. ap weight (put_other kind right j k price ne));
     }

@@ -10,7 +10,7 @@ use Rattle.console_words.proofs.desk.Desk.open.Goals as goal
 
 pub unreachable-requires : goal.unreachable-requires
 unreachable-requires g c =
-    let none = never_refused _ _ _ _ c.args.size.some c.args.size.few c.in_ok-tables.ensures
+    let none = never_refused _ _ _ _ c.args.size.some c.args.size.few c.in_ok-tables.ensures.lengths
     (ap length c.as_mut_slice.ensures.value) (ap length c.as_mut_slice-2.ensures.value) in
     let some = from_err _ _ c.in_default.field-0
     (sym c.in_default.is ∙ c.open.ensures.call.answers) in

@@ -1,0 +1,90 @@
+-- What the steps of the row reduction leave of the first one.
+-- Idea: the first step carries a bid out if there is one; after it right blocks stay held, and no
+-- price rises.
+use Rattle.std.proofs.Common.{◌≡◌, ℕ, ◌<◌, ◌≤◌, Bool, true, false, not, ◌&&◌, ◌⊎◌, List, ℤ}
+use Rattle.std.proofs.Common.{◌≤ℤ◌, sym, ap, ◌∙◌, subst, ⊎_elim, arith, inl, inr}
+use Rattle.std.specs.Prelude.{MatchBool}
+use Rattle.std.proofs.lemmas.Int.{ints}
+use Rattle.std.proofs.lemmas.Bool.{both_ways, cases_lt}
+use Rattle.std.specs.Int.Signed.{≤ℤ_refl}
+use Rattle.std.proofs.Math.Bool.{and-true}
+use Rattle.cost.specs.declared.Cost.{Ghosts}
+use Rattle.blockset.specs.declared.BlockSet.{BlockSet}
+use Rattle.blockset.specs.Has.{has, IsEmpty, IsLeast}
+use Rattle.pairing.specs.Grid.{at}
+use Rattle.matching.specs.declared.chains.Holders.{Holders}
+use Rattle.assign.specs.Weighed.{weight_at}
+use Rattle.assign.specs.Bids.{BidOf, Reduced, GoesOn, HadTurn, FirstHadTurn}
+
+pub same_goes_on : (held : ℕ → Bool) (v : ℕ → ℤ) → GoesOn held held v v
+same_goes_on held v = record { held = λ _ t. t; falls = λ c. ≤ℤ_refl (v c) }
+
+pub goes_further : (h h' h'' : ℕ → Bool) (v v' v'' : ℕ → ℤ) → GoesOn h h' v v'
+    → GoesOn h' h'' v' v'' → GoesOn h h'' v v''
+goes_further h h' h'' v v' v'' one two = record {
+  held = λ c t. two.held c (one.held c t);
+  falls = λ c. omega (arith, ints, one.falls c, two.falls c);
+}
+
+-- two least ones are the same
+least_once : (s : BlockSet) (l m : ℕ) → IsLeast s l → IsLeast s m → l ≡ m
+least_once s l m a b = ⊎_elim
+    (λ (h : l < m). absurd (both_ways (has s l) (b.2 l h) a.1))
+    (λ (ge : m ≤ l). ⊎_elim
+    (λ (h : m < l). absurd (both_ways (has s m) (a.2 m h) b.1))
+    (λ (le : l ≤ m). omega (arith, le, ge))
+    (cases_lt m l))
+    (cases_lt l m)
+
+-- where none is set aside, the rest is all
+module _ (out aside rest : BlockSet)
+    (is : (j : ℕ) → has rest j ≡ (has out j && not (has aside j))) (none : IsEmpty aside) where
+  same : (j : ℕ) → has rest j ≡ has out j
+  same j = is j ∙ ap (λ z. has out j && not z) (none j) ∙ and-true (has out j)
+
+  pub least_of_all : (l : ℕ) → IsLeast rest l → IsLeast out l
+  least_of_all l least = (
+    least.0,
+    sym (same l) ∙ least.1,
+    λ j h. sym (same j) ∙ least.2 j h,
+  )
+
+  pub none_of_all : IsEmpty rest → IsEmpty out
+  none_of_all empty j = sym (same j) ∙ empty j
+
+module _ {K : Type 0} (kind : Ghosts K) (rows : List BlockSet) (costs : List K) where
+  pub bid_stays : (out held : BlockSet) (right : List K) (held' : BlockSet) (right' : List K)
+      (held'' : BlockSet) (right'' : List K)
+      → FirstHadTurn kind rows costs out held right held' right'
+      → GoesOn (has held') (has held'') (weight_at kind right') (weight_at kind right'')
+      → FirstHadTurn kind rows costs out held right held'' right''
+  bid_stays out held right held' right' held'' right'' first on l least = ⊎_elim inl
+      (λ b. inr (b.0, b.1, b.2, on.held b.0 b.3, omega (arith, ints, on.falls b.0, b.4)))
+      (first l least)
+
+  -- the turn of the left block that is left out first
+  pub first_turn : (out : BlockSet) (o : Holders) (right : List K) (o' : Holders) (right' : List K)
+      (l : ℕ) → IsLeast out l → (p p' : List ℕ) (out' : BlockSet)
+      → (has out' l ≡ false → has o'.held (at p' l) ≡ true) → (did : Bool)
+      → MatchBool did
+      (Reduced kind rows costs o.held l (has out) p right (has out') p' right')
+      (((j : ℕ) (w : ℤ) → BidOf kind rows costs o.held right l j w → ⊥)
+      × (out' ≡ out) × (p' ≡ p) × (o' ≡ o) × (right' ≡ right))
+      → FirstHadTurn kind rows costs out o.held right o'.held right'
+  first_turn out o right o' right' l least p p' out' taken did step m also = subst
+      (λ z. HadTurn kind rows costs o.held right z o'.held right')
+      (least_once out l m least also) (turn did step)
+    where
+      turn : (did : Bool) → MatchBool did
+          (Reduced kind rows costs o.held l (has out) p right (has out') p' right')
+          (((j : ℕ) (w : ℤ) → BidOf kind rows costs o.held right l j w → ⊥)
+          × (out' ≡ out) × (p' ≡ p) × (o' ≡ o) × (right' ≡ right))
+          → HadTurn kind rows costs o.held right l o'.held right'
+      turn true done = inr (
+        done.block,
+        weight_at kind right' done.block,
+        done.bid,
+        ap (has o'.held) (sym done.seated.gets) ∙ taken done.seated.paired,
+        ≤ℤ_refl (weight_at kind right' done.block),
+      )
+      turn false none = inl none.0

@@ -1,0 +1,16 @@
+-- New tables of a sheet.
+use Rattle.std.specs.Prelude.{ℕ, replicate}
+use Rattle.pairing.specs.Places.{places_of}
+use Rattle.session.specs.Program.{Tables}
+
+-- tables for n blocks a plane, with zero in every place
+abbrev pub zeros : {K : Type 0} (nought : K) (n : ℕ) → Tables K
+zeros nought n = record {
+  costs = replicate (places_of n) nought;
+  standing = replicate (places_of n) 0;
+  partners = replicate n 0;
+  left = replicate n nought;
+  right = replicate n nought;
+  walk = replicate n 0;
+  marks = replicate (places_of n) 0;
+}
