@@ -1,12 +1,15 @@
 //! What was measured of a pair, as a line of text has it.
 
+ghost use Rattle.std.specs.Prelude.{◌<◌, IfOk};
+ghost use Rattle.blockset.specs.declared.TheConstants.{MOST_BLOCKS};
+
 use blockset::MOST_BLOCKS;
 use example_kind::Block;
 use std::num::ParseIntError;
 use std::str::{FromStr, SplitWhitespace};
 use thiserror::Error;
 
-/// What was measured of a pair of blocks.
+/// What was measured of a pair of blocks, whose numbers a sheet can have.
 #[derive(Clone, Copy, Debug)]
 pub struct Figures {
     pub left: u16,
@@ -15,6 +18,8 @@ pub struct Figures {
     pub time: u32,
     pub left_wear: Block,
     pub right_wear: Block,
+    ghost left_exists: { left < MOST_BLOCKS },
+    ghost right_exists: { right < MOST_BLOCKS },
 }
 
 /// Why a line has no figures.
@@ -40,7 +45,9 @@ where
 }
 
 // The next word as the number of a block.
-fn block(words: &mut SplitWhitespace<'_>) -> Result<u16, LineError> {
+fn block(words: &mut SplitWhitespace<'_>) -> Result<u16, LineError>
+    ensures { IfOk result (λ block. block < MOST_BLOCKS) }
+{
     let block = number(words)?;
     if block >= MOST_BLOCKS {
         return Err(LineError::Block(block));
@@ -48,6 +55,8 @@ fn block(words: &mut SplitWhitespace<'_>) -> Result<u16, LineError> {
     Ok(block)
 }
 
+/// A line is `LEFT RIGHT TIME ERASES ERASES CLASS CLASS`: the two blocks and the time, then the erase
+/// counts and the wear classes, each of the left block before that of the right one.
 impl FromStr for Figures {
     type Err = LineError;
 

@@ -1,5 +1,8 @@
 //! A settled sheet with its tables, and what is printed of it.
 
+ghost use Rattle.std.specs.Prelude.{◌<◌, ◌≤◌, All};
+ghost use Rattle.blockset.specs.declared.TheConstants.{MOST_BLOCKS};
+
 use crate::figures::Figures;
 use anyhow::{Context, anyhow};
 use blockset::BlockSet;
@@ -30,10 +33,13 @@ pub struct Plan {
 }
 
 // How many blocks a plane has: one more than the largest number that a pair names.
-fn size(figures: &[Figures]) -> u16 {
+fn size(figures: &[Figures]) -> u16
+    ensures room { All (λ pair. (pair.left < result) × (pair.right < result)) figures.now }
+    ensures few { result ≤ MOST_BLOCKS }
+{
     figures
         .iter()
-        .map(|pair| pair.left.max(pair.right).saturating_add(1))
+        .map(|pair| pair.left.max(pair.right) + 1)
         .max()
         .unwrap_or(0)
 }
