@@ -1,11 +1,15 @@
-//! An example of a buyer's own cost kind, in a crate of its own: program time first, then wear.
+//! Two cost kinds as a buyer would write them, in a crate of their own: `Programming` is a time and
+//! a wear; `HouseCost` has a third step, and a constructor that makes it from measured figures.
 #![tactic(auto)]
 
 ghost use Rattle.std.specs.Prelude.{[], ◌∷◌, pos};
 ghost use Rattle.cost.specs.Columns.{rail_of};
 ghost use Rattle.std.proofs.Common.{rules};
 
+mod house;
+
 use cost::{Cost, Plain};
+pub use house::{Block, HouseCost, Unfit};
 use std::cmp::Ordering;
 
 /// What programming a pair costs: its time in microseconds, and among equal times its wear.
