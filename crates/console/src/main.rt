@@ -4,13 +4,40 @@
 
 use console_words::converse;
 use std::io::BufReader;
+use std::process::ExitCode;
+use std::{env, io};
 
-fn run(rt: &HostRuntime) -> anyhow::Result<()> {
+const USAGE: &str = "\
+usage: console
+Reads lines from standard input, makes the call on a sheet that each line asks for, and prints the
+answer before it reads the next. The line `size N` opens a sheet of N left and N right blocks;
+`help` lists all lines that can be typed, and `quit` ends the program.
+  -h, --help  print this text
+";
+
+// The status of a program that was asked for something else than it does.
+const WRONG_USAGE: u8 = 2;
+
+fn talk(rt: &HostRuntime) -> anyhow::Result<()> {
     let input = BufReader::new(rt.alloc(), rt.reader())?;
-    converse(rt.alloc(), input, rt)?;
+    let mut output = io::writer(rt);
+    converse(rt.alloc(), input, &mut output)?;
     Ok(())
 }
 
-fn main(rt: HostRuntime) -> anyhow::Result<()> {
+fn run(rt: &HostRuntime) -> anyhow::Result<ExitCode> {
+    let words = env::args(rt)?.collect::<Vec<String>>(rt.alloc())?;
+    match words.as_slice() {
+        [] | [_] => talk(rt)?,
+        [_, word] if matches!(word.as_str(), "-h" | "--help") => rt.print(USAGE)?,
+        _ => {
+            rt.eprint(USAGE)?;
+            return Ok(ExitCode::from(WRONG_USAGE));
+        }
+    }
+    Ok(ExitCode::SUCCESS)
+}
+
+fn main(rt: HostRuntime) -> anyhow::Result<ExitCode> {
     run(&rt)
 }

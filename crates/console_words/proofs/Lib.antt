@@ -1,3 +1,4 @@
 mod NewTables
 mod WordSteps
 mod Places
+mod Talking

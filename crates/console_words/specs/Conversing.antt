@@ -1,6 +1,9 @@
 -- What a line does to a conversation.
-use Rattle.std.specs.Prelude.{◌≡◌, ◌⊎◌, ℕ, ℤ, [], ◌∷◌, ◌++◌, pos, List, codes, decimal}
+use Rattle.std.specs.Prelude.{◌≡◌, ◌<◌, ◌+◌, ◌⊎◌, ℕ, ℤ, [], ◌∷◌, ◌++◌, pos, List, codes, decimal}
+use Rattle.std.specs.Prelude.{Option, length}
 use Rattle.std.specs.Fmt.{signed_decimal}
+use Rattle.std.specs.Io.BufRead.{first_piece, drop_through}
+use Rattle.std.specs.Io.KnownBytes.{Appends}
 use Rattle.std.specs.Str.{IsUtf8}
 use Rattle.cost.specs.Columns.{rail_of}
 use Rattle.cost.specs.declared.Cost.{Ghosts}
@@ -102,3 +105,21 @@ module _ (number : ℕ) where
       (¬ IsUtf8 line × (console' ≡ console) × Says (complained_line number NotText) turn)
       ⊎ (IsUtf8 line × IsSkipped (words_of line) × (console' ≡ console) × Says [] turn)
       ⊎ (IsUtf8 line × ¬ IsSkipped (words_of line) × Turns (words_of line) console console' turn)
+
+-- A talk, from a console on and before the line of this number: the text that the lines among the
+-- bytes come to, one after the other. A line ends before its line break, of code 10. The talk ends
+-- where no byte is left, or with the line that asks for the end: nothing is said of those behind.
+pub data Talk : ℕ → Console → (bytes text : List ℕ) → Type 0 where
+  ends : (number : ℕ) (console : Console) → Talk number console [] []
+  is_over : (number : ℕ) (console console' : Console) (bytes : List ℕ) → 0 < length bytes
+      → TakesLine number (first_piece 10 bytes) console console' Over
+      → Talk number console bytes []
+  goes_on : (number : ℕ) (console console' : Console) (turn : Turn) (bytes said more : List ℕ)
+      → 0 < length bytes → TakesLine number (first_piece 10 bytes) console console' turn
+      → Says said turn → Talk (number + 1) console' (drop_through 10 bytes) more
+      → Talk number console bytes (said ++ more)
+
+-- what is written of a talk over all these bytes, where it is known what was written before
+abbrev pub Converses : List ℕ → (before after : Option (List ℕ)) → Type 0
+Converses bytes before after = (text : List ℕ) × Talk 1 (Unopened One) bytes text
+    × Appends before after text

@@ -1,11 +1,11 @@
 //! A conversation about one sheet: a line is taken, and the answer to it is given.
 
-ghost use Rattle.std.specs.Prelude.{◌≡◌, ◌↔◌, IsTrue, IfOk, string_bytes};
+ghost use Rattle.std.specs.Prelude.{◌≡◌, ◌↔◌, IsTrue, IfOk, OnOk, IfSome, string_bytes};
 ghost use Rattle.console_words.specs.declared.console.Console.TheVariants.{Unopened};
 ghost use Rattle.console_words.specs.declared.opening.ColumnCount.TheVariants.{One};
 ghost use Rattle.console_words.specs.declared.opening.Opening.TheVariants.{Size};
 ghost use Rattle.console_words.specs.Complaining.{complained_line};
-ghost use Rattle.console_words.specs.Conversing.{Opens, Turns, TakesLine, opened_line};
+ghost use Rattle.console_words.specs.Conversing.{Opens, Turns, TakesLine, Converses, opened_line};
 ghost use Rattle.console_words.specs.Moving.{Says, Moves};
 ghost use Rattle.console_words.specs.Words.{words_of, IsSkipped};
 
@@ -19,7 +19,7 @@ use crate::turn::Turn;
 use crate::typed_cost::TypedCost;
 use cost::{Plain, TwoStep};
 use std::alloc::{AllocError, Global};
-use std::io::{BufRead, Print};
+use std::io::{BufRead, Write};
 use std::{io, str};
 
 /// A conversation about one sheet: whether one is open, and of which kind.
@@ -175,16 +175,23 @@ impl Console {
     }
 }
 
-/// Reads lines up to the end of the input or a line that asks for the end, and prints what each
-/// comes to before the next is read. An error is the reader's, the printer's, or want of memory.
-pub fn converse<R: BufRead + Drop>(heap: Global, input: R, rt: &impl Print) -> io::Result<()> {
+/// Reads lines up to the end of the input or a line that asks for the end, and writes what each
+/// comes to before the next is read. An error is the reader's, the writer's, or want of memory.
+pub fn converse<R: BufRead + Drop, W: Write>(
+    heap: Global,
+    input: R,
+    output: &mut W,
+) -> io::Result<()>
+    ensures { OnOk result (IfSome (R.remaining input)
+        (λ bytes. Converses bytes (W.contents output.old) (W.contents output.new))) }
+{
     let mut console = Console::new();
     for (k, line) in input.split(heap, b'\n').enumerate() {
         let line = line?;
         let (next, turn) = console.take(heap, k + 1, line.as_slice())?;
         console = next;
         match turn {
-            Turn::Said(text) => rt.print(text)?,
+            Turn::Said(text) => output.write_all(text.as_bytes())?,
             Turn::Over => break,
         }
     }

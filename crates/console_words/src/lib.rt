@@ -1,8 +1,8 @@
 //! A sheet driven by typed lines: what a line asks for, what comes of it, and the answer in plain
 //! words.
 //!
-//! `converse` reads lines and prints the answer to each at once. `Console` is the same without
-//! input and output: it takes one line after the other and gives the text to print.
+//! `converse` reads lines and writes the answer to each at once. `Console` is the same without
+//! input and output: it takes one line after the other and gives the text to write.
 #![tactic(auto)]
 
 mod answer_lines;
