@@ -55,8 +55,8 @@ fn block(words: &mut SplitWhitespace<'_>) -> Result<u16, LineError>
     Ok(block)
 }
 
-/// A line is `LEFT RIGHT TIME ERASES ERASES CLASS CLASS`: the two blocks and the time, then erase
-/// counts and wear classes, each of the left block before that of the right one.
+/// A line is `LEFT RIGHT TIME ERASES ERASES CLASS CLASS`: the two blocks and the time, then the
+/// erase counts and the wear classes, each of the left block before that of the right one.
 impl FromStr for Figures {
     type Err = LineError;
 
