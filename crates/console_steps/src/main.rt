@@ -4,7 +4,6 @@
 
 use console_words::converse;
 use std::io::BufReader;
-use std::process::ExitCode;
 use std::{env, io};
 
 const USAGE: &str = "\
@@ -15,9 +14,6 @@ answer before it reads the next. The line `size N` opens a sheet of N left and N
   -h, --help  print this text
 ";
 
-// The status of a program that was asked for something else than it does.
-const WRONG_USAGE: u8 = 2;
-
 fn talk(rt: &HostRuntime) -> anyhow::Result<()> {
     let input = BufReader::new(rt.alloc(), rt.reader())?;
     let mut output = io::writer(rt);
@@ -25,19 +21,15 @@ fn talk(rt: &HostRuntime) -> anyhow::Result<()> {
     Ok(())
 }
 
-fn run(rt: &HostRuntime) -> anyhow::Result<ExitCode> {
+fn run(rt: &HostRuntime) -> anyhow::Result<()> {
     let words = env::args(rt)?.collect::<Vec<String>>(rt.alloc())?;
     match words.as_slice() {
-        [] | [_] => talk(rt)?,
         [_, word] if matches!(word.as_str(), "-h" | "--help") => rt.print(USAGE)?,
-        _ => {
-            rt.eprint(USAGE)?;
-            return Ok(ExitCode::from(WRONG_USAGE));
-        }
+        _ => talk(rt)?,
     }
-    Ok(ExitCode::SUCCESS)
+    Ok(())
 }
 
-fn main(rt: HostRuntime) -> anyhow::Result<ExitCode> {
+fn main(rt: HostRuntime) -> anyhow::Result<()> {
     run(&rt)
 }

@@ -4,7 +4,6 @@
 
 use report::list_input;
 use std::env;
-use std::process::ExitCode;
 
 const USAGE: &str = "\
 usage: listing < ORDER-FILE
@@ -15,22 +14,15 @@ perfect pairing, it prints `refused NUMBER`.
   -h, --help  print this text
 ";
 
-// The status of a program that was asked for something else than it does.
-const WRONG_USAGE: u8 = 2;
-
-fn run(rt: &HostRuntime) -> anyhow::Result<ExitCode> {
+fn run(rt: &HostRuntime) -> anyhow::Result<()> {
     let words = env::args(rt)?.collect::<Vec<String>>(rt.alloc())?;
     match words.as_slice() {
-        [] | [_] => rt.print(list_input(rt.alloc(), rt.stdin())?)?,
         [_, word] if matches!(word.as_str(), "-h" | "--help") => rt.print(USAGE)?,
-        _ => {
-            rt.eprint(USAGE)?;
-            return Ok(ExitCode::from(WRONG_USAGE));
-        }
+        _ => rt.print(list_input(rt.alloc(), rt.stdin())?)?,
     }
-    Ok(ExitCode::SUCCESS)
+    Ok(())
 }
 
-fn main(rt: HostRuntime) -> anyhow::Result<ExitCode> {
+fn main(rt: HostRuntime) -> anyhow::Result<()> {
     run(&rt)
 }
