@@ -11,7 +11,7 @@ use sheet::{Cause, Fault};
 use std::alloc::{AllocError, Global};
 
 /// How many lists are tried.
-const LISTS: u64 = 400;
+const LISTS: u64 = 4_000;
 
 /// How many calls of a list come after those that fill the sheet.
 const CALLS: u64 = 120;

@@ -11,7 +11,7 @@ use crate::script::Script;
 use session::Act;
 
 /// How many random sheets of each size are tried with each of the rules.
-const ROUNDS: u64 = 3;
+const ROUNDS: u64 = 12;
 
 /// Tries every sheet of up to 3 blocks a plane over absent pairs and a few costs.
 pub fn try_small<K: Trial>(rt: &impl Print, bench: &mut Bench<'_>) -> anyhow::Result<()> {

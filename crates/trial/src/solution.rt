@@ -59,13 +59,6 @@ impl<K: Trial> Optimum<K> {
         cost.take_away(price(&self.left, left))
             .take_away(price(&self.right, right))
     }
-
-    /// Whether a list is an optimum pairing.
-    pub fn has(&self, list: &[u16]) -> bool {
-        self.pairings
-            .iter()
-            .any(|pairing| pairing.as_slice() == list)
-    }
 }
 
 /// What some of the orders come to.
