@@ -1,0 +1,64 @@
+//! The cost kinds, as far as a trial needs them: made from columns, and told apart by a name.
+
+use cost::{Cost, Free, Plain, TwoStep};
+use std::fmt::Debug;
+
+/// The most columns that a cost of a trial has.
+pub type Columns = [i64; 3];
+
+/// A cost kind whose values can be made and told.
+pub trait Trial: Cost + PartialEq + Debug {
+    const NAME: &'static str;
+
+    /// How many of the small costs differ.
+    const COSTS: u8;
+
+    /// The value made of the first columns, as many as the kind has.
+    fn made(columns: Columns) -> Self;
+}
+
+/// Two plain costs, the second of which decides between equal first ones.
+pub type Two = TwoStep<Plain, Plain>;
+
+/// A two-step cost of a two-step cost and a plain one.
+pub type Nested = TwoStep<Two, Plain>;
+
+impl Trial for Plain {
+    const NAME: &'static str = "plain";
+
+    const COSTS: u8 = 3;
+
+    fn made([first, ..]: Columns) -> Plain {
+        Plain(first)
+    }
+}
+
+impl Trial for Free {
+    const NAME: &'static str = "free";
+
+    const COSTS: u8 = 1;
+
+    fn made(_columns: Columns) -> Free {
+        Free
+    }
+}
+
+impl Trial for TwoStep<Plain, Plain> {
+    const NAME: &'static str = "two-step";
+
+    const COSTS: u8 = 4;
+
+    fn made([first, second, _]: Columns) -> Two {
+        TwoStep(Plain(first), Plain(second))
+    }
+}
+
+impl Trial for TwoStep<TwoStep<Plain, Plain>, Plain> {
+    const NAME: &'static str = "nested";
+
+    const COSTS: u8 = 4;
+
+    fn made([first, second, third]: Columns) -> Nested {
+        TwoStep(TwoStep(Plain(first), Plain(second)), Plain(third))
+    }
+}

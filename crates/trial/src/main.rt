@@ -1,0 +1,60 @@
+//! Compares the calls on a sheet with plain enumeration of all orders of the right blocks, which
+//! shares nothing with them but the cost kinds, and prints what was compared. At the first answer
+//! that differs it prints the call and the sheet, and ends with an error.
+//!
+//! Standard input is the seed of what is drawn.
+#![tactic(auto)]
+
+mod bench;
+mod disturbance;
+mod disturbed;
+mod draw;
+mod kinds;
+mod lent_tables;
+mod lists;
+mod orders;
+mod paper;
+mod plain_sheet;
+mod prices;
+mod script;
+mod sheets;
+mod solution;
+mod tally;
+
+use anyhow::Context;
+use bench::Bench;
+use cost::{Free, Plain};
+use kinds::{Nested, Trial, Two};
+use orders::Orders;
+use std::io;
+
+/// Tries a kind, and prints what was compared.
+fn try_kind<K: Trial>(rt: &HostRuntime, orders: &Orders, seed: u64) -> anyhow::Result<()> {
+    let kind = K::NAME;
+    let mut bench = Bench::new(rt.alloc(), orders, seed);
+    sheets::try_small::<K>(rt, &mut bench)?;
+    sheets::try_random::<K>(rt, &mut bench)?;
+    lists::try_lists::<K>(rt, &mut bench)?;
+    lists::try_sizes::<K>(&mut bench)?;
+    let tally = bench.tally;
+    println!(rt; "{kind}\n{tally}")?;
+    Ok(())
+}
+
+fn run(rt: &HostRuntime) -> anyhow::Result<()> {
+    let input = io::read_to_string(rt.alloc(), rt.stdin())?;
+    let seed = input
+        .trim()
+        .parse::<u64>()
+        .context("reading the seed from standard input")?;
+    println!(rt; "seed {seed}")?;
+    let orders = Orders::new(rt.alloc())?;
+    try_kind::<Plain>(rt, &orders, seed)?;
+    try_kind::<Free>(rt, &orders, seed)?;
+    try_kind::<Two>(rt, &orders, seed)?;
+    try_kind::<Nested>(rt, &orders, seed)
+}
+
+fn main(rt: HostRuntime) -> anyhow::Result<()> {
+    run(&rt)
+}
