@@ -97,12 +97,7 @@ impl<K: Trial> Tables<K> {
             left.plus(right)? == total,
             "the prices do not add up to the total"
         );
-        for price in &self.right {
-            ensure!(
-                Amount::of(price.columns()) <= Amount::ZERO,
-                "a right price above zero"
-            );
-        }
+        ensure!(are_at_most_zero(&self.right), "a right price above zero");
         for left in 0..BLOCKS {
             self.check_row(left)?;
         }
@@ -144,4 +139,13 @@ fn sum_of_prices<K: Trial>(prices: &[K]) -> anyhow::Result<Amount> {
         sum = sum.plus(amount)?;
     }
     Ok(sum)
+}
+
+fn are_at_most_zero<K: Trial>(prices: &[K]) -> bool {
+    for price in prices {
+        if Amount::of(price.columns()) > Amount::ZERO {
+            return false;
+        }
+    }
+    true
 }
