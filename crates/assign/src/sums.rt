@@ -37,5 +37,5 @@ pub fn is_less<K: Cost>(a: K, b: K) -> bool
     ensures less { result ≡ true → weight (K.meaning a) <ℤ weight (K.meaning b) }
     ensures not_less { result ≡ false → weight (K.meaning b) ≤ℤ weight (K.meaning a) }
 {
-    a.compare_near(b).is_lt()
+    a.is_less_near(b)
 }

@@ -70,6 +70,14 @@ impl Cost for Two {
         self.steps().compare_near(other.steps())
     }
 
+    fn is_less_near(self, than: Two) -> bool {
+        self.steps().is_less_near(than.steps())
+    }
+
+    fn is_equal_near(self, to: Two) -> bool {
+        self.steps().is_equal_near(to.steps())
+    }
+
     fn within(self, limit: u64) -> bool {
         self.steps().within(limit)
     }

@@ -1,13 +1,13 @@
 -- What the answers of a kind do to columns that are made of two parts.
 -- Idea: two lists whose first parts are equally long are gone through side by side, so each part
 -- meets its own counterpart; the proofs are inductions over the first parts.
-use Rattle.std.specs.Prelude.{◌≡◌, ℕ, true, false, cond, ◌&&◌, List, [], ◌∷◌, ◌++◌, length, ℤ, ◌≢◌}
-use Rattle.std.specs.Prelude.{int_lt, nat_le, unsigned_abs, refl}
+use Rattle.std.specs.Prelude.{◌≡◌, ◌≢◌, ℕ, true, false, cond, ◌&&◌, ◌||◌, List, [], ◌∷◌, ◌++◌}
+use Rattle.std.specs.Prelude.{length, ℤ, int_lt, nat_le, unsigned_abs, refl}
 use Rattle.std.specs.declared.cmp.Ordering.TheVariants.{Less, Equal, Greater}
 use Rattle.std.specs.declared.cmp.Ordering.{Ordering}
 use Rattle.std.proofs.Common.{sym, ap, ◌∙◌, arith}
 use Rattle.std.proofs.lemmas.List.Folds.{list_all-append}
-use Rattle.std.specs.Ordering.{ordering_then}
+use Rattle.std.specs.Ordering.{ordering_then, is_lt, is_eq}
 use Rattle.cost.specs.Columns.{Within, within, columnwise, lex}
 
 -- two values of one kind have equally many columns
@@ -51,3 +51,14 @@ within-append k a b = list_all-append (λ x. nat_le (unsigned_abs x) k) a b
 pub within_parts : (k : ℕ) (a b : List ℤ) → Within k (a ++ b) → Within k a × Within k b
 within_parts k [] b h = (tt, h)
 within_parts k (x ∷ a) b h = let rest = within_parts k a b h.1 in ((h.0, rest.0), rest.1)
+
+-- by which side of an order is asked for: the second one counts where the first one is Equal
+pub then_less : (o p : Ordering) → is_lt (ordering_then o p) ≡ (is_lt o || (is_eq o && is_lt p))
+then_less Less p = refl
+then_less Equal p = refl
+then_less Greater p = refl
+
+pub then_equal : (o p : Ordering) → is_eq (ordering_then o p) ≡ (is_eq o && is_eq p)
+then_equal Less p = refl
+then_equal Equal p = refl
+then_equal Greater p = refl

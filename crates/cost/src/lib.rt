@@ -2,6 +2,7 @@
 #![tactic(auto)]
 
 ghost use Rattle.std.specs.Prelude.{◌≡◌, ℕ, List, ℤ};
+ghost use Rattle.std.specs.Ordering.{is_lt, is_eq};
 ghost use Rattle.cost.specs.declared.TheConstants.{HALF_RAIL};
 ghost use Rattle.cost.specs.Columns.{Within, within, sums, differences, lex};
 ghost use Rattle.cost.specs.Kind.{KindLaws};
@@ -37,8 +38,9 @@ pub const PRICE_LIMIT: u64 = 1_000_000_000_000;
 ///
 /// A kind answers five questions about the columns alone, so code that is generic over the kind is
 /// proved once, for kinds that were written elsewhere too. Three of them come again for near
-/// values: their callers know how far their values can get. A kind that has nothing faster to
-/// offer leaves these out.
+/// values: their callers know how far their values can get. And two ask for one side of a
+/// comparison of near values, which a kind of several steps can tell without a branch. A kind that
+/// has nothing faster to offer leaves all these out.
 pub trait Cost: Copy {
     // How many columns a value has.
     ghost columns: { ℕ };
@@ -90,6 +92,24 @@ pub trait Cost: Copy {
         ensures { result ≡ lex (meaning self) (meaning other) }
     {
         self.compare(other)
+    }
+
+    /// Whether a near value comes before another one. Values that are not near may be asked too:
+    /// what is answered of them is left open.
+    fn is_less_near(self, than: Self) -> bool
+        ensures { Within HALF_RAIL (meaning self) → Within HALF_RAIL (meaning than)
+            → result ≡ is_lt (lex (meaning self) (meaning than)) }
+    {
+        self.compare(than).is_lt()
+    }
+
+    /// Whether two near values are the same in each column. Values that are not near may be asked
+    /// too: what is answered of them is left open.
+    fn is_equal_near(self, to: Self) -> bool
+        ensures { Within HALF_RAIL (meaning self) → Within HALF_RAIL (meaning to)
+            → result ≡ is_eq (lex (meaning self) (meaning to)) }
+    {
+        self.compare(to).is_eq()
     }
 
     /// Whether each column is from -limit to limit.

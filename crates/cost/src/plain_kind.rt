@@ -100,8 +100,21 @@ impl Cost for Plain {
         self.0.cmp(&other.0)
     }
 
-    // Where the limit is short of the rail, what lies beyond the rail is beyond the limit too.
+    fn is_less_near(self, than: Plain) -> bool {
+        self.0 < than.0
+    }
+
+    fn is_equal_near(self, to: Plain) -> bool {
+        self.0 == to.0
+    }
+
+    // Where the limit is short of the rail, what lies beyond the rail is beyond the limit too. Both
+    // ends are looked at, so that a loop over many pairs has no branch here.
     fn within(self, limit: u64) -> bool {
-        limit >= crate::RAIL || self.0.unsigned_abs() <= limit
+        if limit >= crate::RAIL {
+            return true;
+        }
+        let most = limit as i64;
+        (-most <= self.0) & (self.0 <= most)
     }
 }

@@ -63,10 +63,19 @@ impl<A: Cost, B: Cost> Cost for TwoStep<A, B> {
         )
     }
 
-    // Both steps are compared, so that a loop over many pairs has no branch here.
     fn compare_near(self, other: TwoStep<A, B>) -> Ordering {
         let first = self.0.compare_near(other.0);
         first.then(self.1.compare_near(other.1))
+    }
+
+    // Both steps are compared whatever the first one says, so that a loop over many pairs has no
+    // branch here and can take several at once.
+    fn is_less_near(self, than: TwoStep<A, B>) -> bool {
+        self.0.is_less_near(than.0) | (self.0.is_equal_near(than.0) & self.1.is_less_near(than.1))
+    }
+
+    fn is_equal_near(self, to: TwoStep<A, B>) -> bool {
+        self.0.is_equal_near(to.0) & self.1.is_equal_near(to.1)
     }
 
     fn within(self, limit: u64) -> bool {

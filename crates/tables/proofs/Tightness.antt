@@ -4,10 +4,11 @@
 -- cost was not stopped. Over rows of tight pairs the perfect pairings are the tight ones, and under
 -- valid prices these are the optimum ones.
 use Rattle.std.proofs.Common.{◌≡◌, ℕ, ◌<◌, ◌≤◌, true, ◌&&◌, ltb, ◌↔◌, List, [], ◌∷◌, length, ℤ, pos}
-use Rattle.std.proofs.Common.{negsuc, ◌+ℤ◌, nat_abs, Decides, Ordering, Less, Equal, Greater, sym}
+use Rattle.std.proofs.Common.{negsuc, ◌+ℤ◌, nat_abs, Decides, sym}
 use Rattle.std.proofs.Common.{refl, ap, ◌∙◌, subst, arith}
 use Rattle.std.specs.Ordering.{is_eq}
-use Rattle.std.proofs.lemmas.Bool.{and_parts, and_from, lt-ltb, false≢true}
+use Rattle.std.specs.Cmp.{Equal-is}
+use Rattle.std.proofs.lemmas.Bool.{and_parts, and_from, lt-ltb}
 use Rattle.cost.specs.Columns.{rail_of, Within, sums, plus, lex}
 use Rattle.cost.proofs.Exact.{rail_of_same, length-columnwise}
 use Rattle.cost.proofs.Order.{lex_same, lex_refl}
@@ -42,18 +43,13 @@ plus_small (x ∷ xs) (y ∷ ys) h =
     let t : sums xs ys ≡ plus xs ys = plus_small xs ys h.1 in
     cc
 
-is_equal : (o : Ordering) → is_eq o ≡ true → o ≡ Equal
-is_equal Less e = absurd (false≢true e)
-is_equal Equal e = refl
-is_equal Greater e = absurd (false≢true e)
-
 module _ (xs ys cost : List ℤ) (same : length xs ≡ length ys) (sized : length xs ≡ length cost)
     (small : Within 1000000000 cost) where
   adds_up_lem : is_eq (lex (sums xs ys) cost) ≡ true → plus xs ys ≡ cost
   adds_up_lem e =
       let is : sums xs ys ≡ cost =
       lex_same (sums xs ys) cost (length-columnwise (λ x y. rail_of (x +ℤ y)) xs ys same ∙ sized)
-      (is_equal (lex (sums xs ys) cost) e) in
+      ((Equal-is (lex (sums xs ys) cost)).0 e) in
       sym (sums_small xs ys (subst (Within 1000000000) (sym is) small)) ∙ is
 
   told_equal : plus xs ys ≡ cost → is_eq (lex (sums xs ys) cost) ≡ true

@@ -84,13 +84,13 @@ impl PairRows {
     {
         let len = tables.size as usize;
         let mut sets = [BlockSet::empty(); SET_WIDTH];
-        let rows = &mut sets[..len];
+        let filled = &mut sets[..len];
         if fill_sound_rows(
             tables.costs,
             tables.standing,
             tables.left,
             tables.right,
-            rows,
+            filled,
         ) {
             Some(PairRows { sets, len })
         } else {

@@ -2,11 +2,11 @@
 //! wrong of a row is gathered, and asked for once the row is through.
 
 ghost use Rattle.std.specs.Prelude.{◌≡◌, ◌≤◌, length, IsTrue, ◌↔◌, IfNone, IfSome, slice_index};
-ghost use Rattle.std.specs.Prelude.{if◌then◌else◌};
 ghost use Rattle.std.specs.Bool.{OnTrue};
+ghost use Rattle.std.specs.Ordering.{is_gt, is_eq};
 ghost use Rattle.blockset.specs.declared.TheConstants.{MOST_BLOCKS, SET_WIDTH};
 ghost use Rattle.cost.specs.declared.TheConstants.{COST_LIMIT, PRICE_LIMIT};
-ghost use Rattle.cost.specs.Columns.{Within, within, sums, lex, zeros};
+ghost use Rattle.cost.specs.Columns.{Within, sums, lex};
 ghost use Rattle.tables.specs.PairTables.{says_stands};
 ghost use Rattle.tables.specs.Said.{columns_at, grid_of, Bounded};
 ghost use Rattle.tables.specs.Lent.{HasRoom};
@@ -15,25 +15,19 @@ ghost use Rattle.tables.specs.Sound.{IsSoundRow, AreSoundRows};
 
 use blockset::BlockSet;
 use cost::{COST_LIMIT, Cost};
-use std::cmp::Ordering;
 
-/// A cost that is within 10^9, and zero for another, so that no pair needs a branch.
-fn cost_or_zero<K: Cost>(cost: K, near: bool) -> K
-    requires { near ≡ within COST_LIMIT (K.meaning cost) }
-    ensures value { K.meaning result ≡ (if near then K.meaning cost else zeros K.columns) }
-    ensures small { Within COST_LIMIT (K.meaning result) }
-{
-    if near { cost } else { K::zero() }
-}
-
-/// How two prices together compare with a cost.
-fn compare_prices<K: Cost>(left: K, right: K, cost: K) -> Ordering
+/// Whether two prices together are beyond a cost, and whether they are just that cost. Of a cost
+/// beyond 10^9 nothing is told, but it may be asked, so that no pair needs a branch.
+fn compare_prices<K: Cost>(left: K, right: K, cost: K) -> (bool, bool)
     requires left_near { Within PRICE_LIMIT (K.meaning left) }
     requires right_near { Within PRICE_LIMIT (K.meaning right) }
-    requires cost_small { Within COST_LIMIT (K.meaning cost) }
-    ensures { result ≡ lex (sums (K.meaning left) (K.meaning right)) (K.meaning cost) }
+    ensures beyond { Within COST_LIMIT (K.meaning cost) → result.0
+        ≡ is_gt (lex (sums (K.meaning left) (K.meaning right)) (K.meaning cost)) }
+    ensures tight { Within COST_LIMIT (K.meaning cost) → result.1
+        ≡ is_eq (lex (sums (K.meaning left) (K.meaning right)) (K.meaning cost)) }
 {
-    left.add_near(right).compare_near(cost)
+    let sum = left.add_near(right);
+    (cost.is_less_near(sum), cost.is_equal_near(sum))
 }
 
 /// The right blocks that are tight with one left block, if all its pairs are sound. This is its
@@ -59,11 +53,11 @@ fn sound_row<K: Cost>(costs: &[K], standing: &[u8], left: K, right: &[K]) -> Opt
     for (r, price) in right.iter().enumerate() {
         let byte = u64::from(standing[r]);
         let cost = costs[r];
-        let near = cost.within(COST_LIMIT);
-        let order = compare_prices(left, *price, cost_or_zero(cost, near));
+        let small = cost.within(COST_LIMIT);
+        let (beyond, tight) = compare_prices(left, *price, cost);
         seen |= byte;
-        faults |= byte & u64::from(!near | order.is_gt());
-        row.insert_if(r, byte & u64::from(order.is_eq()) != 0);
+        faults |= byte & u64::from(!small | beyond);
+        row.insert_if(r, byte & u64::from(tight) != 0);
     }
     if (seen <= 1) & (faults == 0) {
         Some(row)

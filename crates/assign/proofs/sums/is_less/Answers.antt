@@ -18,8 +18,8 @@ returns g c =
     let m = g.K.Cost.meaning in
     let a = m c.args.a in
     let b = m c.args.b in
-    let said : c.is_lt.result ≡ is_lt (lex (m c.args.a) (m c.args.b)) = c.is_lt.ensures
-    ∙ ap is_lt c.compare_near.ensures in
+    let said : c.is_less_near.result ≡ is_lt (lex (m c.args.a) (m c.args.b)) =
+    c.is_less_near.ensures c.requires.first c.requires.second in
     let same = g.met.K.Cost.laws.column_count c.args.a
     ∙ sym (g.met.K.Cost.laws.column_count c.args.b) in
     let wa = within_more RAIL 4000000000000000000 a (omega arith)

@@ -1,20 +1,48 @@
 -- Two prices within 10^12 add up to less than half of the rail, and a cost within 10^9 is less too.
-use Rattle.std.proofs.Common.{◌+◌, sym, ◌∙◌, subst, arith}
-use Rattle.cost.specs.Columns.{Within, plus}
+-- Where the cost comes before the sum, the sum comes after it.
+use Rattle.std.proofs.Common.{◌≡◌, ◌+◌, Ordering, Less, Equal, Greater, List, ℤ, sym, refl}
+use Rattle.std.proofs.Common.{ap, ◌∙◌, subst, arith}
+use Rattle.std.specs.Ordering.{ordering_reverse, is_lt, is_eq, is_gt}
+use Rattle.cost.specs.declared.TheConstants.{COST_LIMIT, HALF_RAIL, PRICE_LIMIT}
+use Rattle.cost.specs.Columns.{Within, plus, sums, lex}
 use Rattle.cost.proofs.Exact.{exact, plus-within, within_more}
+use Rattle.cost.proofs.Order.{lex_mirror}
 use Rattle.tables.proofs.sound.compare_prices.Goals as goal
 
-pub compare_near-requires-clause-first : goal.compare_near-requires-clause-first
-compare_near-requires-clause-first g c =
-    let left = g.K.Cost.meaning c.args.left in
-    let right = g.K.Cost.meaning c.args.right in
-    let near = c.requires in
-    let same = (exact 1000000000000 1000000000000 left right (omega arith) near.left_near
-    near.right_near).0 in
-    subst (Within 500000000000000) (sym (c.add_near.ensures ∙ same))
-    (within_more (1000000000000 + 1000000000000) 500000000000000 (plus left right) (omega arith)
-    (plus-within 1000000000000 1000000000000 left right near.left_near near.right_near))
+-- the sum of two prices is near
+sum_near : (left right sum : List ℤ) → Within PRICE_LIMIT left → Within PRICE_LIMIT right
+    → sum ≡ sums left right → Within HALF_RAIL sum
+sum_near left right sum l r is = subst (Within HALF_RAIL)
+    (sym (is ∙ (exact PRICE_LIMIT PRICE_LIMIT left right (omega arith) l r).0))
+    (within_more (PRICE_LIMIT + PRICE_LIMIT) HALF_RAIL (plus left right) (omega arith)
+    (plus-within PRICE_LIMIT PRICE_LIMIT left right l r))
 
-pub compare_near-requires-clause-second : goal.compare_near-requires-clause-second
-compare_near-requires-clause-second g c = within_more 1000000000 500000000000000
-    (g.K.Cost.meaning c.args.cost) (omega arith) c.requires.cost_small
+less_reversed : (o : Ordering) → is_lt (ordering_reverse o) ≡ is_gt o
+less_reversed Less = refl
+less_reversed Equal = refl
+less_reversed Greater = refl
+
+equal_reversed : (o : Ordering) → is_eq (ordering_reverse o) ≡ is_eq o
+equal_reversed Less = refl
+equal_reversed Equal = refl
+equal_reversed Greater = refl
+
+pub returns : goal.returns
+returns g c =
+    let m = g.K.Cost.meaning in
+    let left = m c.args.left in
+    let right = m c.args.right in
+    let sum = m c.add_near-sum.result in
+    let cost = m c.args.cost in
+    let is = c.add_near-sum.ensures in
+    let near = sum_near left right sum c.requires.left_near c.requires.right_near is in
+    let small = λ (w : Within COST_LIMIT (m c.args.cost)).
+    within_more COST_LIMIT HALF_RAIL (m c.args.cost) (omega arith) w in
+    let turned = lex_mirror sum cost (g.met.K.Cost.laws.column_count c.add_near-sum.result
+    ∙ sym (g.met.K.Cost.laws.column_count c.args.cost)) in
+    record {
+      beyond = λ w. c.is_less_near.ensures (small w) near ∙ ap is_lt turned
+          ∙ less_reversed (lex sum cost) ∙ ap (λ z. is_gt (lex z cost)) is;
+      tight = λ w. c.is_equal_near.ensures (small w) near ∙ ap is_eq turned
+          ∙ equal_reversed (lex sum cost) ∙ ap (λ z. is_eq (lex z cost)) is;
+    }
