@@ -27,3 +27,8 @@ module _ {K : Type 0} (kind : Ghosts K) where
       → a ≤ b → Within a (columns_at kind xs i) → Within b (kind.meaning x)
   read_within a b xs i x h e le w = within_more a b (kind.meaning x) le
       (subst (Within a) (sym (value_at kind xs i x h e)) w)
+
+  -- what was read at a place is what the table says there
+  pub entry_is : (xs : List K) (i : ℕ) (x : K) → i < length xs → x ≡ get_or xs i x
+      → kind.meaning (get_or xs i x) ≡ columns_at kind xs i
+  entry_is xs i x h e = sym (ap kind.meaning e) ∙ value_at kind xs i x h e

@@ -10,9 +10,9 @@ use Rattle.pairing.specs.Grid.{Sane, Optimum}
 use Rattle.pairing.specs.Optima.{optima}
 use Rattle.pairing.specs.Rows.{holds, Pairs, pairings}
 use Rattle.pairing.proofs.Duality.{valid_alike}
-use Rattle.pairing.proofs.Listing.{perfects_are, optima_are}
+use Rattle.pairing.proofs.Listing.{perfects_are}
 use Rattle.matching.specs.Answers.{IsNth}
-use Rattle.matching.proofs.Nth.{contains_nth}
+use Rattle.matching.proofs.Nth.{contains_nth, nth_optimum}
 use Rattle.tables.specs.Lent.{Lent, lent, grid, left_price, right_price, IsUsable}
 use Rattle.tables.specs.PairRows.{TightRows}
 use Rattle.tables.specs.Together.{Together}
@@ -55,8 +55,7 @@ module _ {K : Type 0} (kind : Ghosts K) (wide : (x : K) → length (kind.meaning
       standing_long = usable.lengths.room.standing_long;
       in_order = usable.in_order;
     };
-    perfect = (((optima_are true (grid kind t)).list.are t.partners).0
-        (contains_nth (optima (grid kind t)) 0 t.partners s.first)).perfect;
+    perfect = (nth_optimum (grid kind t) 0 t.partners s.first).perfect;
     left_prices = record { long = usable.lengths.room.left_long; near = s.prices.left_near };
     right_prices = record { long = usable.lengths.room.right_long; near = s.prices.right_near };
     valid = s.prices.greatest.valid;

@@ -1,13 +1,12 @@
--- One look at each right block of a set: it is offered a way, and the nearest of those that were
--- looked at is kept.
--- Idea: the right blocks that are still to be looked at are as they were, and a distance that
--- changes falls. So the best so far stays as it is until it is looked at, and if its own distance
--- falls then, it is the best again.
+-- One look at each right block of a set: it is offered a way, and how far it is beyond its price
+-- then.
+-- Idea: the right blocks that are still to be looked at are as they were; one that is offered its
+-- way changes no other.
 use Rattle.std.proofs.Common.{◌≡◌, ℕ, ◌+◌, ◌≤◌, Bool, true, false, not, ◌&&◌, eqb, List, ℤ}
-use Rattle.std.proofs.Common.{◌<◌, length, get_or, ◌-ℤ◌, ◌≤ℤ◌, ◌<ℤ◌}
+use Rattle.std.proofs.Common.{◌<◌, length, get_or, ◌-ℤ◌}
 use Rattle.std.proofs.Common.{sym, refl, ap, ◌∙◌, subst, inl, inr, ⊎_elim, arith}
 use Rattle.std.proofs.lemmas.Int.{ints}
-use Rattle.std.proofs.lemmas.Bool.{cases_eq, both_ways}
+use Rattle.std.proofs.lemmas.Bool.{cases_eq, both_ways, and_left}
 use Rattle.cost.specs.declared.TheConstants.{COST_LIMIT, RAIL}
 use Rattle.cost.specs.declared.Cost.{Ghosts}
 use Rattle.cost.specs.Columns.{Within}
@@ -19,7 +18,6 @@ use Rattle.assign.specs.Weighed.{weight_at}
 use Rattle.assign.specs.Offers.{Offered, KeyReach}
 use Rattle.assign.proofs.Entries.{read_within}
 use Rattle.blockset.proofs.Removing.{still_in, gone}
-use Rattle.assign.proofs.Nearing.{Nearing}
 
 -- an offer is the same where all that it speaks of is the same
 pub offered_like : (shift : ℤ) (cost : ℕ → ℤ) (from : ℕ) (to to' reached reached' : ℕ → Bool)
@@ -68,13 +66,9 @@ module _ (shift : List ℤ) (cost : ℕ → List ℤ) (from : ℕ) (set to : ℕ
     waits = λ c t. (refl, refl);
     outside = λ c f. refl;
     done = λ c f. offered_none (weight shift) (λ c. weight (cost c)) from (λ k. set k && to k)
-        (λ _. true) (λ c. weight (d c)) via c (no_part (set c) (to c) f);
+        (λ _. true) (λ c. weight (d c)) via c (and_left (set c) (to c) f);
     near = λ c b s le w. w;
   }
-    where
-      no_part : (x y : Bool) → x ≡ false → (x && y) ≡ false
-      no_part false y e = refl
-      no_part true y e = absurd (both_ways true e refl)
 
   pub looking_one : (rest rest' : ℕ → Bool) (c : ℕ)
       → ((j : ℕ) → rest' j ≡ (rest j && not (eqb j c))) → rest c ≡ true → set c ≡ true
@@ -97,7 +91,7 @@ module _ (shift : List ℤ) (cost : ℕ → List ℤ) (from : ℕ) (set to : ℕ
             (sym e)
             (offered_like (weight shift) (λ c. weight (cost c)) from to (λ k. set k && to k)
             (λ _. true) (λ _. true) (λ c. weight (d' c)) (λ c. weight (d c)) via' via
-            (λ c. weight (d'' c)) (λ c. weight (d'' c)) via'' via'' c (whole (set c) (to c) member)
+            (λ c. weight (d'' c)) (λ c. weight (d'' c)) via'' via'' c (ap (λ z. z && to c) member)
             (λ _. refl) (ap weight (sym w.0)) (sym w.1) refl refl here))
             (λ (ne : j ≡ c → ⊥). let x = others j ne in
             offered_like (weight shift) (λ c. weight (cost c)) from (λ k. set k && to k)
@@ -113,41 +107,6 @@ module _ (shift : List ℤ) (cost : ℕ → List ℤ) (from : ℕ) (set to : ℕ
             (h.near j b s le old))
             (cases_eq j c);
       }
-    where
-      whole : (x y : Bool) → x ≡ true → (x && y) ≡ y
-      whole true y e = refl
-      whole false y e = absurd (both_ways false refl e)
-
--- the nearest so far, when c is looked at and its distance may have fallen
-module _ (set : ℕ → Bool) (v d d' : ℕ → ℤ) (rest rest' : ℕ → Bool) (c : ℕ)
-    (removed : (j : ℕ) → rest' j ≡ (rest j && not (eqb j c))) (in_rest : rest c ≡ true) (best : ℕ)
-    (key : ℤ) (h : Nearing set v d rest best key)
-    (others : (j : ℕ) → (j ≡ c → ⊥) → d' j ≡ d j) where
-  pub looked_keep : d' best ≡ d best → key ≤ℤ (d' c -ℤ v c) → Nearing set v d' rest' best key
-  looked_keep same le = record {
-    part = λ j t. h.part j (still_in rest rest' c removed j t).0;
-    member = h.member;
-    is = h.is ∙ ap (λ z. z -ℤ v best) (sym same);
-    least = λ j s f. ⊎_elim
-        (λ (e : j ≡ c). let x : d' j ≡ d' c = ap d' e in let y : v j ≡ v c = ap v e in
-        omega (arith, ints, h.is))
-        (λ (ne : j ≡ c → ⊥). let x = others j ne in
-        omega (arith, ints, h.least j s (gone rest rest' c removed j f ne)))
-        (cases_eq j c);
-  }
-
-  pub looked_take : (key' : ℤ) → key' ≡ d' c -ℤ v c → key' <ℤ key → Nearing set v d' rest' c key'
-  looked_take key' is less = record {
-    part = λ j t. h.part j (still_in rest rest' c removed j t).0;
-    member = h.part c in_rest;
-    is = is;
-    least = λ j s f. ⊎_elim
-        (λ (e : j ≡ c). let x : d' j ≡ d' c = ap d' e in let y : v j ≡ v c = ap v e in
-        omega (arith, ints))
-        (λ (ne : j ≡ c → ⊥). let x = others j ne in
-        omega (arith, ints, h.is, h.least j s (gone rest rest' c removed j f ne)))
-        (cases_eq j c);
-  }
 
 -- how far a right block is beyond its price, from its distance x and its price y, which was read
 module _ {K : Type 0} (kind : Ghosts K) (dist right : List K) (i : ℕ) (x y z : K)

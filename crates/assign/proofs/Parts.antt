@@ -4,7 +4,7 @@
 use Rattle.std.proofs.Common.{◌≡◌, ℕ, Bool, true, false, not, ◌&&◌, List, length, ℤ}
 use Rattle.std.proofs.Common.{◌<◌, sym, refl, ◌∙◌, ⊎_elim, Option, Some, None, MatchOption}
 use Rattle.std.proofs.lemmas.Bool.{cases_Bool, both_ways, and_from, not_from_false}
-use Rattle.std.proofs.lemmas.Bool.{and_parts, not-true}
+use Rattle.std.proofs.lemmas.Bool.{and_parts, and_left, and_right, not-true, not_from_true}
 use Rattle.cost.specs.declared.Cost.{Ghosts}
 use Rattle.tables.specs.Said.{columns_at}
 use Rattle.assign.specs.declared.tree.Nearby.{Nearby}
@@ -12,18 +12,6 @@ use Rattle.assign.specs.Weighed.{weight_at}
 use Rattle.assign.specs.Offers.{Offered, Nearest, NearestWithKey}
 use Rattle.assign.proofs.Looking.{offered_like, offered_none}
 use Rattle.assign.proofs.Nearer.{near_still}
-
-no_second : (x y : Bool) → y ≡ false → (x && y) ≡ false
-no_second true y e = e
-no_second false y e = refl
-
-no_first : (x y : Bool) → x ≡ false → (x && y) ≡ false
-no_first true y e = absurd (both_ways true e refl)
-no_first false y e = refl
-
-no_not : (x : Bool) → x ≡ true → not x ≡ false
-no_not true e = refl
-no_not false e = absurd (both_ways false refl e)
 
 -- what was found stays where nothing of its set has changed
 pub found_still : {K : Type 0} (kind : Ghosts K) (set : ℕ → Bool) (right d d' : List K)
@@ -39,7 +27,7 @@ found_still kind set right d d' (Some near) long same h =
 pub not_other : (held rest free other : ℕ → Bool)
     → ((j : ℕ) → free j ≡ (rest j && not (held j))) → ((j : ℕ) → other j ≡ (rest j && held j))
     → (c : ℕ) → free c ≡ true → other c ≡ false
-not_other held rest free other free_is other_is c t = other_is c ∙ no_second (rest c) (held c)
+not_other held rest free other free_is other_is c t = other_is c ∙ and_right (rest c) (held c)
     (not-true (held c) (and_parts (rest c) (not (held c)) (sym (free_is c) ∙ t)).1)
 
 -- what is not reached for the first time was reached before, if it is reached at all
@@ -61,10 +49,10 @@ module _ (to reached held rest fresh known free other : ℕ → Bool)
   -- which part a right block is in
   module _ (c : ℕ) where
     not_fresh : (to c ≡ false) → fresh c ≡ false
-    not_fresh f = fresh_is c ∙ no_first (to c) (not (reached c)) f
+    not_fresh f = fresh_is c ∙ and_left (to c) (not (reached c)) f
 
     fresh_no_more : reached c ≡ true → fresh c ≡ false
-    fresh_no_more r = fresh_is c ∙ no_second (to c) (not (reached c)) (no_not (reached c) r)
+    fresh_no_more r = fresh_is c ∙ and_right (to c) (not (reached c)) (not_from_true (reached c) r)
 
     is_fresh : to c ≡ true → reached c ≡ false → fresh c ≡ true
     is_fresh t f = fresh_is c ∙ and_from (to c) (not (reached c)) t (not_from_false (reached c) f)
@@ -73,10 +61,10 @@ module _ (to reached held rest fresh known free other : ℕ → Bool)
     is_known t r = known_is c ∙ and_from (to c) (reached c) t r
 
     not_known : to c ≡ false → known c ≡ false
-    not_known f = known_is c ∙ no_first (to c) (reached c) f
+    not_known f = known_is c ∙ and_left (to c) (reached c) f
 
     unknown : reached c ≡ false → known c ≡ false
-    unknown f = known_is c ∙ no_second (to c) (reached c) f
+    unknown f = known_is c ∙ and_right (to c) (reached c) f
 
   module _ (shift : ℤ) (cost : ℕ → ℤ) (from : ℕ) (d : ℕ → ℤ) (via : ℕ → ℕ) (d₁ : ℕ → ℤ)
       (via₁ : ℕ → ℕ) (d₂ : ℕ → ℤ) (via₂ : ℕ → ℕ) (d₃ : ℕ → ℤ) (via₃ : ℕ → ℕ) (c : ℕ)
@@ -89,8 +77,8 @@ module _ (to reached held rest fresh known free other : ℕ → Bool)
       passed_by f =
           let n = not_known c f in
           let x = first.others (not_fresh c f) in
-          let y = second.others (no_second (free c) (known c) n) in
-          let z = third.others (no_second (other c) (known c) n) in
+          let y = second.others (and_right (free c) (known c) n) in
+          let z = third.others (and_right (other c) (known c) n) in
           offered_like shift cost from to to reached reached d d via via d d₃ via via₃ c refl
           (λ _. refl) refl refl (z.0 ∙ y.0 ∙ x.0) (z.1 ∙ y.1 ∙ x.1)
           (offered_none shift cost from to reached d via c f)
@@ -99,8 +87,8 @@ module _ (to reached held rest fresh known free other : ℕ → Bool)
           → Offered shift cost from to reached d via d₃ via₃ c
       at_first t f =
           let n = unknown c f in
-          let y = second.others (no_second (free c) (known c) n) in
-          let z = third.others (no_second (other c) (known c) n) in
+          let y = second.others (and_right (free c) (known c) n) in
+          let z = third.others (and_right (other c) (known c) n) in
           offered_like shift cost from fresh to reached reached d d via via d₁ d₃ via₁ via₃ c
           (t ∙ sym (is_fresh c t f)) (λ _. refl) refl refl (z.0 ∙ y.0) (z.1 ∙ y.1) first
 
@@ -108,8 +96,8 @@ module _ (to reached held rest fresh known free other : ℕ → Bool)
           → Offered shift cost from to reached d via d₃ via₃ c
       among_free t r f =
           let x = first.others (fresh_no_more c r) in
-          let z = third.others (no_first (other c) (known c)
-          (other_is c ∙ no_second (rest c) (held c) f)) in
+          let z = third.others (and_left (other c) (known c)
+          (other_is c ∙ and_right (rest c) (held c) f)) in
           let here = and_from (free c) (known c)
           (free_is c ∙ and_from (rest c) (not (held c)) (waiting t) (not_from_false (held c) f))
           (is_known c t r) in
@@ -120,8 +108,8 @@ module _ (to reached held rest fresh known free other : ℕ → Bool)
           → Offered shift cost from to reached d via d₃ via₃ c
       among_held t r h =
           let x = first.others (fresh_no_more c r) in
-          let y = second.others (no_first (free c) (known c)
-          (free_is c ∙ no_second (rest c) (not (held c)) (no_not (held c) h))) in
+          let y = second.others (and_left (free c) (known c)
+          (free_is c ∙ and_right (rest c) (not (held c)) (not_from_true (held c) h))) in
           let here = and_from (other c) (known c)
           (other_is c ∙ and_from (rest c) (held c) (waiting t) h) (is_known c t r) in
           offered_like shift cost from (λ k. other k && known k) to (λ _. true) reached d₂ d via₂

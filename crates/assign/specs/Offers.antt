@@ -2,16 +2,20 @@
 -- nearest.
 use Rattle.std.specs.Prelude.{◌≡◌, ℕ, ◌+◌, ◌<◌, ◌≤◌, Bool, true, false, ◌⊎◌, List, length, ℤ, ◌+ℤ◌}
 use Rattle.std.specs.Prelude.{◌-ℤ◌, ◌≤ℤ◌, ◌<ℤ◌, Option, Some, None}
-use Rattle.cost.specs.declared.TheConstants.{RAIL}
+use Rattle.cost.specs.declared.TheConstants.{COST_LIMIT, RAIL}
 use Rattle.cost.specs.declared.Cost.{Ghosts}
 use Rattle.cost.specs.Columns.{Within}
 use Rattle.cost.specs.Weights.{weight}
-use Rattle.assign.specs.declared.limits.TheConstants.{KEY_LIMIT}
+use Rattle.blockset.specs.Has.{has}
+use Rattle.blockset.specs.declared.TheConstants.{MOST_BLOCKS}
+use Rattle.assign.specs.declared.limits.TheConstants.{KEY_LIMIT, SHIFT_LIMIT}
+use Rattle.assign.specs.declared.search.Offer.{Offer}
 use Rattle.assign.specs.declared.tree.Nearby.{Nearby}
 use Rattle.assign.specs.declared.tree.TwoNearest.{TwoNearest}
 use Rattle.matching.specs.Exchange.{without}
+use Rattle.pairing.specs.Grid.{at}
 use Rattle.tables.specs.Said.{columns_at}
-use Rattle.assign.specs.Weighed.{weight_at}
+use Rattle.assign.specs.Weighed.{weight_at, BoundedOn}
 
 -- The left block `from` offers each right block of `to` the distance `shift` plus what their pair
 -- weighs. One that is reached already takes it if it is less than the distance it has, and any
@@ -23,6 +27,21 @@ pub record Offered (shift : ℤ) (cost : ℕ → ℤ) (from : ℕ) (to reached :
       ⊎ ((d' c ≡ shift +ℤ cost c) × (via' c ≡ from))
   pub most : to c ≡ true → d' c ≤ℤ (shift +ℤ cost c)
   pub less : to c ≡ true → reached c ≡ true → d' c ≤ℤ d c
+
+-- An offer that a search can make: it is to at most 64 right blocks, and no cost of those that it
+-- is made to is beyond COST_LIMIT, nor is what is added to it beyond SHIFT_LIMIT.
+pub record IsModest {K : Type 0} (kind : Ghosts K) (offer : Offer K) : Type 0 where
+  pub few : length offer.costs.now ≤ MOST_BLOCKS
+  pub block : offer.from < MOST_BLOCKS
+  pub costs : BoundedOn kind COST_LIMIT (has offer.to) offer.costs.now
+  pub shift : Within SHIFT_LIMIT (kind.meaning offer.shift)
+
+-- what comes of an offer for right block c: so much of it is made, and these are reached
+abbrev pub IsOffered : {K : Type 0} (kind : Ghosts K) (offer : Offer K) (to reached : ℕ → Bool)
+    (dist dist' : List K) (via via' : List ℕ) → ℕ → Type 0
+IsOffered kind offer to reached dist dist' via via' = Offered (weight (kind.meaning offer.shift))
+    (weight_at kind offer.costs.now) offer.from to reached (weight_at kind dist) (at via)
+    (weight_at kind dist') (at via')
 
 -- a is of the set, and none of the set is less far beyond its price
 pub record Nearest (set : ℕ → Bool) (v d : ℕ → ℤ) (a : ℕ) : Type 0 where

@@ -14,7 +14,7 @@ ghost use Rattle.assign.specs.Weighed.{weight_at, cost_weight, BoundedOn, Search
 ghost use Rattle.assign.specs.Pairs.{CheapestOf, PricedPairing};
 ghost use Rattle.assign.specs.Prices.{Topmost};
 
-use crate::search::{grow, offer};
+use crate::search::{Offer, grow, offer_all};
 use crate::sums::exact_difference;
 use crate::tree::Cheapest;
 use blockset::{BlockSet, SET_WIDTH};
@@ -44,15 +44,13 @@ pub fn price_cheapest<K: Cost>(costs: &[K], rows: &[BlockSet], right: &mut [K]) 
     let mut row = [0u8; SET_WIDTH];
     for l in 0..n {
         let to = rows[l];
-        offer(
-            &costs[l * n..l * n + n],
-            K::zero(),
-            l,
+        let offer = Offer {
+            from: l,
+            costs: &costs[l * n..l * n + n],
+            shift: K::zero(),
             to,
-            priced,
-            &mut row,
-            right,
-        );
+        };
+        offer_all(&offer, priced, &mut row, right);
         priced = priced.union(to);
     }
     Cheapest { priced, row }

@@ -17,8 +17,8 @@ ghost use Rattle.tables.specs.Said.{columns_at, Bounded};
 ghost use Rattle.assign.specs.declared.limits.TheConstants.{DISTANCE_LIMIT, SHIFT_LIMIT};
 ghost use Rattle.assign.specs.declared.limits.TheConstants.{INNER_PRICE_LIMIT};
 ghost use Rattle.assign.specs.Weighed.{weight_at, BoundedOn, SearchTables};
-ghost use Rattle.assign.specs.Offers.{Offered, NearestWithKey, FreeFirst, KeyReach, NearestTwo};
-ghost use Rattle.assign.specs.Offers.{Nearer};
+ghost use Rattle.assign.specs.Offers.{IsOffered, NearestWithKey, FreeFirst, KeyReach, NearestTwo};
+ghost use Rattle.assign.specs.Offers.{Nearer, IsModest};
 ghost use Rattle.assign.specs.Trees.{Grows, GrowsFrom};
 
 use crate::sums::{exact_difference, exact_sum, is_less};
@@ -27,61 +27,42 @@ use blockset::{BlockSet, SET_WIDTH};
 use cost::Cost;
 use matching::{Holders, Reach};
 
-/// Offers each right block of `to` the distance `shift` plus its cost in `costs`, the row of the
-/// left block `from`. One that is reached takes it if it is less than the distance it has, and any
-/// other takes it whatever it is.
-pub fn offer<K: Cost>(
-    costs: &[K],
-    shift: K,
-    from: usize,
-    to: BlockSet,
+/// What a left block offers: to each right block of `to` the distance `shift` plus what the pair
+/// costs by `costs`, the row of the left block.
+#[derive(Drop)]
+pub struct Offer<'a, K> {
+    pub from: usize,
+    pub costs: &'a [K],
+    pub shift: K,
+    pub to: BlockSet,
+}
+
+/// Makes an offer. A right block that is reached takes it if it is less than the distance it has,
+/// and any other takes it whatever it is.
+pub fn offer_all<K: Cost>(
+    offer: &Offer<'_, K>,
     reached: BlockSet,
     via: &mut [u8; SET_WIDTH],
     dist: &mut [K],
 )
-    requires few { length costs.now ≤ MOST_BLOCKS }
-    requires sized { length dist.old ≡ length costs.now }
-    requires block { from < MOST_BLOCKS }
-    requires inside { (c : ℕ) → has to c ≡ true → c < length costs.now }
-    requires modest { BoundedOn K.Cost COST_LIMIT (has to) costs.now }
-    requires near { Within SHIFT_LIMIT (K.meaning shift) }
+    requires modest { IsModest K.Cost offer.now }
+    requires sized { length dist.old ≡ length offer.now.costs.now }
+    requires inside { (c : ℕ) → has offer.now.to c ≡ true → c < length offer.now.costs.now }
     requires known { BoundedOn K.Cost HALF_RAIL (has reached) dist.old }
-    ensures offered { (c : ℕ) → Offered (weight (K.meaning shift)) (weight_at K.Cost costs.now)
-        from (has to) (has reached) (weight_at K.Cost dist.old) (at via.old)
-        (weight_at K.Cost dist.new) (at via.new) c }
-    ensures bound { (b c : ℕ) → Within b (K.meaning shift) → b ≤ SHIFT_LIMIT
-        → (has to c ≡ false → Within (b + COST_LIMIT) (columns_at K.Cost dist.old c))
+    ensures offered { (c : ℕ) → IsOffered K.Cost offer.now (has offer.now.to) (has reached)
+        dist.old dist.new via.old via.new c }
+    ensures bound { (b c : ℕ) → Within b (K.meaning offer.now.shift) → b ≤ SHIFT_LIMIT
+        → (has offer.now.to c ≡ false → Within (b + COST_LIMIT) (columns_at K.Cost dist.old c))
         → (has reached c ≡ true → Within (b + COST_LIMIT) (columns_at K.Cost dist.old c))
         → Within (b + COST_LIMIT) (columns_at K.Cost dist.new c) }
 {
-    for c in to {
-        let way = exact_sum(shift, costs[c]);
+    for c in offer.to {
+        let way = exact_sum(offer.shift, offer.costs[c]);
         if !reached.contains(c) || is_less(way, dist[c]) {
             dist[c] = way;
-            via[c] = from as u8;
+            via[c] = offer.from as u8;
         }
     }
-}
-
-/// The right block of a set whose distance is least beyond its price.
-pub fn nearest<K: Cost>(set: BlockSet, dist: &[K], right: &[K]) -> Option<Nearby<K>>
-    requires sized { length right.now ≡ length dist.now }
-    requires inside { (c : ℕ) → has set c ≡ true → c < length dist.now }
-    requires far { BoundedOn K.Cost DISTANCE_LIMIT (has set) dist.now }
-    requires priced { Bounded K.Cost INNER_PRICE_LIMIT (length dist.now) right.now }
-    ensures { MatchOption result ((c : ℕ) → has set c ≡ false)
-        (NearestWithKey K.Cost (has set) right.now dist.now) }
-{
-    let mut block = set.least()?;
-    let mut least = exact_difference(dist[block], right[block]);
-    for c in set {
-        let key = exact_difference(dist[c], right[c]);
-        if is_less(key, least) {
-            block = c;
-            least = key;
-        }
-    }
-    Some(Nearby { block, key: least })
 }
 
 /// How far a right block is beyond its price.
@@ -95,6 +76,27 @@ fn key_of<K: Cost>(block: usize, dist: &[K], right: &[K]) -> K
     ensures reach { KeyReach K.Cost right.now dist.now block result }
 {
     exact_difference(dist[block], right[block])
+}
+
+/// The right block of a set whose distance is least beyond its price.
+pub fn nearest<K: Cost>(set: BlockSet, dist: &[K], right: &[K]) -> Option<Nearby<K>>
+    requires sized { length right.now ≡ length dist.now }
+    requires inside { (c : ℕ) → has set c ≡ true → c < length dist.now }
+    requires far { BoundedOn K.Cost DISTANCE_LIMIT (has set) dist.now }
+    requires priced { Bounded K.Cost INNER_PRICE_LIMIT (length dist.now) right.now }
+    ensures { MatchOption result ((c : ℕ) → has set c ≡ false)
+        (NearestWithKey K.Cost (has set) right.now dist.now) }
+{
+    let mut block = set.least()?;
+    let mut least = key_of(block, dist, right);
+    for c in set {
+        let key = key_of(c, dist, right);
+        if is_less(key, least) {
+            block = c;
+            least = key;
+        }
+    }
+    Some(Nearby { block, key: least })
 }
 
 /// Two right blocks with their keys, the nearer one first.
@@ -198,78 +200,63 @@ pub fn nearest_free_first<K: Cost>(
     nearer(free, other)
 }
 
-/// Offers right block `c` the distance `shift` plus its cost, if it is one of `to`: it takes that
-/// distance if it is less than the one it has. Answers how far it is then.
+/// Makes an offer to right block `c` alone, which is reached, if it is one of the offer's: it takes
+/// the distance if that is less than the one it has. Answers how far it is then.
 fn offer_one<K: Cost>(
     c: usize,
-    to: BlockSet,
-    costs: &[K],
-    shift: K,
-    from: usize,
+    offer: &Offer<'_, K>,
     via: &mut [u8; SET_WIDTH],
     dist: &mut [K],
 ) -> K
-    requires few { length costs.now ≤ MOST_BLOCKS }
-    requires sized { length dist.old ≡ length costs.now }
-    requires block { from < MOST_BLOCKS }
-    requires inside { c < length costs.now }
-    requires modest { BoundedOn K.Cost COST_LIMIT (has to) costs.now }
-    requires near { Within SHIFT_LIMIT (K.meaning shift) }
+    requires modest { IsModest K.Cost offer.now }
+    requires sized { length dist.old ≡ length offer.now.costs.now }
+    requires inside { c < length offer.now.costs.now }
     requires known { Within HALF_RAIL (columns_at K.Cost dist.old c) }
-    ensures offered { Offered (weight (K.meaning shift)) (weight_at K.Cost costs.now) from (has to)
-        (λ _. true) (weight_at K.Cost dist.old) (at via.old) (weight_at K.Cost dist.new)
-        (at via.new) c }
+    ensures offered { IsOffered K.Cost offer.now (has offer.now.to) (λ _. true) dist.old dist.new
+        via.old via.new c }
     ensures others { (j : ℕ) → j ≢ c
         → (columns_at K.Cost dist.new j ≡ columns_at K.Cost dist.old j)
         × (at via.new j ≡ at via.old j) }
     ensures answer { K.meaning result ≡ columns_at K.Cost dist.new c }
     ensures nearer { (columns_at K.Cost dist.new c ≡ columns_at K.Cost dist.old c)
         ⊎ (weight_at K.Cost dist.new c <ℤ weight_at K.Cost dist.old c) }
-    ensures bound { (b : ℕ) → Within b (K.meaning shift) → b ≤ SHIFT_LIMIT
+    ensures bound { (b : ℕ) → Within b (K.meaning offer.now.shift) → b ≤ SHIFT_LIMIT
         → Within (b + COST_LIMIT) (columns_at K.Cost dist.old c)
         → Within (b + COST_LIMIT) (columns_at K.Cost dist.new c) }
 {
     let far = dist[c];
-    if !to.contains(c) {
+    if !offer.to.contains(c) {
         return far;
     }
-    let way = exact_sum(shift, costs[c]);
+    let way = exact_sum(offer.shift, offer.costs[c]);
     if !is_less(way, far) {
         return far;
     }
     dist[c] = way;
-    via[c] = from as u8;
+    via[c] = offer.from as u8;
     way
 }
 
-/// Offers each right block of `set` that is also one of `to` the distance `shift` plus its cost, as
-/// `offer` does; all of `set` are reached. Answers which one of `set` is nearest then: so each of
-/// them is looked at once.
+/// Makes an offer to those of its right blocks that are in `set`, all of which are reached, as
+/// `offer_all` does. Answers which one of `set` is nearest then: so each of them is looked at once.
 pub fn offer_and_find<K: Cost>(
     set: BlockSet,
-    to: BlockSet,
-    costs: &[K],
-    shift: K,
-    from: usize,
+    offer: &Offer<'_, K>,
     via: &mut [u8; SET_WIDTH],
     dist: &mut [K],
     right: &[K],
 ) -> Option<Nearby<K>>
-    requires few { length costs.now ≤ MOST_BLOCKS }
-    requires sized { length dist.old ≡ length costs.now }
-    requires rights { length right.now ≡ length costs.now }
-    requires block { from < MOST_BLOCKS }
-    requires inside { (c : ℕ) → has set c ≡ true → c < length costs.now }
-    requires modest { BoundedOn K.Cost COST_LIMIT (has to) costs.now }
-    requires near { Within SHIFT_LIMIT (K.meaning shift) }
+    requires modest { IsModest K.Cost offer.now }
+    requires sized { length dist.old ≡ length offer.now.costs.now }
+    requires rights { length right.now ≡ length offer.now.costs.now }
+    requires inside { (c : ℕ) → has set c ≡ true → c < length offer.now.costs.now }
     requires far { BoundedOn K.Cost DISTANCE_LIMIT (has set) dist.old }
-    requires priced { Bounded K.Cost INNER_PRICE_LIMIT (length costs.now) right.now }
-    ensures offered { (c : ℕ) → Offered (weight (K.meaning shift)) (weight_at K.Cost costs.now)
-        from (λ k. has set k && has to k) (λ _. true) (weight_at K.Cost dist.old) (at via.old)
-        (weight_at K.Cost dist.new) (at via.new) c }
+    requires priced { Bounded K.Cost INNER_PRICE_LIMIT (length offer.now.costs.now) right.now }
+    ensures offered { (c : ℕ) → IsOffered K.Cost offer.now (λ k. has set k && has offer.now.to k)
+        (λ _. true) dist.old dist.new via.old via.new c }
     ensures others { (c : ℕ) → has set c ≡ false
         → columns_at K.Cost dist.new c ≡ columns_at K.Cost dist.old c }
-    ensures bound { (b c : ℕ) → Within b (K.meaning shift) → b ≤ SHIFT_LIMIT
+    ensures bound { (b c : ℕ) → Within b (K.meaning offer.now.shift) → b ≤ SHIFT_LIMIT
         → Within (b + COST_LIMIT) (columns_at K.Cost dist.old c)
         → Within (b + COST_LIMIT) (columns_at K.Cost dist.new c) }
     ensures found { MatchOption result ((c : ℕ) → has set c ≡ false)
@@ -278,7 +265,7 @@ pub fn offer_and_find<K: Cost>(
     let mut block = set.least()?;
     let mut lowest = exact_difference(dist[block], right[block]);
     for c in set {
-        let far = offer_one(c, to, costs, shift, from, via, dist);
+        let far = offer_one(c, offer, via, dist);
         let key = exact_difference(far, right[c]);
         if is_less(key, lowest) {
             block = c;
@@ -288,14 +275,10 @@ pub fn offer_and_find<K: Cost>(
     Some(Nearby { block, key: lowest })
 }
 
-/// Offers each right block of `to` the distance `shift` plus its cost, as `offer` does, and answers
-/// which one of `rest` is nearest then; of several such ones a free one, if there is any. Each of
-/// `rest` is reached, or is now.
+/// Makes an offer as `offer_all` does, and answers which one of `rest` is nearest then; of several
+/// such ones a free one, if there is any. Each of `rest` is reached, or is now.
 pub fn offer_and_choose<K: Cost>(
-    costs: &[K],
-    shift: K,
-    from: usize,
-    to: BlockSet,
+    offer: &Offer<'_, K>,
     reached: BlockSet,
     rest: BlockSet,
     held: BlockSet,
@@ -303,22 +286,19 @@ pub fn offer_and_choose<K: Cost>(
     dist: &mut [K],
     right: &[K],
 ) -> Option<Nearby<K>>
-    requires few { length costs.now ≤ MOST_BLOCKS }
-    requires sized { length dist.old ≡ length costs.now }
-    requires rights { length right.now ≡ length costs.now }
-    requires block { from < MOST_BLOCKS }
-    requires inside { (c : ℕ) → has rest c ≡ true → c < length costs.now }
-    requires waiting { (c : ℕ) → has to c ≡ true → has rest c ≡ true }
-    requires come_to { (c : ℕ) → has rest c ≡ true → has to c ≡ false → has reached c ≡ true }
-    requires modest { BoundedOn K.Cost COST_LIMIT (has to) costs.now }
-    requires near { Within SHIFT_LIMIT (K.meaning shift) }
+    requires modest { IsModest K.Cost offer.now }
+    requires sized { length dist.old ≡ length offer.now.costs.now }
+    requires rights { length right.now ≡ length offer.now.costs.now }
+    requires inside { (c : ℕ) → has rest c ≡ true → c < length offer.now.costs.now }
+    requires waiting { (c : ℕ) → has offer.now.to c ≡ true → has rest c ≡ true }
+    requires come_to { (c : ℕ) → has rest c ≡ true → has offer.now.to c ≡ false
+        → has reached c ≡ true }
     requires known { BoundedOn K.Cost DISTANCE_LIMIT (has reached) dist.old }
-    requires priced { Bounded K.Cost INNER_PRICE_LIMIT (length costs.now) right.now }
-    ensures offered { (c : ℕ) → Offered (weight (K.meaning shift)) (weight_at K.Cost costs.now)
-        from (has to) (has reached) (weight_at K.Cost dist.old) (at via.old)
-        (weight_at K.Cost dist.new) (at via.new) c }
-    ensures bound { (b c : ℕ) → Within b (K.meaning shift) → b ≤ SHIFT_LIMIT
-        → (has to c ≡ false → Within (b + COST_LIMIT) (columns_at K.Cost dist.old c))
+    requires priced { Bounded K.Cost INNER_PRICE_LIMIT (length offer.now.costs.now) right.now }
+    ensures offered { (c : ℕ) → IsOffered K.Cost offer.now (has offer.now.to) (has reached)
+        dist.old dist.new via.old via.new c }
+    ensures bound { (b c : ℕ) → Within b (K.meaning offer.now.shift) → b ≤ SHIFT_LIMIT
+        → (has offer.now.to c ≡ false → Within (b + COST_LIMIT) (columns_at K.Cost dist.old c))
         → (has reached c ≡ true → Within (b + COST_LIMIT) (columns_at K.Cost dist.old c))
         → Within (b + COST_LIMIT) (columns_at K.Cost dist.new c) }
     ensures found { MatchOption result ((c : ℕ) → has rest c ≡ false)
@@ -326,13 +306,19 @@ pub fn offer_and_choose<K: Cost>(
         × FreeFirst (has rest) (has held) (weight_at K.Cost right.now)
         (weight_at K.Cost dist.new) near.block) }
 {
-    let fresh = to.difference(reached);
-    offer(costs, shift, from, fresh, reached, via, dist);
-    let known = to.intersection(reached);
+    let fresh = Offer {
+        to: offer.to.difference(reached),
+        ..*offer
+    };
+    offer_all(&fresh, reached, via, dist);
+    let known = Offer {
+        to: offer.to.intersection(reached),
+        ..*offer
+    };
     let free_ones = rest.difference(held);
     let held_ones = rest.intersection(held);
-    let free = offer_and_find(free_ones, known, costs, shift, from, via, dist, right);
-    let other = offer_and_find(held_ones, known, costs, shift, from, via, dist, right);
+    let free = offer_and_find(free_ones, &known, via, dist, right);
+    let other = offer_and_find(held_ones, &known, via, dist, right);
     nearer(free, other)
 }
 
@@ -385,13 +371,18 @@ pub fn grow<K: Cost>(
         let l = holders.row[a] as usize;
         let to = rows[l].difference(taken.reached);
         let row = &costs[l * n..l * n + n];
-        let shift = exact_difference(dist[a], row[a]);
+        let offer = Offer {
+            from: l,
+            costs: row,
+            shift: exact_difference(dist[a], row[a]),
+            to,
+        };
         let reached = seen;
         seen = seen.union(to);
         let rest = seen.difference(taken.reached);
         let held = holders.held;
         let via = &mut taken.from;
-        next = offer_and_choose(row, shift, l, to, reached, rest, held, via, dist, right);
+        next = offer_and_choose(&offer, reached, rest, held, via, dist, right);
     }
     Tree { seen, taken }
 }
@@ -423,6 +414,12 @@ pub fn grow_from<K: Cost>(
     let to = rows[k];
     let row = &costs[k * n..k * n + n];
     let mut via = [0u8; SET_WIDTH];
-    offer(row, K::zero(), k, to, BlockSet::empty(), &mut via, dist);
+    let offer = Offer {
+        from: k,
+        costs: row,
+        shift: K::zero(),
+        to,
+    };
+    offer_all(&offer, BlockSet::empty(), &mut via, dist);
     grow(costs, rows, holders, right, to, via, dist)
 }

@@ -29,24 +29,26 @@ loop-l-init g c =
           (omega (arith, c.requires.rights)),
     )
 
-pub offer-requires : goal.offer-requires
-offer-requires g c =
+pub offer_all-requires : goal.offer_all-requires
+offer_all-requires g c =
     let kind = g.K.Cost in
     let n = length c.args.rows.now in
     let l = c.loop-l.l in
     let lies = c.loop-l-test.true in
     let long = row_length c.args.costs.now n l lies c.requires.lent.square in
     record {
-      few = omega (arith, long, c.requires.lent.few);
+      modest = record {
+        few = omega (arith, long, c.requires.lent.few);
+        block = omega (arith, c.requires.lent.few);
+        costs = λ j r. subst (Within COST_LIMIT)
+            (sym (columns_at_lem kind c.args.costs.now n l lies c.requires.lent.square j
+            (c.requires.lent.inside l j lies r))) (c.requires.lent.modest l j lies r);
+        shift = subst (Within SHIFT_LIMIT)
+            (sym (ap kind.meaning c.zero.ensures ∙ g.met.K.Cost.laws.zero_columns))
+            (zeros_within SHIFT_LIMIT g.K.Cost.columns);
+      };
       sized = omega (arith, long, c.loop-l.auto.right, c.clear.auto.table, c.requires.rights);
-      block = omega (arith, c.requires.lent.few);
       inside = λ j r. omega (arith, long, c.requires.lent.inside l j lies r);
-      modest = λ j r. subst (Within COST_LIMIT)
-          (sym (columns_at_lem kind c.args.costs.now n l lies c.requires.lent.square j
-          (c.requires.lent.inside l j lies r))) (c.requires.lent.modest l j lies r);
-      near = subst (Within SHIFT_LIMIT)
-          (sym (ap kind.meaning c.zero.ensures ∙ g.met.K.Cost.laws.zero_columns))
-          (zeros_within SHIFT_LIMIT g.K.Cost.columns);
       known = λ j t. within_more COST_LIMIT HALF_RAIL (columns_at kind c.loop-l.right j)
           (omega arith) (c.loop-l.invariant.1 j (c.loop-l.invariant.0.inside j t));
     }
@@ -68,9 +70,9 @@ loop-l-preserved g c =
           (λ j. refl)
           (λ j r. c.requires.lent.inside l j lies r)
           (λ j h. ap weight (columns_at_lem kind costs n l lies c.requires.lent.square j h))
-          (has c.union-priced.result) c.union-priced.ensures (at c.offer.new.via)
-          (weight_at kind c.offer.new.dist) c.offer.ensures.offered,
-      λ k h. c.offer.ensures.bound 0 k
+          (has c.union-priced.result) c.union-priced.ensures (at c.offer_all.new.via)
+          (weight_at kind c.offer_all.new.dist) c.offer_all.ensures.offered,
+      λ k h. c.offer_all.ensures.bound 0 k
           (subst (Within 0) (sym zero) (zeros_within 0 g.K.Cost.columns)) (omega arith)
           (λ _. c.loop-l.invariant.1 k h) (λ _. c.loop-l.invariant.1 k h),
     )

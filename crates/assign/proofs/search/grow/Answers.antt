@@ -202,8 +202,8 @@ module _ {K : Type 0} (kind : Ghosts K) (costs dist : List K) (n l a t : ℕ) (f
   shift_within bound = bound (far_at t) COST_LIMIT (dist_within (far_at t) (omega arith))
       (cost_within COST_LIMIT (omega arith)) (omega arith)
 
-pub exact_difference-shift-requires : goal.exact_difference-shift-requires
-exact_difference-shift-requires g c =
+pub exact_difference-requires : goal.exact_difference-requires
+exact_difference-requires g c =
     let n = length c.args.rows.now in
     let a = c.in-Some.near.block in
     let l = at c.args.holders.now.row c.in-Some.near.block in
@@ -254,10 +254,23 @@ offer_and_choose-next-requires g c =
     and_parts (has c.union-seen.result j) (not (has c.insert.new.self j))
     (sym (c.difference-rest.ensures j) ∙ r) in
     record {
-      few = omega (arith, long, c.requires.lent.few);
+      modest = record {
+        few = omega (arith, long, c.requires.lent.few);
+        block = omega (arith, hl, c.requires.lent.few);
+        costs = λ j r. subst (Within COST_LIMIT)
+            (sym (columns_at_lem kind c.args.costs.now n l hl c.requires.lent.square j
+            (c.requires.lent.inside l j hl (stands j r))))
+            (c.requires.lent.modest l j hl (stands j r));
+        shift = within_more (far_at c.loop-t.t + COST_LIMIT) SHIFT_LIMIT
+            (kind.meaning c.exact_difference.result) (omega (arith, c.requires.lent.few))
+            (shift_within g.K.Cost c.args.costs.now c.loop-t.dist n l a c.loop-t.t
+            c.requires.lent.few
+            c.requires.lent.square sized hl ha c.loop-t-test.true c.index-dist-a.result
+            c.index-row-a.result c.exact_difference.result
+            c.index-dist-a.is c.index-row-a.is modest far c.exact_difference.ensures.bound);
+      };
       sized = sized ∙ sym long;
       rights = c.requires.rights ∙ sym long;
-      block = omega (arith, hl, c.requires.lent.few);
       inside = λ j r. omega (
         arith,
         long,
@@ -275,17 +288,6 @@ offer_and_choose-next-requires g c =
           (λ s. absurd (both_ways (has c.difference-to.result j) f s))
           (or_cases (has c.loop-t.seen j) (has c.difference-to.result j)
           (sym (c.union-seen.ensures j) ∙ (rest j r).0));
-      modest = λ j r. subst (Within COST_LIMIT)
-          (sym (columns_at_lem kind c.args.costs.now n l hl c.requires.lent.square j
-          (c.requires.lent.inside l j hl (stands j r))))
-          (c.requires.lent.modest l j hl (stands j r));
-      near = within_more (far_at c.loop-t.t + COST_LIMIT) SHIFT_LIMIT
-          (kind.meaning c.exact_difference-shift.result) (omega (arith, c.requires.lent.few))
-          (shift_within g.K.Cost c.args.costs.now c.loop-t.dist n l a c.loop-t.t
-          c.requires.lent.few
-          c.requires.lent.square sized hl ha c.loop-t-test.true c.index-dist-a.result
-          c.index-row-a.result c.exact_difference-shift.result
-          c.index-dist-a.is c.index-row-a.is modest far c.exact_difference-shift.ensures.bound);
       known = λ j r. within_more (far_at c.loop-t.t) DISTANCE_LIMIT
           (columns_at kind c.loop-t.dist j) (omega (arith, c.requires.lent.few))
           (c.loop-t.invariant.1 j r);
@@ -317,8 +319,8 @@ loop-t-preserved g c =
     let within = shift_within kind c.args.costs.now c.loop-t.dist n l a c.loop-t.t
     c.requires.lent.few
     c.requires.lent.square sized hl ha c.loop-t-test.true c.index-dist-a.result
-    c.index-row-a.result c.exact_difference-shift.result
-    c.index-dist-a.is c.index-row-a.is modest far c.exact_difference-shift.ensures.bound in (
+    c.index-row-a.result c.exact_difference.result
+    c.index-dist-a.is c.index-row-a.is modest far c.exact_difference.ensures.bound in (
       turning_more n (holds c.args.rows.now) (cost_weight kind n c.args.costs.now)
           c.args.holders.now (weight_at kind c.args.right.now) (weight_at kind c.args.dist.now)
           (stage_at_first (has c.args.start)) (at c.args.via)
@@ -327,14 +329,14 @@ loop-t-preserved g c =
           (weight_at kind c.loop-t.dist) c.loop-t.t c.loop-t.invariant.0 a near
           (has c.insert.new.self) taken' c.loop-t.invariant.2 c.requires.lent.few
           l refl held (has c.difference-to.result) (has c.union-seen.result)
-          (λ j _. c.difference-to.ensures j) (weight (kind.meaning c.exact_difference-shift.result))
+          (λ j _. c.difference-to.ensures j) (weight (kind.meaning c.exact_difference.result))
           (weight_at kind (take (l * n + n - l * n) (drop (l * n) c.args.costs.now)))
           (λ j h. ap weight
           (columns_at_lem kind c.args.costs.now n l hl c.requires.lent.square j h))
           (shift_weighs kind c.args.costs.now c.loop-t.dist n l a c.loop-t.t c.requires.lent.few
           c.requires.lent.square sized hl ha c.loop-t-test.true c.index-dist-a.result
-          c.index-row-a.result c.exact_difference-shift.result
-          c.index-dist-a.is c.index-row-a.is modest far c.exact_difference-shift.ensures.sum)
+          c.index-row-a.result c.exact_difference.result
+          c.index-dist-a.is c.index-row-a.is modest far c.exact_difference.ensures.sum)
           c.union-seen.ensures (λ j r. c.requires.lent.inside l j hl (stands j r))
           (at c.offer_and_choose-next.new.via) (weight_at kind c.offer_and_choose-next.new.dist)
           c.offer_and_choose-next.ensures.offered,

@@ -29,22 +29,24 @@ zero-within g b x e =
     subst (Within b) (sym (ap g.K.Cost.meaning e ∙ g.met.K.Cost.laws.zero_columns))
     (zeros_within b g.K.Cost.columns)
 
-pub offer-requires : goal.offer-requires
-offer-requires g c =
+pub offer_all-requires : goal.offer_all-requires
+offer_all-requires g c =
     let kind = g.K.Cost in
     let n = length c.args.rows.now in
     let k = c.args.k in
     let long = row_length c.args.costs.now n k c.requires.room c.requires.lent.square in
     record {
-      few = omega (arith, long, c.requires.lent.few);
+      modest = record {
+        few = omega (arith, long, c.requires.lent.few);
+        block = omega (arith, c.requires.room, c.requires.lent.few);
+        costs = λ j r. subst (Within COST_LIMIT)
+            (sym (columns_at_lem kind c.args.costs.now n k c.requires.room c.requires.lent.square j
+            (c.requires.lent.inside k j c.requires.room r)))
+            (c.requires.lent.modest k j c.requires.room r);
+        shift = zero-within g SHIFT_LIMIT c.zero.result c.zero.ensures;
+      };
       sized = c.requires.dists ∙ sym long;
-      block = omega (arith, c.requires.room, c.requires.lent.few);
       inside = λ j r. omega (arith, long, c.requires.lent.inside k j c.requires.room r);
-      modest = λ j r. subst (Within COST_LIMIT)
-          (sym (columns_at_lem kind c.args.costs.now n k c.requires.room c.requires.lent.square j
-          (c.requires.lent.inside k j c.requires.room r)))
-          (c.requires.lent.modest k j c.requires.room r);
-      near = zero-within g SHIFT_LIMIT c.zero.result c.zero.ensures;
       known = λ j x. absurd (both_ways (has c.empty.result j) (c.empty.ensures j) x);
     }
 
@@ -52,11 +54,11 @@ pub grow-requires : goal.grow-requires
 grow-requires g c = record {
   lent = c.requires.lent;
   rights = c.requires.rights;
-  dists = c.offer.auto.dist ∙ c.requires.dists;
+  dists = c.offer_all.auto.dist ∙ c.requires.dists;
   begins = λ j r. c.requires.lent.inside c.args.k j c.requires.room r;
   holders = c.requires.holders;
   own = c.requires.own;
-  near = λ j r. c.offer.ensures.bound 0 j (zero-within g 0 c.zero.result c.zero.ensures)
+  near = λ j r. c.offer_all.ensures.bound 0 j (zero-within g 0 c.zero.result c.zero.ensures)
       (omega arith) (λ f. absurd (both_ways (holds c.args.rows.now c.args.k j) f r))
       (λ x. absurd (both_ways (has c.empty.result j) (c.empty.ensures j) x));
   priced = c.requires.priced;
@@ -78,8 +80,9 @@ returns g c =
           (weight_at kind (take (k * n + n - k * n) (drop (k * n) c.args.costs.now)))
           (λ j h. ap weight
           (columns_at_lem kind c.args.costs.now n k c.requires.room c.requires.lent.square j h))
-          (weight_at kind c.args.dist.now) (at (replicate 64 0)) (weight_at kind c.offer.new.dist)
-          (at c.offer.new.via) c.offer.ensures.offered);
+          (weight_at kind c.args.dist.now) (at (replicate 64 0))
+          (weight_at kind c.offer_all.new.dist)
+          (at c.offer_all.new.via) c.offer_all.ensures.offered);
       inside = c.grow.ensures.inside;
       bound = c.grow.ensures.bound;
     }

@@ -17,9 +17,8 @@ use Rattle.assign.specs.declared.limits.TheConstants.{DISTANCE_LIMIT, KEY_LIMIT,
 use Rattle.assign.specs.declared.limits.TheConstants.{SHIFT_LIMIT}
 use Rattle.assign.specs.Weighed.{weight_at}
 use Rattle.assign.proofs.Entries.{read_within}
-use Rattle.assign.proofs.Nearing.{nearing_none}
-use Rattle.assign.proofs.Looking.{looking_none, looking_one, looked_keep, looked_take, key_weighs}
-use Rattle.assign.proofs.Looking.{key_reaches}
+use Rattle.assign.proofs.Nearing.{nearing_none, nearing_keep, nearing_take}
+use Rattle.assign.proofs.Looking.{looking_none, looking_one, key_weighs, key_reaches}
 use Rattle.assign.proofs.search.offer_and_find.Goals as goal
 
 pub exact_difference-lowest-requires : goal.exact_difference-lowest-requires
@@ -40,6 +39,7 @@ exact_difference-lowest-requires g c =
 pub loop-c-init : goal.loop-c-init
 loop-c-init g c =
     let kind = g.K.Cost in
+    let offer = c.args.offer.now in
     let i = c.in_ok-block.block in
     let member = c.in_ok-block.ensures.1 in
     let inside = c.requires.inside c.in_ok-block.block member in
@@ -53,8 +53,8 @@ loop-c-init g c =
       tt,
       tt,
       rw c.into_iter-c-iterator.ensures.into_iter_gives
-          (looking_none (kind.meaning c.args.shift) (columns_at kind c.args.costs.now) c.args.from
-          (has c.args.set) (has c.args.to) (columns_at kind c.args.dist.now) (at c.args.via.now)),
+          (looking_none (kind.meaning offer.shift) (columns_at kind offer.costs.now) offer.from
+          (has c.args.set) (has offer.to) (columns_at kind c.args.dist.now) (at c.args.via.now)),
       rw c.into_iter-c-iterator.ensures.into_iter_gives
           (nearing_none (has c.args.set) (weight_at kind c.args.right.now)
           (weight_at kind c.args.dist.now) i
@@ -74,12 +74,9 @@ offer_one-far-requires g c =
     let member = c.loop-c.invariant.3.part i c.in-Some.ensures.steps.member in
     let waits = (c.loop-c.invariant.2.waits i c.in-Some.ensures.steps.member).0 in
     record {
-      few = c.requires.few;
-      sized = c.loop-c.auto.dist ∙ c.requires.sized;
-      block = c.requires.block;
-      inside = c.requires.inside i member;
       modest = c.requires.modest;
-      near = c.requires.near;
+      sized = c.loop-c.auto.dist ∙ c.requires.sized;
+      inside = c.requires.inside i member;
       known = within_more DISTANCE_LIMIT HALF_RAIL (columns_at g.K.Cost c.loop-c.dist i)
           (omega arith) (subst (Within DISTANCE_LIMIT) (sym waits) (c.requires.far i member));
     }
@@ -91,7 +88,7 @@ exact_difference-key-requires g c =
     let member = c.loop-c.invariant.3.part i c.in-Some.ensures.steps.member in
     let waits = (c.loop-c.invariant.2.waits i c.in-Some.ensures.steps.member).0 in
     let inside = c.requires.inside c.in-Some.c member in
-    let far = c.offer_one-far.ensures.bound SHIFT_LIMIT c.requires.near (omega arith)
+    let far = c.offer_one-far.ensures.bound SHIFT_LIMIT c.requires.modest.shift (omega arith)
     (within_more DISTANCE_LIMIT (SHIFT_LIMIT + COST_LIMIT) (columns_at kind c.loop-c.dist i)
     (omega arith) (subst (Within DISTANCE_LIMIT) (sym waits) (c.requires.far i member))) in
     record {
@@ -111,7 +108,7 @@ is_less-requires g c =
     let waits = (c.loop-c.invariant.2.waits i c.in-Some.ensures.steps.member).0 in
     let inside = c.requires.inside c.in-Some.c member in
     let one = c.offer_one-far.ensures in
-    let far = one.bound SHIFT_LIMIT c.requires.near (omega arith)
+    let far = one.bound SHIFT_LIMIT c.requires.modest.shift (omega arith)
     (within_more DISTANCE_LIMIT (SHIFT_LIMIT + COST_LIMIT) (columns_at kind c.loop-c.dist i)
     (omega arith) (subst (Within DISTANCE_LIMIT) (sym waits) (c.requires.far i member))) in
     let reach = key_reaches kind c.offer_one-far.new.dist c.args.right.now i c.offer_one-far.result
@@ -129,13 +126,14 @@ is_less-requires g c =
 pub loop-c-preserved-then-is_less : goal.loop-c-preserved-then-is_less
 loop-c-preserved-then-is_less g c =
     let kind = g.K.Cost in
+    let offer = c.args.offer.now in
     let i = c.in-Some.c in
     let member = c.loop-c.invariant.3.part i c.in-Some.ensures.steps.member in
     let waits = (c.loop-c.invariant.2.waits i c.in-Some.ensures.steps.member).0 in
     let inside = c.requires.inside c.in-Some.c member in
     let in-right : c.in-Some.c < length c.args.right.now = omega (arith, c.requires.rights) in
     let one = c.offer_one-far.ensures in
-    let far = one.bound SHIFT_LIMIT c.requires.near (omega arith)
+    let far = one.bound SHIFT_LIMIT c.requires.modest.shift (omega arith)
     (within_more DISTANCE_LIMIT (SHIFT_LIMIT + COST_LIMIT) (columns_at kind c.loop-c.dist i)
     (omega arith) (subst (Within DISTANCE_LIMIT) (sym waits) (c.requires.far i member))) in
     let reach = key_reaches kind c.offer_one-far.new.dist c.args.right.now i c.offer_one-far.result
@@ -146,13 +144,13 @@ loop-c-preserved-then-is_less g c =
     one.answer c.index-right-c.is c.exact_difference-key.ensures.sum in (
       tt,
       tt,
-      looking_one (kind.meaning c.args.shift) (columns_at kind c.args.costs.now) c.args.from
-          (has c.args.set) (has c.args.to) (columns_at kind c.args.dist.now) (at c.args.via.now)
+      looking_one (kind.meaning offer.shift) (columns_at kind offer.costs.now) offer.from
+          (has c.args.set) (has offer.to) (columns_at kind c.args.dist.now) (at c.args.via.now)
           (has c.loop-c.c-iterator) (has c.next.new.self) i c.in-Some.ensures.steps.others
           c.in-Some.ensures.steps.member member (columns_at kind c.loop-c.dist)
           (at c.loop-c.via) c.loop-c.invariant.2 (columns_at kind c.offer_one-far.new.dist)
           (at c.offer_one-far.new.via) one.others one.offered one.bound,
-      looked_take (has c.args.set) (weight_at kind c.args.right.now) (weight_at kind c.loop-c.dist)
+      nearing_take (has c.args.set) (weight_at kind c.args.right.now) (weight_at kind c.loop-c.dist)
           (weight_at kind c.offer_one-far.new.dist) (has c.loop-c.c-iterator)
           (has c.next.new.self) i c.in-Some.ensures.steps.others c.in-Some.ensures.steps.member
           c.loop-c.block (weight (kind.meaning c.loop-c.lowest)) c.loop-c.invariant.3
@@ -189,6 +187,7 @@ still_there kind dist dist' right block i k k' others nearer is is' le = ⊎_eli
 pub loop-c-preserved : goal.loop-c-preserved
 loop-c-preserved g c =
     let kind = g.K.Cost in
+    let offer = c.args.offer.now in
     let i = c.in-Some.c in
     let member = c.loop-c.invariant.3.part i c.in-Some.ensures.steps.member in
     let inside = c.requires.inside c.in-Some.c member in
@@ -203,13 +202,13 @@ loop-c-preserved g c =
     c.loop-c.invariant.3.is is kept in (
       tt,
       tt,
-      looking_one (kind.meaning c.args.shift) (columns_at kind c.args.costs.now) c.args.from
-          (has c.args.set) (has c.args.to) (columns_at kind c.args.dist.now) (at c.args.via.now)
+      looking_one (kind.meaning offer.shift) (columns_at kind offer.costs.now) offer.from
+          (has c.args.set) (has offer.to) (columns_at kind c.args.dist.now) (at c.args.via.now)
           (has c.loop-c.c-iterator) (has c.next.new.self) i c.in-Some.ensures.steps.others
           c.in-Some.ensures.steps.member member (columns_at kind c.loop-c.dist)
           (at c.loop-c.via) c.loop-c.invariant.2 (columns_at kind c.offer_one-far.new.dist)
           (at c.offer_one-far.new.via) one.others one.offered one.bound,
-      looked_keep (has c.args.set) (weight_at kind c.args.right.now) (weight_at kind c.loop-c.dist)
+      nearing_keep (has c.args.set) (weight_at kind c.args.right.now) (weight_at kind c.loop-c.dist)
           (weight_at kind c.offer_one-far.new.dist) (has c.loop-c.c-iterator)
           (has c.next.new.self) i c.in-Some.ensures.steps.others c.in-Some.ensures.steps.member
           c.loop-c.block (weight (kind.meaning c.loop-c.lowest)) c.loop-c.invariant.3

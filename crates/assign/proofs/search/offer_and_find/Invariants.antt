@@ -16,8 +16,9 @@ abbrev pub invariant-loop-c : goal.invariant-loop-c
 invariant-loop-c g l =
     let kind = g.K.Cost in
     (goal.iterator-loop-c g).can_next l.c-iterator × (goal.iterator-loop-c g).is_finite l.c-iterator
-    × Looking (kind.meaning l.shift) (columns_at kind l.costs) l.from (has l.fn.set) (has l.to)
-    (columns_at kind l.initial.dist) (at l.initial.via) (has l.c-iterator)
+    × Looking (kind.meaning l.offer.shift) (columns_at kind l.offer.costs.now) l.offer.from
+    (has l.fn.set) (has l.offer.to) (columns_at kind l.initial.dist) (at l.initial.via)
+    (has l.c-iterator)
     (columns_at kind l.dist) (at l.via)
     × Nearing (has l.fn.set) (weight_at kind l.right) (weight_at kind l.dist) (has l.c-iterator)
     l.block (weight (kind.meaning l.lowest))

@@ -11,19 +11,21 @@ use Rattle.blockset.specs.Has.{has}
 use Rattle.tables.proofs.Filling.{value_at}
 use Rattle.assign.specs.declared.limits.TheConstants.{SHIFT_LIMIT}
 use Rattle.assign.specs.Weighed.{weight_at}
-use Rattle.assign.proofs.Entries.{put_same, put_other, read_within}
+use Rattle.assign.proofs.Entries.{put_same, put_other, entry_is}
 use Rattle.assign.proofs.search.offer_one.Goals as goal
 
 pub is_less-requires-clause-first : goal.is_less-requires-clause-first
 is_less-requires-clause-first g c =
     let kind = g.K.Cost in
+    let costs = c.args.offer.now.costs.now in
     let i = c.args.c in
+    let member = sym c.contains.ensures ∙ c.if-not-contains.false in
+    let cost-is = entry_is kind costs i c.index-offer-c.result c.requires.inside
+    c.index-offer-c.is in
     within_more (SHIFT_LIMIT + COST_LIMIT) HALF_RAIL (kind.meaning c.exact_sum-way.result)
     (omega arith)
-    (c.exact_sum-way.ensures.bound SHIFT_LIMIT COST_LIMIT c.requires.near
-    (read_within kind COST_LIMIT COST_LIMIT c.args.costs.now i c.index-costs-c.result
-    c.requires.inside c.index-costs-c.is (omega arith)
-    (c.requires.modest i (sym c.contains.ensures ∙ c.if-not-contains.false))) (omega arith))
+    (c.exact_sum-way.ensures.bound SHIFT_LIMIT COST_LIMIT c.requires.modest.shift
+    (subst (Within COST_LIMIT) (sym cost-is) (c.requires.modest.costs i member)) (omega arith))
 
 pub returns : goal.returns
 returns g c =
@@ -34,31 +36,31 @@ returns g c =
     let within-dist : c.args.c < length c.args.dist.now =
     omega (arith, c.requires.sized, c.requires.inside) in
     let here = put_same kind c.args.dist.now i x within-dist in
-    let cost-is = value_at kind c.args.costs.now i c.index-costs-c.result c.requires.inside
-    c.index-costs-c.is in
+    let offer = c.args.offer.now in
+    let cost-is = entry_is kind offer.costs.now i c.index-offer-c.result c.requires.inside
+    c.index-offer-c.is in
     let old = ap weight
     (value_at kind c.args.dist.now i c.index-dist-c.result within-dist c.index-dist-c.is) in
     let new = ap weight here in
     let less = c.is_less.ensures.less c.if-not-is_less.false in
-    let w-here : weight_at kind (set c.args.dist.now i x) i ≡ weight (kind.meaning c.args.shift)
-    +ℤ weight_at kind c.args.costs.now i = new ∙ c.exact_sum-way.ensures.sum
-    ∙ ap (λ z. weight (kind.meaning c.args.shift) +ℤ weight z) cost-is in
+    let w-here : weight_at kind (set c.args.dist.now i x) i ≡ weight (kind.meaning offer.shift)
+    +ℤ weight_at kind offer.costs.now i = new ∙ c.exact_sum-way.ensures.sum
+    ∙ ap (λ z. weight (kind.meaning offer.shift) +ℤ weight z) cost-is in
     record {
       offered = record {
-        others = λ f. absurd (both_ways (has c.args.to i) f member);
-        change = λ _. inr (w-here, get_or-set_same c.args.via.now i c.args.from 0 (omega arith));
+        others = λ f. absurd (both_ways (has offer.to i) f member);
+        change = λ _. inr (w-here, get_or-set_same c.args.via.now i offer.from 0 (omega arith));
         most = λ _. omega (arith, ints, w-here);
         less = λ _ _. omega (arith, ints);
       };
       others = λ j ne. (
         put_other kind c.args.dist.now i j x ne,
-        get_or-set_other c.args.via.now i j c.args.from 0 ne,
+        get_or-set_other c.args.via.now i j offer.from 0 ne,
       );
       answer = sym here;
       nearer = inr (omega (arith, ints));
       bound = λ b s le _. subst (Within (b + COST_LIMIT)) (sym here)
           (c.exact_sum-way.ensures.bound b COST_LIMIT s
-          (read_within kind COST_LIMIT COST_LIMIT c.args.costs.now i c.index-costs-c.result
-          c.requires.inside c.index-costs-c.is (omega arith) (c.requires.modest i member))
+          (subst (Within COST_LIMIT) (sym cost-is) (c.requires.modest.costs i member))
           (omega arith));
     }
