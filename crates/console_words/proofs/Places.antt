@@ -1,14 +1,14 @@
--- Places in a row: what fits, fails or is too long for two rows one after the other.
+-- Places in a row: what fits or is too long for two rows one after the other.
 -- Idea: by the places of the first row, one after the other.
-use Rattle.std.proofs.Common.{◌≡◌, ◌≢◌, ℕ, List, [], ◌∷◌, ◌++◌, ap, sym, ◌∙◌, refl, inl, inr}
+use Rattle.std.proofs.Common.{◌≡◌, ◌≢◌, ℕ, List, [], ◌∷◌, ◌++◌, ap, sym, ◌∙◌, refl}
 use Rattle.std.proofs.Common.{append_assoc, ⊎_elim, false, subst, arith}
 use Rattle.std.proofs.lemmas.Bool.{cases_Bool, cond-false, eqb-true}
 use Rattle.std.specs.Prelude.{ℤ, pos, neg_ℤ, map, ◌==◌}
 use Rattle.std.specs.Str.Parse.{IsNumeral, digits_value}
 use Rattle.std.specs.Str.Parse.{without_leading_plus, without_leading_sign}
 use Rattle.console_words.specs.declared.complaint.Complaint.{Complaint}
-use Rattle.console_words.specs.Forms.{Slot, Fits, AllFit, Fails, IsTooLong, IsTooMany, Takes}
-use Rattle.console_words.specs.Forms.{a_block, a_number, number_told}
+use Rattle.console_words.specs.Forms.{Slot, Fits, AllFit, IsTooLong, IsTooMany, Takes}
+use Rattle.console_words.specs.Forms.{a_block, number_told}
 use Rattle.console_words.specs.Sizing.{number_in}
 
 all_fit_more : (ss ts : List Slot) (xs ys : List (List ℕ)) → AllFit ss xs → AllFit ts ys
@@ -31,27 +31,6 @@ takes_more ss ts old mid new xs ys a b = (
   all_fit_more ss ts a.0 b.0 a.2 b.2,
   ap (λ zs. zs ++ ys) a.3 ∙ ap (λ zs. map number_told a.0 ++ zs) b.3 ∙ sym (map_more a.0 b.0),
 )
-
--- the first row fails
-pub fails_front : (form : List ℕ) (ss ts : List Slot) (ws : List (List ℕ)) (c : Complaint)
-    → Fails form ss ws c → Fails form (ss ++ ts) ws c
-fails_front form [] ts ws c f = absurd f
-fails_front form (s ∷ ss) ts [] c f = f
-fails_front form (s ∷ ss) ts (w ∷ ws) c (inl f) = inl f
-fails_front form (s ∷ ss) ts (w ∷ ws) c (inr f) = inr (f.0, fails_front form ss ts ws c f.1)
-
--- the first row is filled, and the second fails
-fails_then : (form : List ℕ) (ss ts : List Slot) (xs ws : List (List ℕ)) (c : Complaint)
-    → AllFit ss xs → Fails form ts ws c → Fails form (ss ++ ts) (xs ++ ws) c
-fails_then form [] ts [] ws c a f = f
-fails_then form [] ts (x ∷ xs) ws c a f = absurd a
-fails_then form (s ∷ ss) ts [] ws c a f = absurd a
-fails_then form (s ∷ ss) ts (x ∷ xs) ws c a f = inr (a.0, fails_then form ss ts xs ws c a.1 f)
-
-pub fails_behind : (form : List ℕ) (ss ts : List Slot) (old mid : List (List ℕ)) (xs : List ℤ)
-    (c : Complaint) → Takes ss old mid xs → Fails form ts mid c → Fails form (ss ++ ts) old c
-fails_behind form ss ts old mid xs c a f =
-    rw a.1 (fails_then form ss ts a.0 mid c a.2 f)
 
 long : (form : List ℕ) (ss : List Slot) (xs ws : List (List ℕ)) (c : Complaint)
     → AllFit ss xs → ws ≢ [] → IsTooMany form c → IsTooLong form ss (xs ++ ws) c
@@ -89,7 +68,3 @@ takes_block old new word n e fits is = (
   (fits, tt),
   ap (λ z. z ∷ []) (ap pos is ∙ sym (unsigned word fits.0)),
 )
-
-pub takes_number : (old new : List (List ℕ)) (word : List ℕ) (z : ℤ) → old ≡ word ∷ new
-    → Fits a_number word → z ≡ number_told word → Takes (a_number ∷ []) old new (z ∷ [])
-takes_number old new word z e fits is = (word ∷ [], e, (fits, tt), ap (λ z. z ∷ []) is)

@@ -10,7 +10,7 @@ ghost use Rattle.matching.specs.Answers.{PairsMost};
 
 use crate::chains::{Bounds, Holders, exchange, search};
 use crate::fitting::Unfit;
-use blockset::{BlockSet, MOST_BLOCKS, SET_WIDTH};
+use blockset::{BlockSet, MOST_BLOCKS};
 
 /// What `largest` finds.
 #[derive(Clone, Copy, Debug, PartialEq, Eq)]
@@ -78,10 +78,7 @@ pub fn pair_most(rows: &[BlockSet], p: &mut [u16]) -> Found
 {
     let all = BlockSet::all(rows.len());
     let mut out = all;
-    let mut holders = Holders {
-        held: BlockSet::empty(),
-        row: [0; SET_WIDTH],
-    };
+    let mut holders = Holders::new();
     'rounds: loop {
         let goals = all.difference(holders.held);
         let bounds = Bounds {

@@ -2,9 +2,9 @@
 //! right block of its row, on to the left block that has that right block, and so on.
 
 ghost use Rattle.std.specs.Prelude.{◌≡◌, ℕ, ◌<◌, ◌≤◌, true, false, ◌||◌, length, IfSome, IfNone};
-ghost use Rattle.std.specs.Prelude.{◌==◌, ◌≢◌, ◌+◌, List};
+ghost use Rattle.std.specs.Prelude.{◌==◌, ◌≢◌, ◌+◌};
 ghost use Rattle.blockset.specs.declared.TheConstants.{MOST_BLOCKS, SET_WIDTH};
-ghost use Rattle.blockset.specs.Has.{has};
+ghost use Rattle.blockset.specs.Has.{has, IsEmpty};
 ghost use Rattle.pairing.specs.Grid.{at};
 ghost use Rattle.matching.specs.Exchange.{without, GivesDistinct, Holding, HeldFrom, Ways};
 ghost use Rattle.matching.specs.Exchange.{Exchanged};
@@ -22,7 +22,7 @@ pub struct Holders {
 impl Holders {
     /// Holders that tell of no left block yet.
     pub(crate) fn new() -> Holders
-        ensures { (k : ℕ) (p : List ℕ) → length p ≤ k → HeldFrom k p result }
+        ensures { IsEmpty result.held }
     {
         Holders {
             held: BlockSet::empty(),

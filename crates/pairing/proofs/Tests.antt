@@ -3,9 +3,10 @@
 -- Idea: everything that is said of a grid's blocks is said of finitely many, so a test can go
 -- through them; where it passes, the fact holds.
 use Rattle.std.proofs.Common.{◌≡◌, ℕ, ◌<◌, Bool, true, false, not, ◌&&◌, ◌||◌, eqb, ltb, leb, List}
-use Rattle.std.proofs.Common.{length, ℤ, Decides, Ordering, Less, Equal, Greater, sym, refl, subst}
+use Rattle.std.proofs.Common.{length, ℤ, Decides, sym, refl, subst}
 use Rattle.std.proofs.Common.{inl, inr}
 use Rattle.std.specs.Ordering.{is_eq}
+use Rattle.std.specs.Cmp.{Equal-is}
 use Rattle.std.proofs.lemmas.Bool.{and_parts, or_cases, eqb-true, leb-true, ltb-true, both_ways}
 use Rattle.std.proofs.lemmas.Bool.{true≢false, not-true}
 use Rattle.cost.specs.Columns.{within, zeros, plus, lex}
@@ -34,15 +35,10 @@ implied a b e t = elim (or_cases (not a) b e)
 abbrev level : List ℤ → List ℤ → Bool
 level xs ys = eqb (length xs) (length ys) && is_eq (lex xs ys)
 
-is_equal : (o : Ordering) → is_eq o ≡ true → o ≡ Equal
-is_equal Less e = absurd (true≢false (sym e))
-is_equal Equal e = refl
-is_equal Greater e = absurd (true≢false (sym e))
-
 level_same : (xs ys : List ℤ) → level xs ys ≡ true → xs ≡ ys
 level_same xs ys e =
     let b = and_parts (eqb (length xs) (length ys)) (is_eq (lex xs ys)) e in
-    lex_same xs ys (eqb-true (length xs) (length ys) b.0) (is_equal (lex xs ys) b.1)
+    lex_same xs ys (eqb-true (length xs) (length ys) b.0) ((Equal-is (lex xs ys)).0 b.1)
 
 -- ---- a sane grid
 abbrev sane_pair : Grid → ℕ → ℕ → Bool

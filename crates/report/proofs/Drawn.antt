@@ -25,7 +25,7 @@ use Rattle.report.specs.Mapping.{map_text}
 use Rattle.report.specs.Drawing.{grid_view, map_over, map_of}
 use Rattle.report.proofs.Described.{cost_shown}
 use Rattle.report.proofs.Lines.{up_same}
-use Rattle.report.proofs.Listed.{nth_optimum}
+use Rattle.matching.proofs.Nth.{nth_optimum}
 
 -- ---- A map is made of its cells
 

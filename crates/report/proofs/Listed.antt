@@ -7,12 +7,12 @@ use Rattle.std.proofs.Common.{append_assoc, arith}
 use Rattle.std.specs.List.{AllPairs}
 use Rattle.std.proofs.lemmas.List.{take_more, take_all, flat_map_more}
 use Rattle.std.proofs.lemmas.Bool.{cases_lt, cond-true, cond-false, lt-ltb, le-ltb}
-use Rattle.pairing.specs.Grid.{Grid, total, Optimum}
+use Rattle.pairing.specs.Grid.{Grid, total}
 use Rattle.pairing.specs.Optima.{optima}
 use Rattle.pairing.specs.Theorems.{AlikeInside}
 use Rattle.pairing.proofs.Listing.{optima_are}
 use Rattle.matching.specs.Answers.{IsNth, Follows}
-use Rattle.matching.proofs.Nth.{contains_nth}
+use Rattle.matching.proofs.Nth.{nth_optimum}
 use Rattle.matching.specs.declared.stepping.Step.TheVariants.{Next, End}
 use Rattle.report.specs.Listing.{pairing_line, pairing_lines, total_line}
 use Rattle.report.specs.Listing.{listed, listing_over, listing_text}
@@ -85,9 +85,6 @@ module _ (g : Grid) where
 
   pub optima_distinct : AllPairs ◌≢◌ (optima g)
   optima_distinct = (optima_are true g).list.distinct
-
-  pub nth_optimum : (k : ℕ) (p : List ℕ) → IsNth (optima g) k p → Optimum g p
-  nth_optimum k p h = ((optima_are true g).list.are p).0 (contains_nth (optima g) k p h)
 
   pub listing_first : (p text : List ℕ) → IsNth (optima g) 0 p
       → text ≡ total_line (total g p) ++ listed (optima g) → text ≡ listing_text g

@@ -16,8 +16,8 @@ use std::io::Read;
 /// An input is cut at this many bytes.
 pub const MOST_BYTES: u64 = 65_536;
 
-// The bytes of an input, up to the cut.
-fn read_input<R: Read + Drop>(heap: Global, reader: R) -> io::Result<Vec<u8>>
+/// The bytes of an input, up to the cut. An error is the reader's, or want of memory.
+pub fn read_input<R: Read + Drop>(heap: Global, reader: R) -> io::Result<Vec<u8>>
     ensures { IfOk result (λ file. IfSome (R.remaining reader)
         (λ bytes. file.items ≡ take MOST_BYTES bytes)) }
 {

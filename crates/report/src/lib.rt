@@ -21,7 +21,7 @@ mod words;
 use cost::Plain;
 pub use draw_file::draw;
 pub use form::Form;
-pub use input::{MOST_BYTES, describe_input, draw_input, list_input};
+pub use input::{MOST_BYTES, describe_input, draw_input, list_input, read_input};
 pub use list_file::list;
 use orderfile::loading::{check, load};
 pub use pairing_lines::{MOST_PAIRINGS, cause_line, push_pairing_line, push_total_line};

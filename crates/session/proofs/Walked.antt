@@ -14,7 +14,7 @@ use Rattle.matching.specs.declared.stepping.Step.{Step}
 use Rattle.matching.specs.declared.stepping.Step.TheVariants.{Next as Onward, End}
 use Rattle.tables.specs.Lent.{grid, HasLengths}
 use Rattle.tables.specs.Together.{Together}
-use Rattle.walk.proofs.Walking.{nth_optimum}
+use Rattle.matching.proofs.Nth.{nth_optimum}
 use Rattle.sheet.specs.declared.fault.Fault.{Fault}
 use Rattle.sheet.specs.Needs.{Responds}
 use Rattle.sheet.specs.Size.{Sheet, size_of}

@@ -1,6 +1,6 @@
 -- What one call of a run, and a whole run, answer and leave in the tables.
 use Rattle.std.specs.Prelude.{◌≡◌, ℕ, ◌≤◌, false, ◌⊎◌, List, [], ◌∷◌, length, take, Ok, Err, Some}
-use Rattle.std.specs.Prelude.{None, Option, Result, Contains, MatchOption, MatchResult}
+use Rattle.std.specs.Prelude.{None, Option, Result, All, Contains, MatchOption, MatchResult}
 use Rattle.std.specs.declared.alloc.AllocError.{AllocError}
 use Rattle.std.specs.declared.alloc.Global.{Global}
 use Rattle.std.specs.declared.vec.Vec.{Vec}
@@ -175,11 +175,13 @@ module _ {K : Type 0} (kind : Ghosts K) where
     pub right : lengths old ≡ right_lengths n
     pub long : lengths new ≡ lengths old
 
-  -- every call is made; or none is, and the tables are as they were; or memory ran out after some
+  -- every call is made; or none is, and the tables are as they were; or memory ran out after some.
+  -- A call that is handed more than is lent comes before a sheet that cannot be opened.
   abbrev pub Runs : ℕ → (old : Tables K) → List (Call K)
       → Result (Vec (Answer K) Global) (Stopped K) → (new : Tables K) → Type 0
   Runs n old calls (Ok answers) new = WereMade n calls answers.items new
-  Runs n old calls (Err (Sheet f)) new = IsNoSheet n (lengths old) f × (new ≡ old)
+  Runs n old calls (Err (Sheet f)) new = IsNoSheet n (lengths old) f
+      × All (λ call. IsWithin call.handed (lengths old)) calls × (new ≡ old)
   Runs n old calls (Err NotLent) new = ((call : Call K) × Contains calls call
       × (IsWithin call.handed (lengths old) → ⊥)) × (new ≡ old)
   Runs n old calls (Err (Memory answers)) new =

@@ -88,11 +88,6 @@ strike_stands n costs bytes l r byte e =
     (first_of ((not (says_stands byte), fault Absent 0) ∷ [])) none in
     not-false (says_stands byte) (cleared (not (says_stands byte)) (fault Absent 0) None whole.1).0
 
-pub enter_accepts : (n costs bytes l r : ℕ) (fits : Bool) → Placed n costs bytes l r → fits ≡ true
-    → enter_refusal n costs bytes l r fits ≡ None
-enter_accepts n costs bytes l r fits h hf = enter_goes_on n costs bytes l r fits
-    (placement_passes n costs bytes l r h) ∙ ap (λ b. first_of (cost_checks b)) hf
-
 pub standing_checks_lem : (byte : ℕ) (d s : Bool) → says_disturbed byte ≡ d → says_stands byte ≡ s
     → first_of (standing_checks byte) ≡ cond d (Some (fault Inconsistent 0))
     (cond (not s) (Some (fault Absent 0)) None)

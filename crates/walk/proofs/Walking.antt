@@ -2,24 +2,20 @@
 -- one.
 -- Idea: what is said of one list is said of the other, and what stands in the list of the optimum
 -- pairings is one of them.
-use Rattle.std.proofs.Common.{ℕ, ◌+◌, List, length, true, sym, subst}
+use Rattle.std.proofs.Common.{ℕ, ◌+◌, List, length, sym, subst}
 use Rattle.blockset.specs.declared.BlockSet.{BlockSet}
 use Rattle.cost.specs.declared.Cost.{Ghosts}
 use Rattle.pairing.specs.Grid.{Grid, Optimum}
 use Rattle.pairing.specs.Optima.{optima}
 use Rattle.pairing.specs.Rows.{pairings}
-use Rattle.pairing.proofs.Listing.{optima_are}
-use Rattle.matching.specs.Answers.{IsNth, Follows, MarksOf}
+use Rattle.matching.specs.Answers.{Follows, MarksOf}
 use Rattle.matching.specs.declared.stepping.Step.{Step}
 use Rattle.matching.specs.declared.stepping.Step.TheVariants.{Next, End}
-use Rattle.matching.proofs.Nth.{contains_nth}
+use Rattle.matching.proofs.Nth.{nth_optimum}
 use Rattle.tables.specs.Lent.{Lent, grid}
 use Rattle.walk.specs.Certified.{Certified}
 
 -- what a walk leaves in its list is an optimum pairing
-pub nth_optimum : (g : Grid) (i : ℕ) (q : List ℕ) → IsNth (optima g) i q → Optimum g q
-nth_optimum g i q h = ((optima_are true g).list.are q).0 (contains_nth (optima g) i q h)
-
 pub step_optimum : (g : Grid) (before after : List ℕ) (s : Step)
     → Follows (optima g) before after s → Optimum g after
 step_optimum g before after Next h = nth_optimum g (h.0 + 1) after h.2

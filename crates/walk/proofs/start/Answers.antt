@@ -4,7 +4,7 @@ use Rattle.std.proofs.Common.{subst, ap, ◌∙◌}
 use Rattle.pairing.specs.Rows.{pairings}
 use Rattle.matching.specs.Answers.{IsNth}
 use Rattle.tables.specs.Said.{grid_of}
-use Rattle.walk.proofs.Walking.{nth_optimum}
+use Rattle.matching.proofs.Nth.{nth_optimum}
 use Rattle.walk.proofs.start.Goals as goal
 
 pub returns-clause-first : goal.returns-clause-first

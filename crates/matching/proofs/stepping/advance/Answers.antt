@@ -5,6 +5,7 @@ use Rattle.blockset.specs.Has.{has}
 use Rattle.pairing.specs.Optima.{Before}
 use Rattle.pairing.specs.Rows.{Pairs}
 use Rattle.matching.specs.Improving.{WantedFrom}
+use Rattle.matching.proofs.Held.{held_start}
 use Rattle.matching.proofs.Order.{Next, Exhausted, exhausted_start, exhausted_more, next_is}
 use Rattle.matching.proofs.Order.{wanted_more}
 use Rattle.matching.proofs.Places.{placed, next_place, last_place}
@@ -14,7 +15,8 @@ pub loop-l-init : goal.loop-l-init
 loop-l-init c = (
   refl,
   exhausted_start c.args.rows.now c.args.p.now c.requires.pairs,
-  c.new-holders.ensures (length c.args.rows.now) c.args.p.now (omega (arith, c.requires.pairs.len)),
+  held_start (length c.args.p.now) (length c.args.rows.now) c.args.p.now
+      (has c.new-holders.result.held) _ (omega (arith, c.requires.pairs.len)) c.new-holders.ensures,
   λ m r i j. absurd (omega arith),
 )
 

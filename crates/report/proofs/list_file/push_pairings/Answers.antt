@@ -6,7 +6,8 @@ use Rattle.tables.specs.Lent.{grid}
 use Rattle.orderfile.specs.Loading.{plain_kind}
 use Rattle.report.specs.Listing.{listed, pairing_lines}
 use Rattle.report.proofs.Lines.{written}
-use Rattle.report.proofs.Listed.{line_more, listed_whole, listed_part, nth_optimum}
+use Rattle.report.proofs.Listed.{line_more, listed_whole, listed_part}
+use Rattle.matching.proofs.Nth.{nth_optimum}
 use Rattle.report.proofs.Listed.{optima_distinct, place_next, place_last}
 use Rattle.report.proofs.list_file.push_pairings.Goals as goal
 
