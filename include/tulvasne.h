@@ -1,5 +1,5 @@
 /*
- * The pairing core for a host in C: lists the least-cost pairings of the sheet in an order file.
+ * The pairing core for a host in C: lists the optimum pairings of the sheet in an order file.
  *
  *     uint8_t out[TULVASNE_MOST_BLOCKS];
  *     uint32_t answer = tulvasne_first(file, file_len, out, sizeof out);

@@ -1,6 +1,6 @@
 //! A whole caller: it lends tables for three blocks a plane, enters costs, settles, and prints the
-//! total, the pairs that occur in any least-cost pairing, and all of these pairings; then it
-//! strikes a pair and settles again.
+//! total, the pairs that occur in any optimum pairing, and all of these pairings; then it strikes a
+//! pair and settles again.
 #![tactic(auto)]
 
 use cost::Plain;

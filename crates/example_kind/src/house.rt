@@ -17,7 +17,7 @@ pub struct Block {
     pub class: u8,
 }
 
-/// What a pair costs. The third step is the rule of the house: a pair costs the distance of its
+/// What a pair costs. The third column is the rule of the house: a pair costs the distance of its
 /// blocks' wear classes, so that among plans of equal time and wear the one wins that mixes
 /// classes least.
 #[derive(Clone, Copy, PartialEq, Eq, Debug)]

@@ -1,5 +1,6 @@
-//! Two cost kinds as a buyer would write them, in a crate of their own: `Programming` is a time and
-//! a wear; `HouseCost` has a third step, and a constructor that makes it from measured figures.
+//! Two cost kinds as a maker of controllers would write them, in a crate of their own:
+//! `Programming` is a time and a wear; `HouseCost` has a third column, and a constructor that makes
+//! it from measured figures.
 #![tactic(auto)]
 
 ghost use Rattle.std.specs.Prelude.{[], ◌∷◌, pos};

@@ -11,6 +11,7 @@ use example_kind::HouseCost;
 use report::{meaning, remedy};
 use sheet::{Fault, OpenSheet, Refusal, SettledSheet, Shortfall, Step, open};
 use std::alloc::Global;
+use tables::{place, places, stands};
 
 /// How many pairings are printed at most.
 const MOST_PAIRINGS: usize = 10;
@@ -51,13 +52,13 @@ fn in_words(fault: Fault) -> anyhow::Error {
 
 impl Tables {
     fn new(heap: Global, n: u16) -> anyhow::Result<Tables> {
-        let n = n as usize;
+        let (pairs, blocks) = (places(n), n as usize);
         Ok(Tables {
-            costs: vec![in heap; HouseCost::zero(); n * n]?,
-            standing: vec![in heap; 0u8; n * n]?,
-            partners: vec![in heap; 0u16; n]?,
-            left: vec![in heap; HouseCost::zero(); n]?,
-            right: vec![in heap; HouseCost::zero(); n]?,
+            costs: vec![in heap; HouseCost::zero(); pairs]?,
+            standing: vec![in heap; 0u8; pairs]?,
+            partners: vec![in heap; 0u16; blocks]?,
+            left: vec![in heap; HouseCost::zero(); blocks]?,
+            right: vec![in heap; HouseCost::zero(); blocks]?,
         })
     }
 }
@@ -176,12 +177,13 @@ impl Plan {
 
     // What the map shows of a pair.
     fn cell(&self, marks: &[u8], left: u16, right: u16) -> &'static str {
-        let at = left as usize * self.settled.size() as usize + right as usize;
-        let stands = self.tables.standing.as_slice().get(at).copied();
-        match (stands, marks.get(at).copied()) {
-            (Some(1), Some(1)) => "*",
-            (Some(1), _) => ".",
-            _ => "-",
+        let at = place(self.settled.size(), left, right);
+        let byte = self.tables.standing.as_slice().get(at);
+        let measured = byte.is_some_and(|byte| stands(*byte));
+        match (measured, marks.get(at).copied()) {
+            (true, Some(1)) => "*",
+            (true, _) => ".",
+            (false, _) => "-",
         }
     }
 

@@ -7,10 +7,9 @@ mod ladder;
 mod solved;
 mod table;
 
-use report::{MOST_BYTES, explain};
+use report::{explain, read_input};
 use solved::{Trouble, solve};
 use std::env;
-use std::io::Read;
 use std::process::ExitCode;
 
 const HELP: &str = "\
@@ -30,8 +29,7 @@ const USAGE: u8 = 2;
 
 fn draw_input(rt: &HostRuntime) -> anyhow::Result<ExitCode> {
     let heap = rt.alloc();
-    let mut file = Vec::new(heap);
-    rt.stdin().take(MOST_BYTES).read_to_end(&mut file)?;
+    let file = read_input(heap, rt.stdin())?;
     match solve(heap, file.as_slice()) {
         Ok(solved) => {
             rt.print(canvas::draw(heap, &solved)?)?;

@@ -3,10 +3,10 @@
 //! whether it is refused, and by which number; refused, it leaves every table as it was.
 
 use crate::bench::Bench;
+use crate::book::fault;
 use crate::disturbance::{DISTURBANCES, Disturbance};
 use crate::kinds::Trial;
 use crate::lent_tables::Lent;
-use crate::paper::fault;
 use crate::plain_sheet::Sheet;
 use crate::solution::{Optimum, Solution, solve};
 use crate::tally::Tally;

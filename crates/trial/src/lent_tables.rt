@@ -1,8 +1,8 @@
 //! The tables that are lent to the calls on a sheet, and what is to be said of them by definition.
 
+use crate::book::COST_LIMIT;
 use crate::kinds::Trial;
-use crate::paper::COST_LIMIT;
-use crate::plain_sheet::{Sheet, pair_at, pairs};
+use crate::plain_sheet::{Sheet, pair_at, pairs, place};
 use crate::prices::price;
 use std::alloc::{AllocError, Global};
 
@@ -70,9 +70,9 @@ impl<K: Trial> Lent<K> {
         if right >= self.n {
             return None;
         }
-        let place = usize::from(left) * usize::from(self.n) + usize::from(right);
-        match self.standing.get(place) {
-            Some(1) => self.costs.get(place).copied(),
+        let at = place(self.n, left, right);
+        match self.standing.get(at) {
+            Some(1) => self.costs.get(at).copied(),
             _ => None,
         }
     }

@@ -1,9 +1,9 @@
 //! Random lists of calls on one sheet.
 
 use crate::bench::Bench;
+use crate::book::{fault, right_lengths};
 use crate::draw::{Costs, Draw};
 use crate::kinds::Trial;
-use crate::paper::{fault, right_lengths};
 use crate::script::Script;
 use anyhow::ensure;
 use session::{Act, Call, Lengths, SheetTables, Stopped, run};

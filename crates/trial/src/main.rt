@@ -6,6 +6,7 @@
 #![tactic(auto)]
 
 mod bench;
+mod book;
 mod disturbance;
 mod disturbed;
 mod draw;
@@ -13,7 +14,6 @@ mod kinds;
 mod lent_tables;
 mod lists;
 mod orders;
-mod paper;
 mod plain_sheet;
 mod prices;
 mod script;

@@ -1,4 +1,4 @@
-//! A sheet as a page of paper: the cost of each pair that stands.
+//! A sheet as plain cells: the cost of each pair that stands.
 
 use crate::draw::{Draw, Rules};
 use crate::kinds::{Columns, Trial};
@@ -18,6 +18,11 @@ pub struct Sheet<K: Trial> {
 /// How many pairs n left and n right blocks have.
 pub fn pairs(n: u16) -> usize {
     usize::from(n) * usize::from(n)
+}
+
+/// The place of a pair, row by row.
+pub fn place(n: u16, left: u16, right: u16) -> usize {
+    usize::from(left) * usize::from(n) + usize::from(right)
 }
 
 /// The left and the right block of the pair at a place.
@@ -68,14 +73,13 @@ impl<K: Trial> Sheet<K> {
         base.saturating_pow(u32::from(n) * u32::from(n))
     }
 
-    fn place(&self, left: u16, right: u16) -> usize {
-        usize::from(left) * usize::from(self.n) + usize::from(right)
-    }
-
     /// The cost of a pair that stands.
     pub fn cell(&self, left: u16, right: u16) -> Option<K> {
         if right < self.n {
-            self.cells.get(self.place(left, right)).copied().flatten()
+            self.cells
+                .get(place(self.n, left, right))
+                .copied()
+                .flatten()
         } else {
             None
         }
@@ -83,8 +87,7 @@ impl<K: Trial> Sheet<K> {
 
     /// Writes a pair's cost, or that it is absent.
     pub fn put(&mut self, left: u16, right: u16, cell: Option<K>) {
-        let place = self.place(left, right);
-        if let Some(old) = self.cells.get_mut(place) {
+        if let Some(old) = self.cells.get_mut(place(self.n, left, right)) {
             *old = cell;
         }
     }

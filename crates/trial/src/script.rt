@@ -1,8 +1,8 @@
 //! A list of calls with the answers that the plain book tells, and their comparison with a run.
 
+use crate::book::{Book, right_lengths};
 use crate::kinds::Trial;
 use crate::orders::Orders;
-use crate::paper::{Paper, right_lengths};
 use crate::tally::Tally;
 use anyhow::{anyhow, ensure};
 use session::{Act, Answer, Call, Lengths, SheetTables, run};
@@ -14,7 +14,7 @@ pub struct Script<K: Trial> {
     pub n: u16,
     calls: Vec<Call<K>>,
     answers: Vec<Answer<K>>,
-    pub paper: Paper<K>,
+    pub book: Book<K>,
 }
 
 impl<K: Trial> Script<K> {
@@ -24,7 +24,7 @@ impl<K: Trial> Script<K> {
             n,
             calls: Vec::new(heap),
             answers: Vec::new(heap),
-            paper: Paper::open(heap, n)?,
+            book: Book::open(heap, n)?,
         })
     }
 
@@ -40,7 +40,7 @@ impl<K: Trial> Script<K> {
         handed: Lengths,
     ) -> Result<(), AllocError> {
         let call = Call { act, handed };
-        let answer = self.paper.answer(self.heap, orders, &call)?;
+        let answer = self.book.answer(self.heap, orders, &call)?;
         self.calls.push(call)?;
         self.answers.push(answer)?;
         Ok(())
@@ -55,14 +55,14 @@ impl<K: Trial> Script<K> {
         ensure!(given.len() == self.answers.len(), "a call was not made");
         for ((given, told), call) in given.iter().zip(&self.answers).zip(&self.calls) {
             if !agree(given, told) {
-                let sheet = self.paper.sheet();
+                let sheet = self.book.sheet();
                 println!(rt; "{call:?} answered {given:?} and not {told:?}, at last on {sheet:?}")?;
                 return Err(anyhow!("another answer than the book's"));
             }
             tally.count_answer(given);
         }
         ensure!(
-            self.paper.is_shown_by(&tables),
+            self.book.is_shown_by(&tables),
             "the tables do not show the book's cells"
         );
         Ok(())

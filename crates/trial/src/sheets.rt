@@ -99,7 +99,7 @@ fn add_looks<K: Trial>(script: &mut Script<K>, bench: &Bench<'_>) -> anyhow::Res
 
 /// Goes on with a walk to its end, and once more.
 fn add_walk<K: Trial>(script: &mut Script<K>, bench: &Bench<'_>) -> anyhow::Result<()> {
-    let optima = match script.paper.optimum() {
+    let optima = match script.book.optimum() {
         Some(optimum) => optimum.pairings.len(),
         None => 0,
     };

@@ -4,7 +4,7 @@
 //! largest pairing is had so, since what it leaves out can be given the right blocks that are left.
 
 use crate::kinds::Trial;
-use crate::plain_sheet::{Sheet, pairs};
+use crate::plain_sheet::{Sheet, pairs, place};
 use crate::prices::{left_prices, price, right_prices};
 use sheet::Shortfall;
 use std::alloc::{AllocError, Global};
@@ -165,8 +165,7 @@ fn marks(heap: Global, n: u16, pairings: &[Vec<u16>]) -> Result<Vec<u8>, AllocEr
 
 fn mark(n: u16, pairing: &[u16], marks: &mut [u8]) {
     for (left, right) in (0..n).zip(pairing) {
-        let place = usize::from(left) * usize::from(n) + usize::from(*right);
-        if let Some(byte) = marks.get_mut(place) {
+        if let Some(byte) = marks.get_mut(place(n, left, *right)) {
             *byte = 1;
         }
     }

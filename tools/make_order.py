@@ -1,7 +1,7 @@
 #!/usr/bin/env python3
 """Makes an order file of lines: what `inspect` prints of a file, made a file again.
 
-    tools/order_file.py < samples/three-blocks.txt > three-blocks.order
+    tools/make_order.py < samples/three-blocks.txt > three-blocks.order
 
 The lines are `size N`, then `pair L R COST` for each pair, then `end`. Blank lines and lines that
 begin with # are passed over. Nothing is checked but that the numbers fit into the fields: whether
@@ -10,17 +10,20 @@ the file is sound is for `inspect` to say.
 import struct
 import sys
 
-TAGS = {"size": (1, ">B"), "pair": (2, ">BBq"), "end": (3, ">")}
+from order_files import END, pair, size
+
+FIELDS = {"size": (1, size), "pair": (3, pair), "end": (0, lambda: END)}
 
 
-def field(line):
-    """A line as a field: a tag, the length of its value in two bytes, and the value."""
+def field_of(line):
+    """The field that a line names."""
     word, *numbers = line.split()
-    if word not in TAGS:
+    if word not in FIELDS:
         raise ValueError(f"no field is named {word!r}")
-    tag, form = TAGS[word]
-    value = struct.pack(form, *map(int, numbers))
-    return struct.pack(">BH", tag, len(value)) + value
+    count, make = FIELDS[word]
+    if len(numbers) != count:
+        raise ValueError(f"{word!r} is followed by {len(numbers)} numbers, and not by {count}")
+    return make(*map(int, numbers))
 
 
 def main():
@@ -28,7 +31,7 @@ def main():
         if not line.strip() or line.startswith("#"):
             continue
         try:
-            sys.stdout.buffer.write(field(line))
+            sys.stdout.buffer.write(field_of(line))
         except (ValueError, struct.error) as error:
             sys.exit(f"line {number}: {error}")
 

@@ -21,7 +21,7 @@ enum State {
 
 /// A sheet with its state, and what the last settling that was not refused came to.
 #[derive(Drop)]
-pub struct Paper<K: Trial> {
+pub struct Book<K: Trial> {
     sheet: Sheet<K>,
     state: State,
     optimum: Option<Optimum<K>>,
@@ -54,10 +54,10 @@ pub fn right_lengths(n: u16) -> Lengths {
     }
 }
 
-impl<K: Trial> Paper<K> {
+impl<K: Trial> Book<K> {
     /// The book of a sheet that was just opened.
     pub fn open(heap: Global, n: u16) -> Result<Self, AllocError> {
-        Ok(Paper {
+        Ok(Book {
             sheet: Sheet::absent(heap, n)?,
             state: State::Open,
             optimum: None,
