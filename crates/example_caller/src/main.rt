@@ -4,7 +4,7 @@
 #![tactic(auto)]
 
 use cost::Plain;
-use sheet::{Step, open};
+use sheet::{Fault, OpenSheet, Step, open};
 
 /// Left block, right block, and the time in microseconds that a program of both takes.
 const TIMES: [(u16, u16, i64); 7] = [
@@ -17,12 +17,18 @@ const TIMES: [(u16, u16, i64); 7] = [
     (2, 2, 2),
 ];
 
+/// Enters what was measured.
+fn enter(sheet: &OpenSheet, costs: &mut [Plain], standing: &mut [u8]) -> Result<(), Fault> {
+    for (left, right, time) in TIMES {
+        sheet.enter(costs, standing, left, right, Plain(time))?;
+    }
+    Ok(())
+}
+
 fn run(rt: &impl Print) -> anyhow::Result<()> {
     let (mut costs, mut standing) = ([Plain(0); 9], [0u8; 9]);
     let sheet = open(3, &mut costs, &mut standing)?;
-    for (left, right, time) in TIMES {
-        sheet.enter(&mut costs, &mut standing, left, right, Plain(time))?;
-    }
+    enter(&sheet, &mut costs, &mut standing)?;
     let (mut partners, mut left, mut right) = ([0u16; 3], [Plain(0); 3], [Plain(0); 3]);
     let settled = sheet.settle(&costs, &standing, &mut partners, &mut left, &mut right)?;
     let Plain(total) = settled.total(&costs, &standing, &partners, &left, &right)?;

@@ -23,11 +23,10 @@ fn number<T: Drop>(answer: Result<T, Fault>) -> u8 {
 fn opening_refuses_sizes_and_lengths(rt: HostRuntime) -> Result<(), Fail> {
     let mut costs = [Plain(7); 9];
     let mut standing = [5u8; 9];
-    for n in [0u16, 65, 1000, u16::MAX] {
-        assert_eq!(rt; number(open(n, &mut costs, &mut standing)), 1);
-    }
-    for n in [1u16, 2, 4, 64] {
-        assert_eq!(rt; number(open(n, &mut costs, &mut standing)), 2);
+    let no_sizes = [0u16, 65, 1000, u16::MAX].map(|n| (n, 1));
+    let other_sizes = [1u16, 2, 4, 64].map(|n| (n, 2));
+    for (n, refusal) in no_sizes.iter().chain(other_sizes.iter()) {
+        assert_eq!(rt; number(open(*n, &mut costs, &mut standing)), *refusal);
     }
     assert_eq!(rt; number(open(3, &mut costs, &mut standing[0..8])), 2);
     assert_eq!(rt; costs, [Plain(7); 9]);

@@ -12,9 +12,9 @@ fn call(act: Act<Plain>) -> Call<Plain> {
     }
 }
 
-// Both blocks of each plane pair with both of the other: 3 and 4, 1 and 2.
-#[test]
-fn a_run_gives_every_answer(rt: HostRuntime) -> Result<(), Fail> {
+// Calls in every state, one of them handed too little, and some that the state does not know. Both
+// blocks of each plane pair with both of the other: 3 and 4, 1 and 2.
+fn calls_of_all_states() -> [Call<Plain>; 19] {
     let enter = |left, right, cost| {
         call(Act::Enter {
             left,
@@ -24,7 +24,7 @@ fn a_run_gives_every_answer(rt: HostRuntime) -> Result<(), Fail> {
     };
     let mut short = call(Act::Settle);
     short.handed.left = 1;
-    let calls = [
+    [
         call(Act::Settle),
         enter(0, 0, 3),
         enter(0, 1, 1),
@@ -44,36 +44,42 @@ fn a_run_gives_every_answer(rt: HostRuntime) -> Result<(), Fail> {
         call(Act::Strike { left: 0, right: 0 }),
         call(Act::Settle),
         call(Act::Total),
-    ];
-    let expected = [
-        "Unmatched(Fault { cause: NoPerfectPairing, place: 0, layer: Sheet }, \
-         Shortfall { crowd: 3, short: 2 })",
-        "Done",
-        "Done",
-        "Done",
-        "Done",
-        "Refused(Fault { cause: Block, place: 0, layer: Sheet })",
-        "Refused(Fault { cause: TableLength, place: 0, layer: Sheet })",
-        "NotMade",
-        "Settled { partners: [0, 1], left: [Plain(3), Plain(4)], right: [Plain(0), Plain(-2)] }",
-        "Quoted { cost: Plain(4), slack: Plain(0) }",
-        "Marked([1, 1, 1, 1])",
-        "Pairing([0, 1])",
-        "Pairing([1, 0])",
-        "End",
-        "Done",
-        "Done",
-        "Done",
-        "Settled { partners: [1, 0], left: [Plain(3), Plain(4)], right: [Plain(0), Plain(-2)] }",
-        "Amount(Plain(5))",
-    ];
+    ]
+}
+
+// What comes of each.
+const EXPECTED: [&str; 19] = [
+    "Unmatched(Fault { cause: NoPerfectPairing, place: 0, layer: Sheet }, \
+     Shortfall { crowd: 3, short: 2 })",
+    "Done",
+    "Done",
+    "Done",
+    "Done",
+    "Refused(Fault { cause: Block, place: 0, layer: Sheet })",
+    "Refused(Fault { cause: TableLength, place: 0, layer: Sheet })",
+    "NotMade",
+    "Settled { partners: [0, 1], left: [Plain(3), Plain(4)], right: [Plain(0), Plain(-2)] }",
+    "Quoted { cost: Plain(4), slack: Plain(0) }",
+    "Marked([1, 1, 1, 1])",
+    "Pairing([0, 1])",
+    "Pairing([1, 0])",
+    "End",
+    "Done",
+    "Done",
+    "Done",
+    "Settled { partners: [1, 0], left: [Plain(3), Plain(4)], right: [Plain(0), Plain(-2)] }",
+    "Amount(Plain(5))",
+];
+
+#[test]
+fn a_run_gives_every_answer(rt: HostRuntime) -> Result<(), Fail> {
     let heap = rt.alloc();
     let mut tables = SheetTables::new(heap, 2)?;
-    let Ok(answers) = run(heap, 2, &mut tables, &calls) else {
+    let Ok(answers) = run(heap, 2, &mut tables, &calls_of_all_states()) else {
         return Err(Fail::new("stopped"));
     };
-    assert_eq!(rt; answers.len(), expected.len());
-    for (answer, text) in answers.iter().zip(expected) {
+    assert_eq!(rt; answers.len(), EXPECTED.len());
+    for (answer, text) in answers.iter().zip(EXPECTED) {
         assert_eq!(rt; format!(in heap; "{answer:?}")?.as_str(), text);
     }
     Ok(())
