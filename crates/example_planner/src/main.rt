@@ -1,6 +1,6 @@
 //! Plans which blocks of two planes are programmed together. It reads what was measured of each
-//! pair from standard input, and prints the least total step by step, a map of the pairs that occur
-//! in any pairing of that total, and these pairings themselves.
+//! pair from standard input, and prints the least total column by column, a map of the pairs that
+//! occur in any pairing of that total, and these pairings themselves.
 #![tactic(auto)]
 
 mod figures;

@@ -140,7 +140,7 @@ impl Plan {
         Ok(Plan { settled, tables })
     }
 
-    /// Prints what the plan costs, step by step.
+    /// Prints what the plan costs, column by column.
     pub fn print_total(&self, rt: &impl Print) -> anyhow::Result<()> {
         let tables = &self.tables;
         let total = self

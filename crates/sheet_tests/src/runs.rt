@@ -95,6 +95,10 @@ fn a_run_is_refused_whole(rt: HostRuntime) -> Result<(), Fail> {
         Err(Stopped::NotLent) => {}
         _ => return Err(Fail::new("handed more than was lent")),
     }
+    match run(heap, 65, &mut tables, &[long]) {
+        Err(Stopped::NotLent) => {}
+        _ => return Err(Fail::new("handed more than was lent, before 65 blocks a plane")),
+    }
     match run(heap, 65, &mut tables, &[]) {
         Err(Stopped::Sheet(fault)) => assert_eq!(rt; fault, Cause::Size.at(0)),
         _ => return Err(Fail::new("65 blocks a plane")),
