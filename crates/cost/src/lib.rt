@@ -37,10 +37,10 @@ pub const PRICE_LIMIT: u64 = 1_000_000_000_000;
 /// same number of columns, and each column lies on the rail, from -10^15 to 10^15.
 ///
 /// A kind answers five questions about the columns alone, so code that is generic over the kind is
-/// proved once, for kinds that were written elsewhere too. Three of them come again for near
-/// values: their callers know how far their values can get. And two ask for one side of a
-/// comparison of near values, which a kind of several steps can tell without a branch. A kind that
-/// has nothing faster to offer leaves all these out.
+/// proved once, for kinds that were written elsewhere too. The sum and the difference come again
+/// for near values: their callers know how far their values can get. And two ask for one side of a
+/// comparison with a near value, which a kind of several steps can tell without a branch. A kind
+/// that has nothing faster to offer leaves all these out.
 pub trait Cost: Copy {
     // How many columns a value has.
     ghost columns: { ℕ };
@@ -85,29 +85,19 @@ pub trait Cost: Copy {
         self.take_away(other)
     }
 
-    /// The order of two near values.
-    fn compare_near(self, other: Self) -> Ordering
-        requires first { Within HALF_RAIL (meaning self) }
-        requires second { Within HALF_RAIL (meaning other) }
-        ensures { result ≡ lex (meaning self) (meaning other) }
-    {
-        self.compare(other)
-    }
-
-    /// Whether a near value comes before another one. Values that are not near may be asked too:
-    /// what is answered of them is left open.
+    /// Whether a value comes before a near one. Any value may be asked, near or not.
     fn is_less_near(self, than: Self) -> bool
-        ensures { Within HALF_RAIL (meaning self) → Within HALF_RAIL (meaning than)
-            → result ≡ is_lt (lex (meaning self) (meaning than)) }
+        requires { Within HALF_RAIL (meaning than) }
+        ensures { result ≡ is_lt (lex (meaning self) (meaning than)) }
     {
         self.compare(than).is_lt()
     }
 
-    /// Whether two near values are the same in each column. Values that are not near may be asked
-    /// too: what is answered of them is left open.
+    /// Whether a value is the same as a near one in each column. Any value may be asked, near or
+    /// not.
     fn is_equal_near(self, to: Self) -> bool
-        ensures { Within HALF_RAIL (meaning self) → Within HALF_RAIL (meaning to)
-            → result ≡ is_eq (lex (meaning self) (meaning to)) }
+        requires { Within HALF_RAIL (meaning to) }
+        ensures { result ≡ is_eq (lex (meaning self) (meaning to)) }
     {
         self.compare(to).is_eq()
     }

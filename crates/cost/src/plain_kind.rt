@@ -96,10 +96,8 @@ impl Cost for Plain {
         Plain(self.0 - other.0)
     }
 
-    fn compare_near(self, other: Plain) -> Ordering {
-        self.0.cmp(&other.0)
-    }
-
+    // A number beyond the rail lies on the same side of a near one as the end of the rail that it
+    // means, so the numbers are compared as they stand.
     fn is_less_near(self, than: Plain) -> bool {
         self.0 < than.0
     }

@@ -1,4 +1,5 @@
-//! Examples of the five answers, at the ends of the rail and beyond them.
+//! Examples of the five answers and of the two comparisons with a near value, at the ends of the
+//! rail and beyond them.
 
 use crate::{Cost, Free, Plain, TwoStep};
 use std::cmp::Ordering;
@@ -60,6 +61,32 @@ fn order_goes_by_meaning(rt: HostRuntime) {
     for (a, b, order) in cases {
         assert!(rt; Plain(a).compare(Plain(b)) == order);
     }
+}
+
+#[test]
+fn any_value_is_compared_with_a_near_one(rt: HostRuntime) {
+    let half = Plain(END / 2);
+    assert!(rt; Plain(i64::MIN).is_less_near(half));
+    assert!(rt; Plain(END / 2 - 1).is_less_near(half));
+    assert!(rt; !half.is_less_near(half));
+    assert!(rt; !Plain(i64::MAX).is_less_near(half));
+    assert!(rt; half.is_equal_near(half));
+    assert!(rt; !Plain(i64::MAX).is_equal_near(half));
+    assert!(rt; !Plain(-END).is_equal_near(half));
+    assert!(rt; !Free.is_less_near(Free));
+    assert!(rt; Free.is_equal_near(Free));
+}
+
+#[test]
+fn two_steps_are_compared_with_near_ones(rt: HostRuntime) {
+    let near = TwoStep(Plain(1), Plain(4));
+    assert!(rt; TwoStep(Plain(1), Plain(i64::MIN)).is_less_near(near));
+    assert!(rt; TwoStep(Plain(0), Plain(i64::MAX)).is_less_near(near));
+    assert!(rt; !TwoStep(Plain(i64::MAX), Plain(3)).is_less_near(near));
+    assert!(rt; !near.is_less_near(near));
+    assert!(rt; near.is_equal_near(near));
+    assert!(rt; !TwoStep(Plain(1), Plain(i64::MAX)).is_equal_near(near));
+    assert!(rt; !TwoStep(Plain(i64::MAX), Plain(4)).is_equal_near(near));
 }
 
 #[test]

@@ -63,11 +63,6 @@ impl<A: Cost, B: Cost> Cost for TwoStep<A, B> {
         )
     }
 
-    fn compare_near(self, other: TwoStep<A, B>) -> Ordering {
-        let first = self.0.compare_near(other.0);
-        first.then(self.1.compare_near(other.1))
-    }
-
     // Both steps are compared whatever the first one says, so that a loop over many pairs has no
     // branch here and can take several at once.
     fn is_less_near(self, than: TwoStep<A, B>) -> bool {

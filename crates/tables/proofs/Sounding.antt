@@ -11,7 +11,7 @@ use lib.Bits.{bit_and, bit_or}
 use Rattle.std.specs.Ordering.{is_gt, is_eq}
 use Rattle.std.proofs.Math.Bool.{not-not}
 use Rattle.std.proofs.lemmas.Nat.{mul-add-lt}
-use Rattle.std.proofs.lemmas.Bool.{cases_lt, cases_Bool, both_ways, false≢true}
+use Rattle.std.proofs.lemmas.Bool.{cases_lt, both_ways, false≢true}
 use Rattle.std.proofs.lemmas.Bool.Decides.{Decides-at, Decides-like, Decides-and, nat_tests}
 use Rattle.cost.specs.declared.Cost.{Ghosts}
 use Rattle.cost.specs.Columns.{Within, within, sums, plus, lex}
@@ -46,43 +46,30 @@ byte_some false = refl
 calm_byte : (byte : ℕ) → says_disturbed byte ≡ false → byte ≤ 1
 calm_byte byte e = grind (arith, nat_tests)
 
--- where the cost is within its limit, it is told whether the prices are beyond it and whether they
--- are it; that tells whether a pair that stands is sound
-module _ (left right cost : List ℤ) (beyond tight : Bool)
-    (told : within 1000000000 cost ≡ true
-    → (beyond ≡ is_gt (lex (sums left right) cost)) × (tight ≡ is_eq (lex (sums left right) cost)))
-  where
-    abbrev pub wrong : Bool
-    wrong = not (within 1000000000 cost) || beyond
+fine_both : (small beyond : Bool) → not (not small || beyond) ≡ (small && not beyond)
+fine_both true beyond = refl
+fine_both false beyond = refl
 
-    order_tells : Decides (not wrong) (Within 1000000000 cost × Upto (sums left right) cost)
-    order_tells = elim (cases_Bool (within 1000000000 cost)) [
-      | inl near ↦
-          Decides-like (not wrong) (λ u. ((within_tells 1000000000 cost).0 near, u)) (λ p. p.1)
-          (Decides-at (not wrong) (not (is_gt (lex (sums left right) cost)))
-          (ap₂ (λ w b. not (not w || b)) near (told near).0)
-          (greater_tells (lex (sums left right) cost)))
-      | inr far ↦
-          Decides-at (not wrong) false (ap (λ w. not (not w || beyond)) far) (
-            λ e. absurd (false≢true e),
-            λ p. absurd (both_ways (within 1000000000 cost) far
-                ((within_tells 1000000000 cost).1 p.0)),
-          )
-    ]
+-- two prices and a cost tell whether their pair is sound if it stands, and whether it is tight
+module _ (left right cost : List ℤ) where
+  abbrev pub wrong : Bool
+  wrong = not (within 1000000000 cost) || is_gt (lex (sums left right) cost)
 
-    -- a sound pair is tight just where it stands and its prices are its cost
-    sound_tight : (byte : ℕ) → IsSoundPair byte left right cost
-        → not (eqb (bit_and byte (bool_byte tight)) 0)
-        ≡ adds_up (says_stands byte) left right cost
-    sound_tight byte h =
-        ap (λ m. not (eqb m 0)) (and_byte byte tight (calm_byte byte h.0))
-        ∙ byte_some (says_stands byte && tight)
-        ∙ elim (cases_Bool (says_stands byte)) [
-          | inl s ↦ ap (λ b. says_stands byte && b)
-              (told ((within_tells 1000000000 cost).1 (h.1 s).0)).1
-          | inr a ↦ ap (λ b. b && tight) a
-              ∙ sym (ap (λ b. b && is_eq (lex (sums left right) cost)) a)
-        ]
+  order_tells : Decides (not wrong) (Within 1000000000 cost × Upto (sums left right) cost)
+  order_tells =
+      Decides-at (not wrong) (within 1000000000 cost && not (is_gt (lex (sums left right) cost)))
+      (fine_both (within 1000000000 cost) (is_gt (lex (sums left right) cost)))
+      (Decides-and (within 1000000000 cost) (not (is_gt (lex (sums left right) cost)))
+      (within_tells 1000000000 cost) (greater_tells (lex (sums left right) cost)))
+
+  -- where the byte was not disturbed
+  sound_tight : (byte : ℕ) → says_disturbed byte ≡ false
+      → not (eqb (bit_and byte (bool_byte (is_eq (lex (sums left right) cost)))) 0)
+      ≡ adds_up (says_stands byte) left right cost
+  sound_tight byte calm =
+      let tight = is_eq (lex (sums left right) cost) in
+      ap (λ m. not (eqb m 0)) (and_byte byte tight (calm_byte byte calm))
+      ∙ byte_some (says_stands byte && tight)
 
 -- ---- A row
 
@@ -128,11 +115,7 @@ module _ {K : Type 0} (kind : Ghosts K) (costs : List K) (standing : List ℕ) (
     -- whose price and cost were read from their tables
     module _ (price cost : K) (in_right : r < length right)
         (read_right : price ≡ get_or right r price)
-        (in_costs : r < length costs) (read_cost : cost ≡ get_or costs r cost)
-        (beyond tight : Bool)
-        (known : within 1000000000 (kind.meaning cost) ≡ true
-        → (beyond ≡ is_gt (lex (sums left (kind.meaning price)) (kind.meaning cost)))
-        × (tight ≡ is_eq (lex (sums left (kind.meaning price)) (kind.meaning cost)))) where
+        (in_costs : r < length costs) (read_cost : cost ≡ get_or costs r cost) where
       -- the same of what the tables say
       priced : kind.meaning price ≡ columns_at kind right r
       priced = value_at kind right r price in_right read_right
@@ -140,29 +123,18 @@ module _ {K : Type 0} (kind : Ghosts K) (costs : List K) (standing : List ℕ) (
       costed : kind.meaning cost ≡ columns_at kind costs r
       costed = value_at kind costs r cost in_costs read_cost
 
-      same_order : lex (sums left (kind.meaning price)) (kind.meaning cost)
-          ≡ lex (sums left (columns_at kind right r)) (columns_at kind costs r)
-      same_order = ap₂ (λ x y. lex (sums left x) y) priced costed
-
-      stated : within 1000000000 (columns_at kind costs r) ≡ true
-          → (beyond ≡ is_gt (lex (sums left (columns_at kind right r)) (columns_at kind costs r)))
-          × (tight ≡ is_eq (lex (sums left (columns_at kind right r)) (columns_at kind costs r)))
-      stated near =
-          let said = known (ap (within 1000000000) costed ∙ near) in
-          (said.0 ∙ ap is_gt same_order, said.1 ∙ ap is_eq same_order)
-
       pub row_further : (seen faults number : ℕ)
           → Decides (faultless seen faults) (IsSoundRow kind r costs standing left right)
-          → number ≡ bool_byte (not (within 1000000000 (kind.meaning cost)) || beyond)
+          → number ≡ bool_byte (wrong left (kind.meaning price) (kind.meaning cost))
           → Decides (faultless (bit_or seen (get_or standing r 0))
           (bit_or faults (bit_and (get_or standing r 0) number)))
           (IsSoundRow kind (r + 1) costs standing left right)
       row_further seen faults number before counted =
           let byte = get_or standing r 0 in
-          let off = not (within 1000000000 (columns_at kind costs r)) || beyond in
+          let off = wrong left (columns_at kind right r) (columns_at kind costs r) in
           let fine = not off in
           let fault : number ≡ bool_byte (not fine) =
-          counted ∙ ap (λ c. bool_byte (not (within 1000000000 c) || beyond)) costed
+          counted ∙ ap₂ (λ x y. bool_byte (wrong left x y)) priced costed
           ∙ ap bool_byte (sym (not-not off)) in
           Decides-at (faultless (bit_or seen byte) (bit_or faults (bit_and byte number)))
           (faultless seen faults && is_fine byte fine)
@@ -171,19 +143,19 @@ module _ {K : Type 0} (kind : Ghosts K) (costs : List K) (standing : List ℕ) (
           (Decides-like (faultless seen faults && is_fine byte fine) further back
           (Decides-and (faultless seen faults) (is_fine byte fine) before
           (fine_tells byte fine
-          (order_tells left (columns_at kind right r) (columns_at kind costs r) beyond tight
-          stated))))
+          (order_tells left (columns_at kind right r) (columns_at kind costs r)))))
 
-      pub row_tight : (number : ℕ) → number ≡ bool_byte tight
+      pub row_tight : (number : ℕ)
+          → number ≡ bool_byte (is_eq (lex (sums left (kind.meaning price)) (kind.meaning cost)))
           → IsSoundRow kind (r + 1) costs standing left right
           → not (eqb (bit_and (get_or standing r 0) number) 0)
           ≡ adds_up (says_stands (get_or standing r 0)) left (columns_at kind right r)
           (columns_at kind costs r)
       row_tight number counted h =
-          let byte = get_or standing r 0 in
-          ap (λ x. not (eqb (bit_and byte x) 0)) counted
-          ∙ sound_tight left (columns_at kind right r) (columns_at kind costs r) beyond tight stated
-          byte (back h).1
+          ap (λ x. not (eqb (bit_and (get_or standing r 0) x) 0))
+          (counted ∙ ap₂ (λ x y. bool_byte (is_eq (lex (sums left x) y))) priced costed)
+          ∙ sound_tight left (columns_at kind right r) (columns_at kind costs r)
+          (get_or standing r 0) (back h).1.0
 
     pub row_before : IsSoundRow kind (r + 1) costs standing left right
         → IsSoundRow kind r costs standing left right

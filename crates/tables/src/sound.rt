@@ -5,7 +5,7 @@ ghost use Rattle.std.specs.Prelude.{◌≡◌, ◌≤◌, length, IsTrue, ◌↔
 ghost use Rattle.std.specs.Bool.{OnTrue};
 ghost use Rattle.std.specs.Ordering.{is_gt, is_eq};
 ghost use Rattle.blockset.specs.declared.TheConstants.{MOST_BLOCKS, SET_WIDTH};
-ghost use Rattle.cost.specs.declared.TheConstants.{COST_LIMIT, PRICE_LIMIT};
+ghost use Rattle.cost.specs.declared.TheConstants.{PRICE_LIMIT};
 ghost use Rattle.cost.specs.Columns.{Within, sums, lex};
 ghost use Rattle.tables.specs.PairTables.{says_stands};
 ghost use Rattle.tables.specs.Said.{columns_at, grid_of, Bounded};
@@ -16,14 +16,14 @@ ghost use Rattle.tables.specs.Sound.{IsSoundRow, AreSoundRows};
 use blockset::BlockSet;
 use cost::{COST_LIMIT, Cost};
 
-/// Whether two prices together are beyond a cost, and whether they are just that cost. Of a cost
-/// beyond 10^9 nothing is told, but it may be asked, so that no pair needs a branch.
+/// Whether two prices together are beyond a cost, and whether they are just that cost. Any cost may
+/// be asked, one beyond 10^9 too, so that no pair needs a branch.
 fn compare_prices<K: Cost>(left: K, right: K, cost: K) -> (bool, bool)
     requires left_near { Within PRICE_LIMIT (K.meaning left) }
     requires right_near { Within PRICE_LIMIT (K.meaning right) }
-    ensures beyond { Within COST_LIMIT (K.meaning cost) → result.0
+    ensures beyond { result.0
         ≡ is_gt (lex (sums (K.meaning left) (K.meaning right)) (K.meaning cost)) }
-    ensures tight { Within COST_LIMIT (K.meaning cost) → result.1
+    ensures tight { result.1
         ≡ is_eq (lex (sums (K.meaning left) (K.meaning right)) (K.meaning cost)) }
 {
     let sum = left.add_near(right);

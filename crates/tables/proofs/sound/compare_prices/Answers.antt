@@ -1,9 +1,9 @@
--- Two prices within 10^12 add up to less than half of the rail, and a cost within 10^9 is less too.
--- Where the cost comes before the sum, the sum comes after it.
+-- Two prices within 10^12 add up to less than half of the rail, so their sum is near and any cost
+-- may be compared with it. Where the cost comes before the sum, the sum comes after it.
 use Rattle.std.proofs.Common.{◌≡◌, ◌+◌, Ordering, Less, Equal, Greater, List, ℤ, sym, refl}
 use Rattle.std.proofs.Common.{ap, ◌∙◌, subst, arith}
 use Rattle.std.specs.Ordering.{ordering_reverse, is_lt, is_eq, is_gt}
-use Rattle.cost.specs.declared.TheConstants.{COST_LIMIT, HALF_RAIL, PRICE_LIMIT}
+use Rattle.cost.specs.declared.TheConstants.{HALF_RAIL, PRICE_LIMIT}
 use Rattle.cost.specs.Columns.{Within, plus, sums, lex}
 use Rattle.cost.proofs.Exact.{exact, plus-within, within_more}
 use Rattle.cost.proofs.Order.{lex_mirror}
@@ -27,22 +27,26 @@ equal_reversed Less = refl
 equal_reversed Equal = refl
 equal_reversed Greater = refl
 
+pub is_less_near-requires : goal.is_less_near-requires
+is_less_near-requires g c = sum_near (g.K.Cost.meaning c.args.left) (g.K.Cost.meaning c.args.right)
+    (g.K.Cost.meaning c.add_near-sum.result) c.requires.left_near c.requires.right_near
+    c.add_near-sum.ensures
+
+pub is_equal_near-requires : goal.is_equal_near-requires
+is_equal_near-requires g c = sum_near (g.K.Cost.meaning c.args.left)
+    (g.K.Cost.meaning c.args.right) (g.K.Cost.meaning c.add_near-sum.result)
+    c.requires.left_near c.requires.right_near c.add_near-sum.ensures
+
 pub returns : goal.returns
 returns g c =
-    let m = g.K.Cost.meaning in
-    let left = m c.args.left in
-    let right = m c.args.right in
-    let sum = m c.add_near-sum.result in
-    let cost = m c.args.cost in
+    let cost = g.K.Cost.meaning c.args.cost in
+    let sum = g.K.Cost.meaning c.add_near-sum.result in
     let is = c.add_near-sum.ensures in
-    let near = sum_near left right sum c.requires.left_near c.requires.right_near is in
-    let small = λ (w : Within COST_LIMIT (m c.args.cost)).
-    within_more COST_LIMIT HALF_RAIL (m c.args.cost) (omega arith) w in
     let turned = lex_mirror sum cost (g.met.K.Cost.laws.column_count c.add_near-sum.result
     ∙ sym (g.met.K.Cost.laws.column_count c.args.cost)) in
     record {
-      beyond = λ w. c.is_less_near.ensures (small w) near ∙ ap is_lt turned
-          ∙ less_reversed (lex sum cost) ∙ ap (λ z. is_gt (lex z cost)) is;
-      tight = λ w. c.is_equal_near.ensures (small w) near ∙ ap is_eq turned
-          ∙ equal_reversed (lex sum cost) ∙ ap (λ z. is_eq (lex z cost)) is;
+      beyond = c.is_less_near.ensures ∙ ap is_lt turned ∙ less_reversed (lex sum cost)
+          ∙ ap (λ z. is_gt (lex z cost)) is;
+      tight = c.is_equal_near.ensures ∙ ap is_eq turned ∙ equal_reversed (lex sum cost)
+          ∙ ap (λ z. is_eq (lex z cost)) is;
     }

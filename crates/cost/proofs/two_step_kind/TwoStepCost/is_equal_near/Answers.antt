@@ -1,5 +1,5 @@
 -- Two lists of columns are the same where both of their parts are.
--- Where all columns are near, so are those of each step.
+-- Where all columns of the second value are near, so are those of each of its steps.
 use Rattle.std.proofs.Common.{◌&&◌, sym, ap, ap₂, ◌∙◌}
 use Rattle.std.specs.Ordering.{is_eq}
 use Rattle.cost.specs.declared.TheConstants.{HALF_RAIL}
@@ -7,15 +7,21 @@ use Rattle.cost.specs.Columns.{lex}
 use Rattle.cost.proofs.Append.{lex-append, then_equal, same_length, within_parts}
 use Rattle.cost.proofs.two_step_kind.TwoStepCost.is_equal_near.Goals as goal
 
+pub is_equal_near-requires : goal.is_equal_near-requires
+is_equal_near-requires g c =
+    (within_parts HALF_RAIL (g.A.Cost.meaning c.args.to.0) _ c.requires).0
+
+pub is_equal_near-requires-2 : goal.is_equal_near-requires-2
+is_equal_near-requires-2 g c =
+    (within_parts HALF_RAIL (g.A.Cost.meaning c.args.to.0) _ c.requires).1
+
 pub returns : goal.returns
-returns g c = λ a b.
+returns g c =
     let first = g.A.Cost.meaning in
     let second = g.B.Cost.meaning in
     let same = same_length g.A.Cost.columns first g.met.A.Cost.laws.column_count c.args.self.0
     c.args.to.0 in
-    let near = within_parts HALF_RAIL (first c.args.self.0) _ a in
-    let near' = within_parts HALF_RAIL (first c.args.to.0) _ b in
-    ap₂ ◌&&◌ (c.is_equal_near.ensures near.0 near'.0) (c.is_equal_near-2.ensures near.1 near'.1)
+    ap₂ ◌&&◌ c.is_equal_near.ensures c.is_equal_near-2.ensures
     ∙ sym (ap is_eq (lex-append (first c.args.self.0) (first c.args.to.0) (second c.args.self.1)
     (second c.args.to.1) same)
     ∙ then_equal (lex (first c.args.self.0) (first c.args.to.0))
