@@ -66,10 +66,6 @@ impl Cost for Two {
         Two::of(self.steps().take_away_near(other.steps()))
     }
 
-    fn compare_near(self, other: Two) -> Ordering {
-        self.steps().compare_near(other.steps())
-    }
-
     fn is_less_near(self, than: Two) -> bool {
         self.steps().is_less_near(than.steps())
     }

@@ -3,7 +3,6 @@ use Rattle.std.proofs.Common.{◌≡◌, true, Ordering, Less, Equal, Greater, s
 use Rattle.std.specs.Ordering.{is_lt}
 use Rattle.std.proofs.lemmas.Bool.{true≢false}
 use Rattle.cost.specs.declared.TheConstants.{RAIL}
-use Rattle.cost.specs.Columns.{lex}
 use Rattle.cost.proofs.Exact.{within_more}
 use Rattle.cost.proofs.Weights.{less_is, not_less_is}
 use Rattle.assign.proofs.sums.is_less.Goals as goal
@@ -18,8 +17,7 @@ returns g c =
     let m = g.K.Cost.meaning in
     let a = m c.args.a in
     let b = m c.args.b in
-    let said : c.is_less_near.result ≡ is_lt (lex (m c.args.a) (m c.args.b)) =
-    c.is_less_near.ensures c.requires.first c.requires.second in
+    let said = c.is_less_near.ensures in
     let same = g.met.K.Cost.laws.column_count c.args.a
     ∙ sym (g.met.K.Cost.laws.column_count c.args.b) in
     let wa = within_more RAIL 4000000000000000000 a (omega arith)
