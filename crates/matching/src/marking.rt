@@ -100,10 +100,10 @@ fn mark_row(marks: &mut [u8], set: BlockSet)
     requires { length marks.old ≤ SET_WIDTH }
     ensures { (r : ℕ) → r < length marks.old → at marks.new r ≡ (if has set r then 1 else 0) }
 {
-    let mut rest = set.bits();
-    for mark in marks.iter_mut() {
-        *mark = (rest % 2) as u8;
-        rest /= 2;
+    // The compiler shifts eight bytes at a time, but of whole sets only two.
+    let bytes = set.bits().to_le_bytes();
+    for (r, mark) in marks.iter_mut().enumerate() {
+        *mark = (bytes[r / 8] >> (r % 8)) % 2;
     }
 }
 
