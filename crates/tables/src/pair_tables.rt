@@ -1,8 +1,11 @@
 //! The two pair tables that a caller lends: where a pair lies in them, and what they say of it.
-ghost use Rattle.std.specs.Prelude.{◌≡◌, ◌≤◌, length, replicate, count_by};
+ghost use Rattle.std.specs.Prelude.{◌≡◌, ◌<◌, ◌≤◌, length, replicate, count_by};
+ghost use Rattle.cost.specs.declared.TheConstants.{COST_LIMIT};
+ghost use Rattle.cost.specs.Columns.{Within};
 ghost use Rattle.pairing.specs.Places.{place_of, places_of};
-ghost use Rattle.tables.specs.PairTables.{have_places, says_stands, says_disturbed};
-ghost use Rattle.tables.specs.PairTables.{in_order};
+ghost use Rattle.tables.specs.PairTables.{HavePlaces, have_places, says_stands, says_disturbed};
+ghost use Rattle.tables.specs.PairTables.{in_order, costs_entered, standing_entered};
+ghost use Rattle.tables.specs.Said.{IsInOrder};
 
 use cost::{COST_LIMIT, Cost};
 
@@ -49,12 +52,37 @@ pub fn in_order<K: Cost>(costs: &[K], standing: &[u8]) -> bool
     // Each bit that some byte has, and not 0 if a standing pair costs too much.
     let mut seen = 0;
     let mut faults = 0;
-    for k in 0..costs.len().min(standing.len()) {
-        let byte = u64::from(standing[k]);
+    let shared = costs.len().min(standing.len());
+    for (k, byte) in standing[..shared].iter().enumerate() {
+        let byte = u64::from(*byte);
         seen |= byte;
         faults |= byte & u64::from(!costs[k].within(COST_LIMIT));
     }
     (seen <= 1) & (faults == 0)
+}
+
+/// Makes a pair stand with a cost, for a caller that knows that it has its place in the tables and
+/// that the cost is within 10^9: nothing is tested. Tables that were in order stay so.
+pub fn enter_pair<K: Cost>(
+    n: u16,
+    costs: &mut [K],
+    standing: &mut [u8],
+    left: u16,
+    right: u16,
+    cost: K,
+)
+    requires places { HavePlaces n (length costs.old) (length standing.old) }
+    requires left_inside { left < n }
+    requires right_inside { right < n }
+    requires within { Within COST_LIMIT (K.meaning cost) }
+    ensures costs { costs.new ≡ costs_entered n left right cost costs.old }
+    ensures standing { standing.new ≡ standing_entered n left right standing.old }
+    ensures in_order { IsInOrder K.Cost (places_of n) costs.old standing.old
+        → IsInOrder K.Cost (places_of n) costs.new standing.new }
+{
+    let at = place(n, left, right);
+    costs[at] = cost;
+    standing[at] = 1;
 }
 
 /// How many pairs stand.

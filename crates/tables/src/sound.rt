@@ -50,11 +50,11 @@ fn sound_row<K: Cost>(costs: &[K], standing: &[u8], left: K, right: &[K]) -> Opt
     let mut seen = 0;
     let mut faults = 0;
     let mut row = BlockSet::empty();
-    for (r, price) in right.iter().enumerate() {
-        let byte = u64::from(standing[r]);
+    for (r, byte) in standing.iter().enumerate() {
+        let byte = u64::from(*byte);
         let cost = costs[r];
         let small = cost.within(COST_LIMIT);
-        let (beyond, tight) = compare_prices(left, *price, cost);
+        let (beyond, tight) = compare_prices(left, right[r], cost);
         seen |= byte;
         faults |= byte & u64::from(!small | beyond);
         row.insert_if(r, byte & u64::from(tight) != 0);
