@@ -17,7 +17,7 @@ use super::{OpenSheet, SettledSheet};
 use crate::fault::{Cause, Fault, Refusal};
 use assign::{Outcome, settle};
 use cost::Cost;
-use tables::{COST_LIMIT, MOST_BLOCKS, disturbed, fill, have_places, place, stands};
+use tables::{COST_LIMIT, MOST_BLOCKS, disturbed, enter_pair, fill, have_places, place, stands};
 
 /// Opens a sheet of n left and n right blocks, with every pair absent and at cost zero.
 ///
@@ -70,29 +70,8 @@ impl OpenSheet {
         if !cost.within(COST_LIMIT) {
             return Err(Cause::CostRange.at(0));
         }
-        self.enter_known(costs, standing, left, right, cost);
+        enter_pair(self.n, costs, standing, left, right, cost);
         Ok(())
-    }
-
-    /// What `enter` does, for a caller that knows that it is not refused: nothing is tested.
-    pub fn enter_known<K: Cost>(
-        &self,
-        costs: &mut [K],
-        standing: &mut [u8],
-        left: u16,
-        right: u16,
-        cost: K,
-    )
-        requires places { HavePlaces (size_of self.now) (length costs.old) (length standing.old) }
-        requires left_inside { left < size_of self.now }
-        requires right_inside { right < size_of self.now }
-        ensures costs { costs.new ≡ costs_entered (size_of self.now) left right cost costs.old }
-        ensures standing { standing.new
-            ≡ standing_entered (size_of self.now) left right standing.old }
-    {
-        let at = place(self.n, left, right);
-        costs[at] = cost;
-        standing[at] = 1;
     }
 
     /// Makes a standing pair absent, with cost zero.
