@@ -8,3 +8,4 @@ pub mod Examples
 pub mod Rows
 pub mod Inside
 pub mod Places
+pub mod Stated

@@ -8,6 +8,7 @@ ghost use Rattle.pairing.specs.Theorems.{GreatestAlike, GivenAlike, LeavesOut, H
 ghost use Rattle.pairing.specs.Theorems.{LargestIfStuck, CrowdIfReached, ShortBy, SendsIfChain};
 ghost use Rattle.pairing.specs.Theorems.{PerfectsAre, PairsAre, OptimaAre, MarksAre, InsideMatters};
 
+use cost::{Cost, Free, Plain, TwoStep};
 use std::cmp::Ordering;
 
 /// How the total of a perfect pairing with valid prices never compares with that of any perfect
@@ -173,9 +174,11 @@ pub struct Worked {
     pub level_last: [u16; 3],
 }
 
-/// The worked examples, which hold by the definitions themselves.
+/// The worked examples, which hold by the definitions themselves. Their grids are what tables of
+/// plain, free and two-step costs state.
 pub fn worked_examples() -> Worked
-    ensures { Examples result }
+    ensures { Examples ⟦<Plain as Cost>⟧ ⟦<Free as Cost>⟧ ⟦<TwoStep<Plain, Plain> as Cost>⟧
+        result }
 {
     Worked {
         s_optima: [[0, 1, 2], [1, 0, 2]],

@@ -7,10 +7,7 @@ use Rattle.std.specs.List.{list_all}
 use Rattle.cost.specs.declared.TheConstants.{COST_LIMIT}
 use Rattle.cost.specs.Columns.{within}
 use Rattle.pairing.specs.Places.{place_of, places_of}
-
--- a standing byte says that its pair stands: 1 stands, 0 is absent
-abbrev pub says_stands : ℕ → Bool
-says_stands byte = byte == 1
+pub use Rattle.pairing.specs.Stated.{says_stands, byte_of}
 
 -- a standing byte says neither that its pair stands nor that it is absent
 abbrev pub says_disturbed : ℕ → Bool
@@ -25,10 +22,6 @@ pub record HavePlaces (n costs_length standing_length : ℕ) : Type 0 where
 abbrev pub have_places : ℕ → ℕ → ℕ → Bool
 have_places n costs_length standing_length = costs_length == places_of n
     && standing_length == places_of n
-
--- the standing byte of a pair
-abbrev pub byte_of : ℕ → List ℕ → ℕ → ℕ → ℕ
-byte_of n standing l r = slice_index standing (place_of n l r)
 
 -- the cell of a pair: its cost where it stands, nothing where it does not
 abbrev pub cell : {K : Type 0} → K → ℕ → List K → List ℕ → ℕ → ℕ → Option K

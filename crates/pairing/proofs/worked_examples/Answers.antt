@@ -1,7 +1,9 @@
--- The numbers, each computed from its definition; the greatest prices and the marked pairs by tests
--- that pass, the crowd sets as shown in proofs/Shown.antt.
+-- The numbers, each computed from its definition at the kinds' own meaning of a cost; the greatest
+-- prices and the marked pairs by tests that pass, the crowd sets as shown in proofs/Shown.antt.
 use Rattle.std.proofs.Common.{ℕ, List, [], ◌∷◌, refl, inl, inr}
 use Rattle.std.proofs.lemmas.Bool.{false≢true}
+use Rattle.cost.specs.contracts.plain_kind.PlainCost.TheImpl.{ghosts as plain}
+use Rattle.cost.specs.contracts.free_kind.FreeCost.TheImpl.{ghosts as free}
 use Rattle.pairing.specs.Grid.{Grid, PerfectIn}
 use Rattle.pairing.specs.Optima.{optima}
 use Rattle.pairing.specs.Examples.{s_grid, corner_grid, cheap_grid}
@@ -20,39 +22,39 @@ returns c = record {
     all = refl;
     totals = (refl, (refl, tt));
     greatest = (
-      greatest_is s_grid _ _ _ (0 ∷ 1 ∷ 0 ∷ []) (sane_is s_grid refl)
-          (perfect s_grid _ (inl refl)) refl,
+      greatest_is (s_grid plain) _ _ _ (0 ∷ 1 ∷ 0 ∷ []) (sane_is (s_grid plain) refl)
+          (perfect (s_grid plain) _ (inl refl)) refl,
       (
-        greatest_is s_grid _ _ _ (0 ∷ 1 ∷ 0 ∷ []) (sane_is s_grid refl)
-            (perfect s_grid _ (inr (inl refl))) refl,
+        greatest_is (s_grid plain) _ _ _ (0 ∷ 1 ∷ 0 ∷ []) (sane_is (s_grid plain) refl)
+            (perfect (s_grid plain) _ (inr (inl refl))) refl,
         tt,
       ),
     );
   };
-  s_marked = marks_are s_grid _ refl;
+  s_marked = marks_are (s_grid plain) _ refl;
   free_kind = refl;
   two_steps = refl;
   two_step_total = (refl, tt);
-  crowded = crowded;
-  bare = bare;
+  crowded = crowded free;
+  bare = bare free;
   corner = record {
     all = refl;
     totals = (refl, tt);
     greatest = (
-      greatest_is corner_grid _ _ _ [] (sane_is corner_grid refl)
-          (perfect corner_grid _ (inl refl)) refl,
+      greatest_is (corner_grid plain) _ _ _ [] (sane_is (corner_grid plain) refl)
+          (perfect (corner_grid plain) _ (inl refl)) refl,
       tt,
     );
   };
   corner_stands = refl;
   corner_tight = refl;
-  corner_unmarked = λ w. false≢true ((marked_tells corner_grid 0 1).1 w);
+  corner_unmarked = λ w. false≢true ((marked_tells (corner_grid plain) 0 1).1 w);
   cheap = record {
     all = refl;
     totals = (refl, tt);
     greatest = (
-      greatest_is cheap_grid _ _ _ [] (sane_is cheap_grid refl) (perfect cheap_grid _ (inl refl))
-          refl,
+      greatest_is (cheap_grid plain) _ _ _ [] (sane_is (cheap_grid plain) refl)
+          (perfect (cheap_grid plain) _ (inl refl)) refl,
       tt,
     );
   };
