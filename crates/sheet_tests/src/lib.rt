@@ -7,6 +7,8 @@ mod calls;
 #[cfg(test)]
 mod files;
 #[cfg(test)]
+mod raising;
+#[cfg(test)]
 mod runs;
 #[cfg(test)]
 mod settling;
