@@ -1,7 +1,7 @@
 -- The pair tables: how long they are, what a standing byte says, the cell of a pair, what a call
 -- makes of the cells, and when the tables are in order.
 use Rattle.std.specs.Prelude.{◌≡◌, ℕ, ◌<◌, Bool, not, ◌&&◌, ◌||◌, List, replicate, ℤ, Some, None}
-use Rattle.std.specs.Prelude.{Option, ◌==◌, nat_lt, if◌then◌else◌, slice_index, slice_index_or}
+use Rattle.std.specs.Prelude.{Option, ◌==◌, nat_lt, if◌then◌else◌, slice_index_or}
 use Rattle.std.specs.Prelude.{slice_set, zip}
 use Rattle.std.specs.List.{list_all}
 use Rattle.cost.specs.declared.TheConstants.{COST_LIMIT}
