@@ -3,7 +3,9 @@
 #![tactic(auto)]
 
 use console_words::converse;
+use report::{Command, WRONG_USAGE};
 use std::io::BufReader;
+use std::process::ExitCode;
 use std::{env, io};
 
 const USAGE: &str = "\
@@ -21,15 +23,19 @@ fn talk(rt: &HostRuntime) -> anyhow::Result<()> {
     Ok(())
 }
 
-fn run(rt: &HostRuntime) -> anyhow::Result<()> {
+fn run(rt: &HostRuntime) -> anyhow::Result<ExitCode> {
     let words = env::args(rt)?.collect::<Vec<String>>(rt.alloc())?;
-    match words.as_slice() {
-        [_, word] if matches!(word.as_str(), "-h" | "--help") => rt.print(USAGE)?,
-        _ => talk(rt)?,
+    match Command::asked(words.as_slice()) {
+        Some(Command::Run) => talk(rt)?,
+        Some(Command::Help) => rt.print(USAGE)?,
+        None => {
+            rt.eprint(USAGE)?;
+            return Ok(ExitCode::from(WRONG_USAGE));
+        }
     }
-    Ok(())
+    Ok(ExitCode::SUCCESS)
 }
 
-fn main(rt: HostRuntime) -> anyhow::Result<()> {
+fn main(rt: HostRuntime) -> anyhow::Result<ExitCode> {
     run(&rt)
 }

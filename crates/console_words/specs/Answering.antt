@@ -13,10 +13,10 @@ use Rattle.session.specs.declared.state.State.{State}
 use Rattle.session.specs.declared.state.State.TheVariants.{Open, Settled, Walking}
 use Rattle.session.specs.Runs.{state_of}
 use Rattle.report.specs.Listing.{pairing_line}
+use Rattle.report.specs.Refusing.{refusal_words, unmatched_words}
 use Rattle.report.specs.Text.{up_to}
 use Rattle.console_words.specs.declared.verb.Verb.{Verb}
 use Rattle.console_words.specs.Naming.{verb_word, verb_of}
-use Rattle.console_words.specs.Refusing.{refusal_words, unmatched_words}
 
 -- the right block of each left block
 abbrev pub partners_line : List ℕ → List ℕ
@@ -83,8 +83,8 @@ module _ {K : Type 0} (written : K → List ℕ) where
   -- the answer to a call that left the sheet in a state
   abbrev pub answer_words : Act K → State → Answer K → List ℕ
   answer_words act state NotMade = not_made_words state (verb_of act)
-  answer_words act state (Refused f) = refusal_words f
-  answer_words act state (Unmatched f s) = unmatched_words f s
+  answer_words act state (Refused f) = refusal_words f.cause
+  answer_words act state (Unmatched f s) = unmatched_words f.cause s
   answer_words act state Done = done_words act
   answer_words act state (IsSettled partners left right) =
       settled_lines partners.items left.items right.items

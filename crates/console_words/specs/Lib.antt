@@ -10,5 +10,4 @@ pub mod Handing
 pub mod Moving
 pub mod Conversing
 pub mod Sizing
-pub mod Refusing
 pub mod Answering

@@ -6,10 +6,9 @@ ghost use Rattle.console_words.specs.Answering.{mark_rows, done_words, not_made_
 ghost use Rattle.console_words.specs.Answering.{answer_words, mark_word, settled_lines};
 ghost use Rattle.console_words.specs.Answering.{state_words, state_calls};
 
-use crate::refusal_lines::{push_refusal, push_unmatched};
 use crate::typed_cost::TypedCost;
 use crate::verb::Verb;
-use report::push_pairing_line;
+use report::{push_pairing_line, push_refusal, push_unmatched};
 use session::{Act, Answer, State};
 use std::alloc::AllocError;
 use tables::place;
@@ -169,8 +168,8 @@ pub(crate) fn push_answer<K: TypedCost>(
 {
     match answer {
         Answer::NotMade => push_not_made(text, state, Verb::of(&act)),
-        Answer::Refused(fault) => push_refusal(text, fault),
-        Answer::Unmatched(fault, shortfall) => push_unmatched(text, fault, shortfall),
+        Answer::Refused(fault) => push_refusal(text, fault.cause),
+        Answer::Unmatched(fault, shortfall) => push_unmatched(text, fault.cause, shortfall),
         Answer::Done => push_done(text, act),
         Answer::Settled {
             partners,

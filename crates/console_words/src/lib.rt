@@ -12,7 +12,6 @@ mod desk;
 mod help;
 mod lead;
 mod opening;
-mod refusal_lines;
 mod request;
 mod sheet_size;
 mod table_name;

@@ -2,7 +2,7 @@
 //! argument `map` as a table of the costs with the optimum pairings marked.
 #![tactic(auto)]
 
-use report::{Form, describe_input, draw_input};
+use report::{Form, WRONG_USAGE, describe_input, draw_input};
 use std::env;
 use std::process::ExitCode;
 
@@ -15,16 +15,13 @@ each pair, and `end`; or `refused NUMBER at PLACE layer LAYER` of a file that is
   -h, --help  print this text
 ";
 
-// The status of a program that was asked for something else than it does.
-const WRONG_USAGE: u8 = 2;
-
 fn run(rt: &HostRuntime) -> anyhow::Result<ExitCode> {
     let words = env::args(rt)?.collect::<Vec<String>>(rt.alloc())?;
-    match (Form::asked(words.as_slice()), words.as_slice()) {
-        (Some(Form::Lines), _) => rt.print(describe_input(rt.alloc(), rt.stdin())?)?,
-        (Some(Form::Map), _) => rt.print(draw_input(rt.alloc(), rt.stdin())?)?,
-        (None, [_, word]) if matches!(word.as_str(), "-h" | "--help") => rt.print(USAGE)?,
-        _ => {
+    match Form::asked(words.as_slice()) {
+        Some(Form::Lines) => rt.print(describe_input(rt.alloc(), rt.stdin())?)?,
+        Some(Form::Map) => rt.print(draw_input(rt.alloc(), rt.stdin())?)?,
+        Some(Form::Help) => rt.print(USAGE)?,
+        None => {
             rt.eprint(USAGE)?;
             return Ok(ExitCode::from(WRONG_USAGE));
         }

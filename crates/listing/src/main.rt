@@ -2,8 +2,9 @@
 //! number of its refusal.
 #![tactic(auto)]
 
-use report::list_input;
+use report::{Command, WRONG_USAGE, list_input};
 use std::env;
+use std::process::ExitCode;
 
 const USAGE: &str = "\
 usage: listing < ORDER-FILE
@@ -14,15 +15,19 @@ perfect pairing, it prints `refused NUMBER`.
   -h, --help  print this text
 ";
 
-fn run(rt: &HostRuntime) -> anyhow::Result<()> {
+fn run(rt: &HostRuntime) -> anyhow::Result<ExitCode> {
     let words = env::args(rt)?.collect::<Vec<String>>(rt.alloc())?;
-    match words.as_slice() {
-        [_, word] if matches!(word.as_str(), "-h" | "--help") => rt.print(USAGE)?,
-        _ => rt.print(list_input(rt.alloc(), rt.stdin())?)?,
+    match Command::asked(words.as_slice()) {
+        Some(Command::Run) => rt.print(list_input(rt.alloc(), rt.stdin())?)?,
+        Some(Command::Help) => rt.print(USAGE)?,
+        None => {
+            rt.eprint(USAGE)?;
+            return Ok(ExitCode::from(WRONG_USAGE));
+        }
     }
-    Ok(())
+    Ok(ExitCode::SUCCESS)
 }
 
-fn main(rt: HostRuntime) -> anyhow::Result<()> {
+fn main(rt: HostRuntime) -> anyhow::Result<ExitCode> {
     run(&rt)
 }

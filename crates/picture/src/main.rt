@@ -7,7 +7,7 @@ mod ladder;
 mod solved;
 mod table;
 
-use report::{explain, read_input};
+use report::{Command, WRONG_USAGE, explain, read_input};
 use solved::{Trouble, solve};
 use std::env;
 use std::process::ExitCode;
@@ -21,11 +21,8 @@ beside the blocks. The first optimum pairings follow, as lines between blocks.
 A file that is refused is told in words on standard error, with status 1.
 ";
 
-// The status of a program whose order file is refused, and of one that is asked for what it does
-// not know.
+// The status of a program whose order file is refused.
 const REFUSED: u8 = 1;
-
-const USAGE: u8 = 2;
 
 fn draw_input(rt: &HostRuntime) -> anyhow::Result<ExitCode> {
     let heap = rt.alloc();
@@ -44,16 +41,16 @@ fn draw_input(rt: &HostRuntime) -> anyhow::Result<ExitCode> {
 }
 
 fn run(rt: &HostRuntime) -> anyhow::Result<ExitCode> {
-    let words = env::args(rt)?.skip(1).collect::<Vec<String>>(rt.alloc())?;
-    match words.first().map(|word| word.as_str()) {
-        None => draw_input(rt),
-        Some("--help" | "-h") => {
+    let words = env::args(rt)?.collect::<Vec<String>>(rt.alloc())?;
+    match Command::asked(words.as_slice()) {
+        Some(Command::Run) => draw_input(rt),
+        Some(Command::Help) => {
             rt.print(HELP)?;
             Ok(ExitCode::SUCCESS)
         }
-        Some(_) => {
+        None => {
             rt.eprint(HELP)?;
-            Ok(ExitCode::from(USAGE))
+            Ok(ExitCode::from(WRONG_USAGE))
         }
     }
 }

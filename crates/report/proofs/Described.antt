@@ -4,7 +4,7 @@
 -- cells are what the order states.
 use Rattle.std.proofs.Common.{◌≡◌, ℕ, ◌<◌, List, length, ◌++◌, ℤ, IfOk, Some, None, Err, codes}
 use Rattle.std.proofs.Common.{decimal}
-use Rattle.std.proofs.Common.{Option, Result, refl, ap, ◌∙◌, ⊎_elim}
+use Rattle.std.proofs.Common.{Option, Result, refl, ap, ◌∙◌, subst, ⊎_elim}
 use Rattle.std.proofs.lemmas.Result.{IfOk-weaker}
 use Rattle.std.specs.Option.{option_map}
 use Rattle.cost.specs.declared.plain_kind.Plain.{Plain}
@@ -20,30 +20,31 @@ use Rattle.report.specs.Text.{up_to, pair_line, cost_in, row_lines, all_lines, s
 use Rattle.report.specs.Text.{statement}
 use Rattle.report.proofs.Lines.{up_same}
 
-module _ (of_order : Order → List ℕ) (of_fault : Fault → List ℕ) (file : List ℕ) where
-  pub tells_order : (text : List ℕ) (order : Order) → States file order → text ≡ of_order order
-      → Tells of_order of_fault file text
-  tells_order text order s e = record {
-    verdict = verdict_order file order s;
-    states = λ o t. e ∙ ap of_order (one_order file order o s t);
-    faulty = λ f t. absurd (not_both file order f s t);
-  }
+module _ (TellsOrder : Order → List ℕ → Type 0) (of_fault : Fault → List ℕ) (file : List ℕ)
+  where
+    pub tells_order : (text : List ℕ) (order : Order) → States file order → TellsOrder order text
+        → Tells TellsOrder of_fault file text
+    tells_order text order s e = record {
+      verdict = verdict_order file order s;
+      states = λ o t. subst (λ (x : Order). TellsOrder x text) (one_order file order o s t) e;
+      faulty = λ f t. absurd (not_both file order f s t);
+    }
 
-  pub tells_fault : (text : List ℕ) (f : Fault) → FirstFault file f → text ≡ of_fault f
-      → Tells of_order of_fault file text
-  tells_fault text f s e = record {
-    verdict = verdict_fault file f s;
-    states = λ o t. absurd (not_both file o f t s);
-    faulty = λ g t. e ∙ ap of_fault (one_fault file f g s t);
-  }
+    pub tells_fault : (text : List ℕ) (f : Fault) → FirstFault file f → text ≡ of_fault f
+        → Tells TellsOrder of_fault file text
+    tells_fault text f s e = record {
+      verdict = verdict_fault file f s;
+      states = λ o t. absurd (not_both file o f t s);
+      faulty = λ g t. e ∙ ap of_fault (one_fault file f g s t);
+    }
 
-  -- the line of a fault tells of the file that has it first, if there was memory for the line
-  pub line_tells : {X Y : Type 0} (bytes : X → List ℕ) (line : Result X Y) (f : Fault)
-      → FirstFault file f → IfOk line (λ text. bytes text ≡ of_fault f)
-      → IfOk line (λ text. Tells of_order of_fault file (bytes text))
-  line_tells bytes line f s h = IfOk-weaker line (λ text. bytes text ≡ of_fault f)
-      (λ text. Tells of_order of_fault file (bytes text))
-      (λ text e. tells_fault (bytes text) f s e) h
+    -- the line of a fault tells of the file that has it first, if there was memory for the line
+    pub line_tells : {X Y : Type 0} (bytes : X → List ℕ) (line : Result X Y) (f : Fault)
+        → FirstFault file f → IfOk line (λ text. bytes text ≡ of_fault f)
+        → IfOk line (λ text. Tells TellsOrder of_fault file (bytes text))
+    line_tells bytes line f s h = IfOk-weaker line (λ text. bytes text ≡ of_fault f)
+        (λ text. Tells TellsOrder of_fault file (bytes text))
+        (λ text e. tells_fault (bytes text) f s e) h
 
 -- a refusal of tables that fit is the file's first fault
 pub loads_fault : (file : List ℕ) (costs : List Plain) (standing : List ℕ)

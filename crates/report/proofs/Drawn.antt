@@ -1,13 +1,15 @@
 -- The map of settled tables, and of the order that they were loaded from.
 -- Idea: a map is made of its cells, and a cell of what is told of its pair. The marks of a table
--- tell the pairs that some optimum pairing has, and the loaded costs are the stated ones.
+-- tell the pairs that some optimum pairing has, and the loaded costs are the stated ones. Grids
+-- that are the same inside have the same crowd set, so what is told of none is the same too.
 use Rattle.std.proofs.Common.{◌≡◌, ℕ, zero, suc, ◌<◌, max, Bool, true, false, cond, ◌&&◌, eqb, List}
 use Rattle.std.proofs.Common.{[], ◌∷◌, ◌++◌, length, ℤ, Option, Result, codes, decimal, sym, refl}
-use Rattle.std.proofs.Common.{ap, ap₂, ◌∙◌, arith}
+use Rattle.std.proofs.Common.{ap, ap₂, ◌∙◌, subst, arith}
 use Rattle.std.proofs.lemmas.Bool.{lt-ltb}
 use Rattle.cost.specs.declared.plain_kind.Plain.{Plain}
 use Rattle.pairing.specs.Grid.{Grid, at, total}
 use Rattle.pairing.specs.Places.{place_of}
+use Rattle.pairing.specs.Largest.{Unpaired}
 use Rattle.pairing.specs.Optima.{optima, has_pair, is_marked}
 use Rattle.matching.specs.Answers.{IsNth}
 use Rattle.tables.specs.Lent.{Lent, grid}
@@ -22,7 +24,7 @@ use Rattle.report.specs.Listing.{total_line}
 use Rattle.report.specs.Mapping.{SheetView, cell_text, cell_of, right_in, most, row_width}
 use Rattle.report.specs.Mapping.{column_width, head_line, table_row, table_rows, legend}
 use Rattle.report.specs.Mapping.{map_text}
-use Rattle.report.specs.Drawing.{grid_view, map_over, map_of}
+use Rattle.report.specs.Drawing.{grid_view, IsMapOver, IsMap}
 use Rattle.report.proofs.Described.{cost_shown}
 use Rattle.report.proofs.Lines.{up_same}
 use Rattle.matching.proofs.Nth.{nth_optimum}
@@ -70,18 +72,21 @@ module _ (n : ℕ) (cost cost' : ℕ → ℕ → Option ℤ) (first first' occur
 
 map_first : (cost : ℕ → ℕ → Option ℤ) (g : Grid) (ps : List (List ℕ)) (p text : List ℕ)
     → IsNth ps 0 p → text ≡ total_line (total g p) ++ map_text (grid_view cost g p)
-    → text ≡ map_over cost g ps
+    → IsMapOver cost g ps text
 map_first cost g [] p text first e = absurd (omega (arith, first.0))
 map_first cost g (q ∷ qs) p text first e =
     e ∙ ap (λ x. total_line (total g x) ++ map_text (grid_view cost g x)) (sym first.1)
 
-over_same : (cost cost' : ℕ → ℕ → Option ℤ) (g h : Grid) (ps : List (List ℕ))
+over_same : (cost cost' : ℕ → ℕ → Option ℤ) (g h : Grid) (ps : List (List ℕ)) (text : List ℕ)
     → ((p : List ℕ) → IsNth ps 0 p → total g p ≡ total h p)
     → ((p : List ℕ) → map_text (grid_view cost g p) ≡ map_text (grid_view cost' h p))
-    → map_over cost g ps ≡ map_over cost' h ps
-over_same cost cost' g h [] totals maps = refl
-over_same cost cost' g h (p ∷ ps) totals maps =
-    ap₂ (λ t m. total_line t ++ m) (totals p (omega arith, refl)) (maps p)
+    → ((crowd short : ℕ)
+    → Unpaired g.size g.stands crowd short → Unpaired h.size h.stands crowd short)
+    → IsMapOver cost g ps text → IsMapOver cost' h ps text
+over_same cost cost' g h [] text totals maps crowds told =
+    (told.0, crowds told.0.crowd told.0.short told.1, told.2)
+over_same cost cost' g h (p ∷ ps) text totals maps crowds told =
+    told ∙ ap₂ (λ t m. total_line t ++ m) (totals p (omega arith, refl)) (maps p)
 
 -- ---- Settled tables
 
@@ -110,7 +115,7 @@ module _ (t : Lent Plain) (marks : List ℕ) where
   pub drawn : AreMarks plain_kind t marks → (text : List ℕ)
       → IsNth (optima (grid plain_kind t)) 0 t.partners
       → text ≡ total_line (total (grid plain_kind t) t.partners) ++ map_text tables_view
-      → text ≡ map_of (cost_in t.size t.costs t.standing) (grid plain_kind t)
+      → IsMap (cost_in t.size t.costs t.standing) (grid plain_kind t) text
   drawn m text first e =
       let g = grid plain_kind t in
       let cost = cost_in t.size t.costs t.standing in
@@ -125,18 +130,19 @@ module _ (t : Lent Plain) (marks : List ℕ) where
 
 module _ (order : Order) (r : Result Sheet Fault) (costs : List Plain) (standing : List ℕ)
     (accepted : Accepted order r costs standing) where
-  pub drawn_order : map_of (cost_in order.size costs standing)
-      (plain_grid order.size costs standing)
-      ≡ map_of (cost_stated order.pairs) (grid_stated order)
-  drawn_order =
+  pub drawn_order : (text : List ℕ)
+      → IsMap (cost_in order.size costs standing) (plain_grid order.size costs standing) text
+      → IsMap (cost_stated order.pairs) (grid_stated order) text
+  drawn_order text map =
       let n = order.size in
       let g = plain_grid n costs standing in
       let h = grid_stated order in
       let alike = loaded_alike order r costs standing accepted in
-      over_same (cost_in n costs standing) (cost_stated order.pairs) g h (optima g)
+      subst (λ (ps : List (List ℕ)). IsMapOver (cost_stated order.pairs) h ps text) alike.optima
+      (over_same (cost_in n costs standing) (cost_stated order.pairs) g h (optima g) text
       (λ p i. alike.totals p (nth_optimum g 0 p i).perfect)
       (λ p. map_same n (cost_in n costs standing) (cost_stated order.pairs)
       (λ l m. eqb (at p l) m) (λ l m. eqb (at p l) m) (is_marked g) (is_marked h)
       (λ l m i j. ap₂ (λ o c. cell_text (eqb (at p l) m) o c) (alike.is_marked l m)
       (cost_shown order costs standing accepted.shows l m i j)))
-      ∙ ap (map_over (cost_stated order.pairs) h) alike.optima
+      (λ crowd short u. (alike.unpaired crowd short).0 u) map)

@@ -6,14 +6,14 @@ use Rattle.orderfile.specs.Faults.{FirstFault}
 use Rattle.orderfile.specs.Loading.{HasOneVerdict}
 use Rattle.report.specs.Text.{statement, refusal}
 
--- the text is what is told of the order that the file states, or of its first fault; every file has
--- one of the two, and never both
-pub record Tells (of_order : Order → List ℕ) (of_fault : Fault → List ℕ) (file text : List ℕ)
-    : Type 0 where
+-- the text tells the order that the file states, or is what is told of its first fault; every file
+-- has one of the two, and never both
+pub record Tells (TellsOrder : Order → List ℕ → Type 0) (of_fault : Fault → List ℕ)
+    (file text : List ℕ) : Type 0 where
   pub verdict : HasOneVerdict file
-  pub states : (order : Order) → States file order → text ≡ of_order order
+  pub states : (order : Order) → States file order → TellsOrder order text
   pub faulty : (f : Fault) → FirstFault file f → text ≡ of_fault f
 
 -- the text tells what the file states, or its first fault
 abbrev pub Describes : (file text : List ℕ) → Type 0
-Describes = Tells statement refusal
+Describes = Tells (λ order text. text ≡ statement order) refusal

@@ -3,5 +3,7 @@ pub mod Describing
 pub mod Listing
 pub mod Mapping
 pub mod Words
+pub mod Refusing
+pub mod Asking
 pub mod Settlement
 pub mod Drawing

@@ -1,7 +1,7 @@
 -- The text of a listing: all optimum pairings of a grid in dictionary order, as far as a listing
 -- goes, or why there is none; and what listing a file answers.
-use Rattle.std.specs.Prelude.{ℕ, List, [], ◌∷◌, ◌++◌, length, take, ℤ, codes, decimal, nat_lt}
-use Rattle.std.specs.Prelude.{if◌then◌else◌}
+use Rattle.std.specs.Prelude.{◌≡◌, ℕ, List, [], ◌∷◌, ◌++◌, length, take, ℤ, codes, decimal}
+use Rattle.std.specs.Prelude.{nat_lt, if◌then◌else◌}
 use Rattle.std.specs.Fmt.{signed_decimal}
 use Rattle.std.specs.List.{flat_map}
 use Rattle.pairing.specs.Grid.{Grid, total}
@@ -53,4 +53,5 @@ listing_text g = listing_over g (optima g)
 -- the text lists the optimum pairings of the grid that the file states, or tells the cause of its
 -- first fault
 abbrev pub Lists : (file text : List ℕ) → Type 0
-Lists = Tells (λ order. listing_text (grid_stated order)) (λ f. cause_line f.cause)
+Lists =
+    Tells (λ order text. text ≡ listing_text (grid_stated order)) (λ f. cause_line f.cause)

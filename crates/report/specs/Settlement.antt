@@ -1,13 +1,12 @@
 -- What settling a loaded sheet with fresh tables comes to.
 use Rattle.std.specs.Prelude.{◌≡◌, ℕ, List, []}
 use Rattle.cost.specs.declared.plain_kind.Plain.{Plain}
+use Rattle.pairing.specs.Largest.{Unpaired}
 use Rattle.pairing.specs.Optima.{optima}
+use Rattle.matching.specs.declared.augmenting.Shortfall.{Shortfall}
 use Rattle.tables.specs.Lent.{Lent, lent}
 use Rattle.tables.specs.Together.{Together}
 use Rattle.assign.specs.Answer.{Settled}
-use Rattle.sheet.specs.Refusals.{fault}
-use Rattle.sheet.specs.declared.fault.Cause.TheVariants.{NoPerfectPairing}
-use Rattle.sheet.specs.declared.fault.Fault.{Fault}
 use Rattle.orderfile.specs.Loading.{plain_kind, plain_grid}
 use Rattle.report.specs.declared.fresh_tables.Settlement.{Settlement}
 
@@ -23,7 +22,8 @@ pub record IsSettlement (n : ℕ) (costs : List Plain) (standing : List ℕ) (s 
   pub together : Together plain_kind (tables_of n costs standing s)
   pub settled : Settled plain_kind (tables_of n costs standing s)
 
--- there is no optimum pairing
-pub record HasNoPairing (n : ℕ) (costs : List Plain) (standing : List ℕ) (f : Fault) : Type 0 where
-  pub fault_is : f ≡ fault NoPerfectPairing 0
-  pub none : optima (plain_grid n costs standing) ≡ []
+-- there is no optimum pairing, and these are the crowd set and its shortage
+pub record HasNoPairing (n : ℕ) (costs : List Plain) (standing : List ℕ) (s : Shortfall) : Type 0
+  where
+    pub unpaired : Unpaired n (plain_grid n costs standing).stands s.crowd s.short
+    pub none : optima (plain_grid n costs standing) ≡ []

@@ -29,7 +29,7 @@ remedy_for CostRange = codes "Scale the costs down, all by the same factor."
 remedy_for Absent = codes "Enter the pair with a cost first."
 remedy_for NoPerfectPairing =
     codes "Enter more pairs: some left blocks stand with too few right blocks."
-remedy_for Inconsistent = codes "Load the sheet anew, and settle it."
+remedy_for Inconsistent = codes "Begin the sheet anew: enter its pairs, and settle it."
 remedy_for Overrun = codes "Look whether the file is cut short, or the length of this field wrong."
 remedy_for Tag = codes "Write one size, then the pairs, then one end, and nothing behind it."
 remedy_for FieldLength = codes "Give a size 1 byte, a pair 10 bytes and the end none."

@@ -10,15 +10,16 @@ ghost use Rattle.sheet.specs.Size.{size_of};
 ghost use Rattle.orderfile.specs.Format.{Order, States};
 ghost use Rattle.orderfile.specs.Loading.{plain_kind, plain_grid};
 ghost use Rattle.report.specs.Text.{cost_in};
-ghost use Rattle.report.specs.Drawing.{map_of, Draws};
+ghost use Rattle.report.specs.Drawing.{IsMap, Draws, no_map};
 
 use crate::fresh_tables::settle_afresh;
 use crate::pairing_lines::push_total_line;
+use crate::refusal_lines::push_unmatched;
 use crate::sheet_map::Drawing;
 use crate::words::explain;
 use cost::Plain;
 use orderfile::loading::{check, load};
-use sheet::{OpenSheet, SettledSheet};
+use sheet::{Cause, OpenSheet, SettledSheet, Shortfall};
 use std::alloc::{AllocError, Global};
 use tables::{Tables, places};
 
@@ -31,8 +32,8 @@ fn draw_settled(
     requires size { size_of sheet.now ≡ tables.now.size }
     requires together { Together plain_kind tables.now }
     requires settled { Settled plain_kind tables.now }
-    ensures { let t = tables.now in IfOk result (λ text. string_bytes text
-        ≡ map_of (cost_in t.size t.costs t.standing) (grid plain_kind t)) }
+    ensures { let t = tables.now in IfOk result (λ text.
+        IsMap (cost_in t.size t.costs t.standing) (grid plain_kind t) (string_bytes text)) }
 {
     let Tables {
         size,
@@ -63,6 +64,15 @@ fn draw_settled(
     Ok(text)
 }
 
+// What stands in place of the map of a sheet that holds no perfect pairing.
+fn draw_unmatched(heap: Global, shortfall: Shortfall) -> Result<String, AllocError>
+    ensures { IfOk result (λ text. string_bytes text ≡ no_map shortfall) }
+{
+    let mut text = String::new(heap);
+    push_unmatched(&mut text, Cause::NoPerfectPairing, shortfall)?;
+    Ok(text)
+}
+
 // The map of a sheet: it is settled, or no pairing is perfect.
 fn draw_sheet(
     heap: Global,
@@ -71,12 +81,13 @@ fn draw_sheet(
     standing: &[u8],
 ) -> Result<String, AllocError>
     requires { ArePairTables plain_kind (size_of sheet) costs.now standing.now }
-    ensures { let n = size_of sheet in IfOk result (λ text. string_bytes text
-        ≡ map_of (cost_in n costs.now standing.now) (plain_grid n costs.now standing.now)) }
+    ensures { let n = size_of sheet in IfOk result (λ text. IsMap
+        (cost_in n costs.now standing.now) (plain_grid n costs.now standing.now)
+        (string_bytes text)) }
 {
     let settlement = match settle_afresh(heap, sheet, costs, standing)? {
         Ok(settlement) => settlement,
-        Err(fault) => return explain(heap, fault),
+        Err(shortfall) => return draw_unmatched(heap, shortfall),
     };
     let tables = Tables {
         size: settlement.sheet.size(),
@@ -108,7 +119,8 @@ fn load_and_draw(
 
 /// The map of an order file: `total T`, and the table of the costs that the file states, in which
 /// the pairs of the first optimum pairing have a mark, and those of any other one another; or else,
-/// in words, why the file is refused or that no pairing is perfect.
+/// in words, why the file is refused or that no pairing is perfect, with the crowd set and its
+/// shortage.
 pub fn draw(heap: Global, file: &[u8]) -> Result<String, AllocError>
     ensures { IfOk result (λ text. Draws file.now (string_bytes text)) }
 {

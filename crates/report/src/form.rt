@@ -1,30 +1,38 @@
-//! What a person asks of a program that tells order files: lines, or a map.
+//! What a person asks of a program that tells order files: lines, a map, or what the program does.
 
 ghost use Rattle.std.specs.Prelude.{◌≡◌, ◌≤◌, ◌↔◌, Some, IfSome, codes, length};
 ghost use Rattle.std.specs.Prelude.{slice_get, string_bytes};
+ghost use Rattle.report.specs.Asking.{AsksHelp};
 
-/// How a file is told.
+use crate::command::means_help;
+
+/// What is asked of such a program.
 #[derive(Clone, Copy, PartialEq, Eq, Debug)]
 pub enum Form {
-    /// In lines, by `describe_input`.
+    /// The file in lines, by `describe_input`.
     Lines,
-    /// As a map, by `draw_input`.
+    /// The file as a map, by `draw_input`.
     Map,
+    /// To say what it does.
+    Help,
 }
 
 impl Form {
-    ghost use Rattle.report.specs.declared.form.Form.TheVariants.{Lines, Map};
+    ghost use Rattle.report.specs.declared.form.Form.TheVariants.{Lines, Map, Help};
 
-    /// The form that the words of a command ask for, of which the first is the program's name:
-    /// lines with no other word, a map with the word `map` alone, and else none.
+    /// What the words of a command ask for, of which the first is the program's name: lines with
+    /// no other word, a map with the word `map` alone, help with `--help` or `-h` alone, and else
+    /// nothing that it knows.
     pub fn asked(words: &[String]) -> Option<Form>
         ensures lines { (result ≡ Some Lines) ↔ (length words.now ≤ 1) }
         ensures map { (result ≡ Some Map) ↔ ((length words.now ≡ 2)
             × IfSome (slice_get words.now 1) (λ word. string_bytes word ≡ codes "map")) }
+        ensures help { (result ≡ Some Help) ↔ AsksHelp words.now }
     {
         match words {
             [] | [_] => Some(Form::Lines),
             [_, word] if word.as_str() == "map" => Some(Form::Map),
+            [_, word] if means_help(word.as_str()) => Some(Form::Help),
             _ => None,
         }
     }

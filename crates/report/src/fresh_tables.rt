@@ -7,7 +7,7 @@ ghost use Rattle.orderfile.specs.Loading.{plain_kind};
 ghost use Rattle.report.specs.Settlement.{IsSettlement, HasNoPairing};
 
 use cost::Plain;
-use sheet::{Fault, OpenSheet, SettledSheet};
+use sheet::{OpenSheet, SettledSheet, Shortfall};
 use std::alloc::{AllocError, Global};
 
 /// A settled sheet, with the tables that settling wrote.
@@ -20,17 +20,17 @@ pub struct Settlement {
 }
 
 /// Settles a sheet with fresh tables, or tells why it cannot be settled: where its pair tables are
-/// in order, for want of a perfect pairing alone.
+/// in order, for want of a perfect pairing alone, so by the crowd set and its shortage.
 pub fn settle_afresh(
     heap: Global,
     sheet: OpenSheet,
     costs: &[Plain],
     standing: &[u8],
-) -> Result<Result<Settlement, Fault>, AllocError>
+) -> Result<Result<Settlement, Shortfall>, AllocError>
     requires { ArePairTables plain_kind (size_of sheet) costs.now standing.now }
     ensures { IfOk result (λ answer. MatchResult answer
         (λ settlement. IsSettlement (size_of sheet) costs.now standing.now settlement)
-        (λ f. HasNoPairing (size_of sheet) costs.now standing.now f)) }
+        (λ s. HasNoPairing (size_of sheet) costs.now standing.now s)) }
 {
     let size = sheet.size() as usize;
     let mut partners = vec![in heap; 0u16; size]?;
@@ -48,6 +48,11 @@ pub fn settle_afresh(
             left,
             right,
         })),
-        Err(refusal) => Ok(Err(refusal.fault)),
+        Err(refusal) => {
+            let Some(shortfall) = refusal.shortfall else {
+                unreachable!();
+            };
+            Ok(Err(shortfall))
+        }
     }
 }

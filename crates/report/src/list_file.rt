@@ -17,7 +17,7 @@ use crate::fresh_tables::{Settlement, settle_afresh};
 use crate::pairing_lines::{MOST_PAIRINGS, cause_line, push_pairing_line, push_total_line};
 use cost::Plain;
 use orderfile::loading::{check, load};
-use sheet::{OpenSheet, SettledSheet, Step, Walk};
+use sheet::{Cause, OpenSheet, SettledSheet, Step, Walk};
 use std::alloc::{AllocError, Global};
 use tables::{Tables, places};
 
@@ -112,7 +112,7 @@ fn list_sheet(
 {
     let settlement = match settle_afresh(heap, sheet, costs, standing)? {
         Ok(settlement) => settlement,
-        Err(fault) => return cause_line(heap, fault.cause),
+        Err(_) => return cause_line(heap, Cause::NoPerfectPairing),
     };
     let Settlement {
         sheet,

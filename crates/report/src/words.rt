@@ -38,7 +38,7 @@ pub fn remedy(cause: Cause) -> &'static str
         Cause::NoPerfectPairing => {
             "Enter more pairs: some left blocks stand with too few right blocks."
         }
-        Cause::Inconsistent => "Load the sheet anew, and settle it.",
+        Cause::Inconsistent => "Begin the sheet anew: enter its pairs, and settle it.",
         Cause::Overrun => "Look whether the file is cut short, or the length of this field wrong.",
         Cause::Tag => "Write one size, then the pairs, then one end, and nothing behind it.",
         Cause::FieldLength => "Give a size 1 byte, a pair 10 bytes and the end none.",

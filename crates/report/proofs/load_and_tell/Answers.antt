@@ -21,7 +21,8 @@ returns-in-Ok c =
     IfOk-weaker c.tell.result
     (λ text. string_bytes text ≡ sheet_text c.in-Ok.sheet.size c.load.new.costs
     c.load.new.standing) (λ text. Describes c.args.file.now (string_bytes text))
-    (λ text e. tells_order statement refusal c.args.file.now (string_bytes text) o.0 o.1
+    (λ text e. tells_order (λ order told. told ≡ statement order) refusal c.args.file.now
+    (string_bytes text) o.0 o.1
     (e ∙ ap (λ k. sheet_text k c.load.new.costs c.load.new.standing) o.3
     ∙ told o.0 c.load.new.costs c.load.new.standing o.4.shows))
     c.tell.ensures
@@ -29,5 +30,6 @@ returns-in-Ok c =
 pub returns-in-Err : goal.returns-in-Err
 returns-in-Err c =
     let f = c.in-Err.fault in
-    line_tells statement refusal c.args.file.now string_bytes c.refusal_line.result f
+    line_tells (λ order text. text ≡ statement order) refusal c.args.file.now string_bytes
+    c.refusal_line.result f
     (loads_fault _ _ _ c.requires _ _ f c.in-Err.ensures) c.refusal_line.ensures

@@ -23,8 +23,8 @@ returns-in-Ok c =
     IfOk-weaker c.list_sheet.result
     (λ text. string_bytes text ≡ listing_text (plain_grid c.in-Ok.sheet.size costs standing))
     (λ text. Lists c.args.file.now (string_bytes text))
-    (λ text e. tells_order (λ order. listing_text (grid_stated order)) (λ f. cause_line f.cause)
-    c.args.file.now (string_bytes text) o.0 o.1
+    (λ text e. tells_order (λ order lines. lines ≡ listing_text (grid_stated order))
+    (λ f. cause_line f.cause) c.args.file.now (string_bytes text) o.0 o.1
     (e ∙ ap (λ k. listing_text (plain_grid k costs standing)) o.3
     ∙ listing_same (plain_grid o.0.size costs standing) (grid_stated o.0)
     (loaded_alike o.0 _ costs standing o.4)))
@@ -33,6 +33,6 @@ returns-in-Ok c =
 pub returns-in-Err : goal.returns-in-Err
 returns-in-Err c =
     let f = c.in-Err.fault in
-    line_tells (λ order. listing_text (grid_stated order)) (λ f. cause_line f.cause)
+    line_tells (λ order text. text ≡ listing_text (grid_stated order)) (λ f. cause_line f.cause)
     c.args.file.now string_bytes c.cause_line.result f
     (loads_fault _ _ _ c.requires _ _ f c.in-Err.ensures) c.cause_line.ensures

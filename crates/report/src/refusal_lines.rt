@@ -1,19 +1,19 @@
-//! Refusals in plain words.
+//! Refusals in lines, with the crowd set of a sheet that holds no perfect pairing.
 
 ghost use Rattle.std.specs.Prelude.{◌≡◌, ◌++◌, OnOk, string_bytes};
+ghost use Rattle.report.specs.Refusing.{meaning_line, remedy_line, block_word, crowd_lines};
+ghost use Rattle.report.specs.Refusing.{refusal_words, unmatched_words};
 ghost use Rattle.report.specs.Text.{up_to};
-ghost use Rattle.console_words.specs.Refusing.{cause_line, remedy_line, crowd_lines, refusal_words};
-ghost use Rattle.console_words.specs.Refusing.{unmatched_words, block_word};
 
+use crate::words::{meaning, remedy};
 use blockset::BlockSet;
-use report::{meaning, remedy};
-use sheet::{Cause, Fault, Shortfall};
+use sheet::{Cause, Shortfall};
 use std::alloc::AllocError;
 use tables::MOST_BLOCKS;
 
 // Appends the line that says what a cause means, behind its number.
-fn push_cause(text: &mut String, cause: Cause) -> Result<(), AllocError>
-    ensures { OnOk result (string_bytes text.new ≡ string_bytes text.old ++ cause_line cause) }
+fn push_meaning(text: &mut String, cause: Cause) -> Result<(), AllocError>
+    ensures { OnOk result (string_bytes text.new ≡ string_bytes text.old ++ meaning_line cause) }
 {
     let number = cause.number();
     let meaning = meaning(cause);
@@ -52,24 +52,25 @@ fn push_crowd(text: &mut String, shortfall: Shortfall) -> Result<(), AllocError>
     write!(text, "\nshortage: {short}\n")
 }
 
-/// Appends a refusal: its number and what it means, and what to do.
-pub(crate) fn push_refusal(text: &mut String, fault: Fault) -> Result<(), AllocError>
-    ensures { OnOk result (string_bytes text.new ≡ string_bytes text.old ++ refusal_words fault) }
+/// Appends a refusal on two lines: the number of its cause and what that means, and what to do.
+pub fn push_refusal(text: &mut String, cause: Cause) -> Result<(), AllocError>
+    ensures { OnOk result (string_bytes text.new ≡ string_bytes text.old ++ refusal_words cause) }
 {
-    push_cause(text, fault.cause)?;
-    push_remedy(text, fault.cause)
+    push_meaning(text, cause)?;
+    push_remedy(text, cause)
 }
 
-/// Appends the refusal of a sheet that holds no perfect pairing, with the crowd set.
-pub(crate) fn push_unmatched(
+/// Appends the refusal of a sheet that holds no perfect pairing. The crowd set and its shortage
+/// stand, a line each, before what to do.
+pub fn push_unmatched(
     text: &mut String,
-    fault: Fault,
+    cause: Cause,
     shortfall: Shortfall,
 ) -> Result<(), AllocError>
     ensures { OnOk result (string_bytes text.new
-        ≡ string_bytes text.old ++ unmatched_words fault shortfall) }
+        ≡ string_bytes text.old ++ unmatched_words cause shortfall) }
 {
-    push_cause(text, fault.cause)?;
+    push_meaning(text, cause)?;
     push_crowd(text, shortfall)?;
-    push_remedy(text, fault.cause)
+    push_remedy(text, cause)
 }

@@ -2,8 +2,8 @@
 -- Idea: the counter has come to the end, where the invariant is what is ensured.
 use Rattle.std.proofs.Common.{◌≡◌, ◌++◌, string_bytes, ap, ◌∙◌, arith}
 use Rattle.report.specs.Text.{up_to}
-use Rattle.console_words.specs.Refusing.{block_word}
-use Rattle.console_words.proofs.refusal_lines.push_blocks.Goals as goal
+use Rattle.report.specs.Refusing.{block_word}
+use Rattle.report.proofs.refusal_lines.push_blocks.Goals as goal
 
 pub returns : goal.returns
 returns c = let gone : c.loop-block.block-counter ≡ 64 = omega arith in

@@ -1,25 +1,24 @@
--- Refusals in plain words.
+-- Refusals in lines, with the crowd set of a sheet that holds no perfect pairing.
 use Rattle.std.specs.Prelude.{ℕ, List, [], ◌++◌, codes, decimal, if◌then◌else◌}
 use Rattle.blockset.specs.Sets.{bit}
 use Rattle.blockset.specs.declared.TheConstants.{MOST_BLOCKS}
 use Rattle.matching.specs.declared.augmenting.Shortfall.{Shortfall}
 use Rattle.sheet.specs.Numbers.{cause_number}
 use Rattle.sheet.specs.declared.fault.Cause.{Cause}
-use Rattle.sheet.specs.declared.fault.Fault.{Fault}
 use Rattle.report.specs.Text.{up_to}
 use Rattle.report.specs.Words.{meaning_of, remedy_for}
 
 -- `refused NUMBER: MEANING`
-abbrev pub cause_line : Cause → List ℕ
-cause_line cause = codes "refused " ++ (decimal (cause_number cause)
+abbrev pub meaning_line : Cause → List ℕ
+meaning_line cause = codes "refused " ++ (decimal (cause_number cause)
     ++ (codes ": " ++ (meaning_of cause ++ codes "\n")))
 
 abbrev pub remedy_line : Cause → List ℕ
 remedy_line cause = remedy_for cause ++ codes "\n"
 
 -- a refusal: its number and what it means, and what to do
-abbrev pub refusal_words : Fault → List ℕ
-refusal_words f = cause_line f.cause ++ remedy_line f.cause
+abbrev pub refusal_words : Cause → List ℕ
+refusal_words cause = meaning_line cause ++ remedy_line cause
 
 -- ` B` if left block B is in the crowd set
 abbrev pub block_word : ℕ → ℕ → List ℕ
@@ -31,5 +30,5 @@ crowd_lines s = codes "crowd set: left blocks" ++ (up_to MOST_BLOCKS (block_word
     ++ (codes "\nshortage: " ++ (decimal s.short ++ codes "\n")))
 
 -- the refusal of a sheet that holds no perfect pairing
-abbrev pub unmatched_words : Fault → Shortfall → List ℕ
-unmatched_words f s = cause_line f.cause ++ (crowd_lines s ++ remedy_line f.cause)
+abbrev pub unmatched_words : Cause → Shortfall → List ℕ
+unmatched_words cause s = meaning_line cause ++ (crowd_lines s ++ remedy_line cause)
