@@ -12,7 +12,7 @@ import random
 import re
 import sys
 
-from reports import WORDS, perfect_pairings
+from reports import WORDS, crowd_lines, perfect_pairings
 
 MEANINGS = dict(WORDS)
 MEANINGS[2] = ("a table has the wrong length",
@@ -52,22 +52,6 @@ def add(a, b):
 
 def less(a, b):
     return tuple(x - y for x, y in zip(a, b))
-
-
-def matched(n, cells, left_out=None):
-    """How many left blocks a largest pairing pairs, without the one that is left out."""
-    holder = {}
-
-    def pairs(l, seen):
-        for r in range(n):
-            if (l, r) in cells and r not in seen:
-                seen.add(r)
-                if r not in holder or pairs(holder[r], seen):
-                    holder[r] = l
-                    return True
-        return False
-
-    return sum(pairs(l, set()) for l in range(n) if l != left_out)
 
 
 def prices(n, cells, pairing, zero):
@@ -173,10 +157,7 @@ class Session:
     def settle(self, *_):
         perfect = list(perfect_pairings(self.n, self.cells))
         if not perfect:
-            most = matched(self.n, self.cells)
-            crowd = [l for l in range(self.n) if matched(self.n, self.cells, l) == most]
-            raise Refusal(6, "crowd set: left blocks" + "".join(" %d" % l for l in crowd),
-                          "shortage: %d" % (self.n - most))
+            raise Refusal(6, *crowd_lines(self.n, self.cells))
         self.least = min(map(self.sum_of, perfect))
         self.optima = [p for p in perfect if self.sum_of(p) == self.least]
         self.left, self.right = prices(self.n, self.cells, self.optima[0], (0,) * self.columns)

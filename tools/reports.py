@@ -1,8 +1,10 @@
 #!/usr/bin/env python3
-"""Makes the files of crates/report_trial: order files, and the listing and the map of each.
+"""Makes the files of crates/report_trial: order files, and the listing and the map of each; and
+those of crates/inspect_map_trial: a sample without a perfect pairing, and its map.
 
 Run in the repository's root. It is written from docs/order-files.md alone, and finds optimum
-pairings by going through all perfect ones, so the comparison in the gate is with plain enumeration.
+pairings by going through all perfect ones and the crowd set by its definition, so the comparison in
+the gate is with plain enumeration.
 """
 import itertools
 import random
@@ -52,6 +54,32 @@ def optimum_pairings(n, cells):
     return [p for total, p in perfect if total == least], least
 
 
+def matched(n, cells, left_out=None):
+    """How many left blocks a largest pairing pairs, without the one that is left out."""
+    holder = {}
+
+    def pairs(l, seen):
+        for r in range(n):
+            if (l, r) in cells and r not in seen:
+                seen.add(r)
+                if r not in holder or pairs(holder[r], seen):
+                    holder[r] = l
+                    return True
+        return False
+
+    return sum(pairs(l, set()) for l in range(n) if l != left_out)
+
+
+def crowd_lines(n, cells):
+    """The left blocks that some largest pairing leaves out, and how many right blocks they are
+    short of."""
+    most = matched(n, cells)
+    crowd = [l for l in range(n) if matched(n, cells, l) == most]
+    around = {r for l, r in cells if l in crowd}
+    return ["crowd set: left blocks" + "".join(" %d" % l for l in crowd),
+            "shortage: %d" % (len(crowd) - len(around))]
+
+
 def listing(optima, total):
     lines = ["pairing" + "".join(" %d" % r for r in p) + "\n" for p in optima[:MOST]]
     last = "more\n" if len(optima) > MOST else "end\n"
@@ -75,22 +103,24 @@ def sheet_map(n, cells, optima, total):
     return "total %d\n" % total + "\n".join(lines + [legend]) + "\n"
 
 
-def explained(number, place):
+def explained(number, place, between=()):
     where = "" if place is None else " at byte %d" % place
-    return "refused %d%s: %s\n%s\n" % ((number, where) + WORDS[number])
+    meaning, remedy = WORDS[number]
+    lines = ["refused %d%s: %s" % (number, where, meaning), *between, remedy]
+    return "\n".join(lines) + "\n"
 
 
 def told(data):
     """The listing of a file, and its map."""
     verdict = first_fault(data)
     if len(verdict) == 3:
-        return "refused %d\n" % verdict[0] + explained(verdict[0], verdict[1])
+        return "refused %d\n" % verdict[0], explained(verdict[0], verdict[1])
     n, pairs = verdict
     cells = {(l, r): c for l, r, c in pairs}
     optima, total = optimum_pairings(n, cells)
     if not optima:
-        return "refused 6\n" + explained(6, None)
-    return listing(optima, total) + sheet_map(n, cells, optima, total)
+        return "refused 6\n", explained(6, None, crowd_lines(n, cells))
+    return listing(optima, total), sheet_map(n, cells, optima, total)
 
 
 def order(n, cells):
@@ -159,8 +189,11 @@ def random_sheets(count):
 
 def main():
     files = list(sheets()) + list(refused()) + list(random_sheets(300))
-    write_trial("report_trial", files, told)
+    write_trial("report_trial", files, lambda data: "".join(told(data)))
     print(len(files), "files")
+    crowded = open("samples/crowded.order", "rb").read()
+    open("crates/inspect_map_trial/stdin", "wb").write(crowded)
+    open("crates/inspect_map_trial/stdout", "w").write(told(crowded)[1])
 
 
 if __name__ == "__main__":
