@@ -19,6 +19,10 @@ MEANINGS[2] = ("a table has the wrong length",
                "Lend pair tables with n * n places and lists with n places.")
 MEANINGS[5] = ("the pair is absent", "Enter the pair with a cost first.")
 
+# the white space of docs/console.md, which is less than Python's own: that has U+001C to U+001F too
+BLANKS = ("\t\n\v\f\r \x85\xa0\u1680\u2028\u2029\u202f\u205f\u3000"
+          + "".join(map(chr, range(0x2000, 0x200b))))
+
 COSTS = ["a cost is one number", "a cost is two numbers, and the first decides before the second"]
 TABLES = ["costs", "standing", "partners", "left", "right", "walk", "marks"]
 PAIR, PRICED = {"costs", "standing"}, {"costs", "standing", "partners", "left", "right"}
@@ -224,8 +228,7 @@ class Session:
             raise Complaint("no sheet is open yet: write `size N` before `%s`" % word)
         raise Complaint("`%s` is no call; `help` lists the calls" % word)
 
-    def line(self, text, help_lines):
-        words = text.split()
+    def line(self, words, help_lines):
         word = words.pop(0)
         if word in ("help", "quit"):
             self.ended(words, word)
@@ -248,10 +251,10 @@ def printed(typed, help_lines):
     session, out = Session(), []
     for number, line in enumerate(typed.split(b"\n"), 1):
         try:
-            text = line.decode("utf-8").strip()
-            if not text or text.startswith("#"):
+            words = re.findall("[^%s]+" % BLANKS, line.decode("utf-8"))
+            if not words or words[0].startswith("#"):
                 continue
-            answer = session.line(text, help_lines)
+            answer = session.line(words, help_lines)
         except UnicodeDecodeError:
             answer = ["line %d: this is not text in UTF-8" % number]
         except Complaint as complaint:

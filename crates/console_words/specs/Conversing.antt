@@ -98,8 +98,9 @@ module _ (number : ℕ) where
       Moves two_columns two_written two_numbers two_entering number words desk desk' turn
   Turns words _ _ turn = ⊥
 
-  -- What the line of this number does, of these bytes. Bytes that are no text are complained of; a
-  -- line that is blank or begins with `#` comes to no text. Neither changes anything.
+  -- What the line of this number does, of these bytes. Bytes that are no text are complained of,
+  -- whatever they begin with; a line that is blank or whose first word begins with `#` comes to no
+  -- text. Neither changes anything.
   abbrev pub TakesLine : List ℕ → Console → Console → Turn → Type 0
   TakesLine line console console' turn =
       (¬ IsUtf8 line × (console' ≡ console) × Says (complained_line number NotText) turn)

@@ -37,7 +37,9 @@ pub data Slot : Type 0 where
   a_table : Slot
   a_call : Slot
 
--- the word is what its place asks for; a block number has 16 bits, a number of a cost 64 and a sign
+-- The word is what its place asks for. A number is written in decimal digits, of which some may be
+-- zeros in front. Before those of a block, which has 16 bits, and of a size there may be a `+`;
+-- before those of a cost, which has 64 bits and a sign, a `+` or a `-`.
 abbrev pub Fits : Slot → List ℕ → Type 0
 Fits a_lead word = (l : Lead) × (lead_word l ≡ word)
 Fits a_block word = IsNumeral 10 (without_leading_plus word) × (number_in word < 2 ^ 16)

@@ -16,11 +16,12 @@ words_among begun [] = ended begun
 words_among begun (c ∷ cs) = (if is_whitespace c then ended begun ++ words_among [] cs
     else words_among (begun ++ encode_utf8 c) cs)
 
--- the words of a text: what stands between white space
+-- the words of a text: what stands between white space, which is all that Unicode calls so: the
+-- characters 9 to 13, 32, 133, 160, 5760, 8192 to 8202, 8232, 8233, 8239, 8287 and 12288
 unfoldable pub words_of : List ℕ → List (List ℕ)
 words_of text = words_among [] (chars text)
 
--- a line of these words is passed over: it is blank, or begins with `#`
+-- a line of these words is passed over: there are none, or the first one begins with `#`
 abbrev pub IsSkipped : List (List ℕ) → Type 0
 IsSkipped [] = Unit {0}
 IsSkipped (word ∷ words) = slice_index word 0 ≡ 35

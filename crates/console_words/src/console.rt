@@ -40,7 +40,7 @@ fn complained(heap: Global, number: usize, complaint: Complaint<'_>) -> Result<T
     Ok(Turn::Said(format!(in heap; "line {number}: {complaint}\n")?))
 }
 
-// Whether a line is passed over, as blank or as a comment.
+// Whether a line is passed over, as blank or as a comment, which may stand behind white space.
 fn is_skipped(line: &str) -> bool
     ensures { IsTrue result ↔ IsSkipped (words_of line.now) }
 {
@@ -155,8 +155,9 @@ impl Console {
 
     /// Takes a line, of which this is the number in the input, without its line break.
     ///
-    /// A blank line and one that begins with `#` come to no text. A line that is not understood
-    /// comes to a complaint with its number, and changes nothing. An error is want of memory.
+    /// A blank line and one whose first word begins with `#` come to no text. A line that is not
+    /// understood, or is no text in UTF-8 whatever it begins with, comes to a complaint with its
+    /// number, and changes nothing. An error is want of memory.
     pub fn take(
         self,
         heap: Global,

@@ -54,7 +54,8 @@ impl<'a> Words<'a> {
         self.rest.next().ok_or(Complaint::TooFew(self.form))
     }
 
-    /// The next word as a block number. Whether the sheet has such a block is not asked here.
+    /// The next word as a block number: decimal digits, behind a `+` or nothing. Whether the sheet
+    /// has such a block is not asked here.
     pub fn block(&mut self) -> Result<u16, Complaint<'a>>
         ensures form { form_of self.new ≡ form_of self.old }
         ensures rest { words_left self.new ≡ drop 1 (words_left self.old) }
@@ -71,7 +72,8 @@ impl<'a> Words<'a> {
         }
     }
 
-    /// The next word as a signed whole number. Whether a cost may be so large is not asked here.
+    /// The next word as a signed whole number: decimal digits, behind a `+`, a `-` or nothing.
+    /// Whether a cost may be so large is not asked here.
     pub fn number(&mut self) -> Result<i64, Complaint<'a>>
         ensures form { form_of self.new ≡ form_of self.old }
         ensures rest { words_left self.new ≡ drop 1 (words_left self.old) }
