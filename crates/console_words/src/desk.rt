@@ -54,8 +54,8 @@ impl<K: TypedCost> Desk<K> {
     {
         let Desk { state, mut tables } = self;
         let handed = handed(short, Lengths::right(state.size()));
-        let (state, answer) = make(heap, state, &mut tables, Call { act, handed })?;
-        Ok((Desk { state, tables }, answer))
+        let (state, answer) = make(heap, state, &mut tables, Call { act, handed });
+        Ok((Desk { state, tables }, answer?))
     }
 
     /// Does what a request asks for.

@@ -4,7 +4,9 @@
 use Rattle.std.proofs.Common.{◌≡◌, ℕ, ◌+◌, ◌<◌, ◌≤◌, false, List, [], ◌∷◌, ◌++◌, length}
 use Rattle.std.proofs.Common.{take, Ok, Err, Some, None, Option, Result, inl, inr, get_or, sym}
 use Rattle.std.proofs.Common.{refl, ap, ◌∙◌, subst, arith}
+use Rattle.std.specs.Prelude.{MatchResult}
 use Rattle.std.specs.Vec.{with_items}
+use Rattle.std.specs.declared.alloc.AllocError.{AllocError}
 use Rattle.std.proofs.lemmas.List.{length-take-le, take_all, take_more, with_items_is}
 use Rattle.cost.specs.declared.Cost.{Ghosts}
 use Rattle.sheet.specs.declared.fault.Fault.{Fault}
@@ -29,7 +31,7 @@ use Rattle.session.specs.Book.{Phase}
 use Rattle.session.specs.Program.{State, Tables, lengths, moved_to, Answers, Meets, Program, opens}
 use Rattle.session.specs.Program.{calls, EveryProgramKeeps}
 use Rattle.session.specs.Runs.{state_of, right_lengths, Says, AllSay, WasMade, WereMade, Begins}
-use Rattle.session.specs.Runs.{tables_of}
+use Rattle.session.specs.Runs.{tables_of, MakesOne, IsSheet}
 use Rattle.session.proofs.Handing.{same_lengths}
 
 -- ---- The size stays
@@ -67,6 +69,25 @@ module _ {K : Type 0} (kind : Ghosts K) where
       → Meets kind s act o x x' s' → size_of s'.sheet ≡ size_of s.sheet
   meets_size s act o x x' s' (inl m) = answers_size s act o x x' s' m.1
   meets_size s act o x x' s' (inr m) = ap (λ t. size_of t.sheet) m.3
+
+  -- ---- What a call came to, once it is known
+
+  module _ (state : InState) (old : Tables K) (call : Call K)
+      (made : InState × Result (Answer K) AllocError) (new : Tables K)
+      (makes : MakesOne kind state old call made new) where
+    came_to : (r : Result (Answer K) AllocError) → made.1 ≡ r
+        → MatchResult r (λ answer. WasMade kind state old call answer made.0 new)
+        (λ e. (made.0 ≡ state) × (new ≡ old))
+    came_to r e = subst (λ (r : Result (Answer K) AllocError).
+        MatchResult r (λ answer. WasMade kind state old call answer made.0 new)
+        (λ e. (made.0 ≡ state) × (new ≡ old))) e makes
+
+    pub made_as : (answer : Answer K) → made.1 ≡ Ok answer
+        → WasMade kind state old call answer made.0 new
+    made_as answer e = came_to (Ok answer) e
+
+    pub not_made_then : (none : AllocError) → made.1 ≡ Err none → new ≡ old
+    not_made_then none e = (came_to (Err none) e).1
 
 -- ---- Lists
 
@@ -125,94 +146,108 @@ module _ {K : Type 0} (kind : Ghosts K) (n : ℕ) where
         with_items_is t.costs costs (ec ∙ ap length ex ∙ sym t.costs.ok.0) in
         let ws : (with_items t.standing standing).items ≡ standing =
         with_items_is t.standing standing (es ∙ ap length ey ∙ sym t.standing.ok.0) in
+        let opening : Opened kind.zero n t.costs.items t.standing.items (Ok sheet)
+        (with_items t.costs costs).items (with_items t.standing standing).items =
+        subst (λ (zs : List K). Opened kind.zero n zs t.standing.items (Ok sheet)
+        (with_items t.costs costs).items (with_items t.standing standing).items) ex
+        (subst (λ (zs : List ℕ). Opened kind.zero n xs zs (Ok sheet)
+        (with_items t.costs costs).items (with_items t.standing standing).items) ey (record {
+          answers = sym e ∙ o.answers;
+          blanks = wc ∙ o.blanks;
+          clears = ws ∙ o.clears;
+        })) in
         record {
-          program = opens sheet xs ys _ (record {
-            answers = sym e ∙ o.answers;
-            blanks = wc ∙ o.blanks;
-            clears = ws ∙ o.clears;
-          });
+          program = opens sheet _ opening refl;
           sized = ap size_of same;
-          right = right;
-          long = same_lengths _ _ _ _ _ _ _ _ _ _ _ _ _ _ (ap length wc ∙ ec ∙ ap length ex)
-              (ap length ws ∙ es ∙ ap length ey) refl refl refl refl refl;
         }
 
-  -- the calls that were made so far, and what came of them
-  pub record Going (made : List (Call K)) (answers : List (Answer K)) (state : InState)
-      (own : Tables K) : Type 0 where
-    pub exchanges : List (Exchange K)
-    pub say : AllSay made answers exchanges
-    pub program : Program kind false n exchanges (state_of state) own
-    pub sized : size_of (state_of state).sheet ≡ n
-    pub long : lengths own ≡ right_lengths n
+  -- the calls that were made so far over the tables as they were lent, and what came of them
+  module _ (lent : Tables K) where
+    pub record Going (made : List (Call K)) (answers : List (Answer K)) (state : InState)
+        (own : Tables K) : Type 0 where
+      pub exchanges : List (Exchange K)
+      pub say : AllSay made answers exchanges
+      pub program : Program kind false n lent exchanges (state_of state) own
+      pub sized : size_of (state_of state).sheet ≡ n
+      pub sheet : IsSheet kind n (lengths lent)
+      pub long : lengths own ≡ lengths lent
 
-  pub going_none : (old : Tables K) (state : InState) (answers : List (Answer K)) (own : Tables K)
-      → answers ≡ [] → Begins kind n old state own → Going [] answers state own
-  going_none old state answers own e b =
-      subst (λ (zs : List (Answer K)). Going [] zs state own) (sym e) (record {
-        exchanges = [];
-        say = tt;
-        program = b.program;
-        sized = b.sized;
-        long = b.long ∙ b.right;
-      })
+    pub going_none : (state : InState) (answers : List (Answer K)) (own : Tables K)
+        → answers ≡ [] → IsSheet kind n (lengths lent) → lengths own ≡ lengths lent
+        → Begins kind n lent state own → Going [] answers state own
+    going_none state answers own e sheet long b =
+        subst (λ (zs : List (Answer K)). Going [] zs state own) (sym e) (record {
+          exchanges = [];
+          say = tt;
+          program = b.program;
+          sized = b.sized;
+          sheet = sheet;
+          long = long;
+        })
 
-  -- one call more
-  pub going_on : (cs : List (Call K)) (i : ℕ) (call : Call K)
-      (answers reserved answers' : List (Answer K)) (answer : Answer K) (state state' : InState)
-      (own own' : Tables K) → i < length cs → call ≡ get_or cs i call → reserved ≡ answers
-      → answers' ≡ reserved ++ answer ∷ [] → WasMade kind state own call answer state' own'
-      → Going (take i cs) answers state own
-      → Going (take (i + 1) cs) answers' state' own'
-  going_on cs i call answers reserved answers' answer state state' own own' inside at er ea made g
-      =
-      let e : Exchange K =
-      record { act = call.act; handed = call.handed; outcome = made.outcome } in
-      let cs_more : take (i + 1) cs ≡ take i cs ++ call ∷ [] =
-      take_more cs i call inside ∙ ap (λ c. take i cs ++ c ∷ []) (sym at) in
-      subst (λ (zs : List (Answer K)). Going (take (i + 1) cs) zs state' own')
-      (sym (ea ∙ ap (λ zs. zs ++ answer ∷ []) er))
-      (subst (λ (xs : List (Call K)). Going xs (answers ++ answer ∷ []) state' own') (sym cs_more)
-      (record {
-        exchanges = g.exchanges ++ e ∷ [];
-        say = say_more (take i cs) answers g.exchanges call answer e g.say refl made.says;
-        program = calls g.program made.makes;
-        sized = meets_size kind (state_of state) call.act made.outcome made.makes.x made.makes.x'
-            (state_of state') made.makes.meets ∙ g.sized;
-        long = made.long ∙ g.long;
-      }))
+    -- one call more
+    pub going_on : (cs : List (Call K)) (i : ℕ) (call : Call K)
+        (answers reserved answers' : List (Answer K)) (answer : Answer K) (state state' : InState)
+        (own own' : Tables K) → i < length cs → call ≡ get_or cs i call → reserved ≡ answers
+        → answers' ≡ reserved ++ answer ∷ [] → WasMade kind state own call answer state' own'
+        → Going (take i cs) answers state own
+        → Going (take (i + 1) cs) answers' state' own'
+    going_on cs i call answers reserved answers' answer state state' own own' inside at er ea made
+        g =
+        let e : Exchange K =
+        record { act = call.act; handed = call.handed; outcome = made.outcome } in
+        let cs_more : take (i + 1) cs ≡ take i cs ++ call ∷ [] =
+        take_more cs i call inside ∙ ap (λ c. take i cs ++ c ∷ []) (sym at) in
+        subst (λ (zs : List (Answer K)). Going (take (i + 1) cs) zs state' own')
+        (sym (ea ∙ ap (λ zs. zs ++ answer ∷ []) er))
+        (subst (λ (xs : List (Call K)). Going xs (answers ++ answer ∷ []) state' own')
+        (sym cs_more) (record {
+          exchanges = g.exchanges ++ e ∷ [];
+          say = say_more (take i cs) answers g.exchanges call answer e g.say refl made.says;
+          program = calls g.program made.makes;
+          sized = meets_size kind (state_of state) call.act made.outcome made.makes.x made.makes.x'
+              (state_of state') made.makes.meets ∙ g.sized;
+          sheet = g.sheet;
+          long = made.long ∙ g.long;
+        }))
 
-  -- the calls that were made kept the promise
-  were_made : EveryProgramKeeps kind → (made : List (Call K)) (answers : List (Answer K))
-      (state : InState) (own : Tables K) → Going made answers state own
-      → WereMade kind n made answers own
-  were_made law made answers state own g =
-      let kept = law false n g.exchanges (state_of state) own g.program in
-      record {
-        exchanges = g.exchanges;
-        say = g.say;
-        state = state_of state;
-        program = g.program;
-        keeps = kept.0;
-        shows = kept.1;
-      }
+    -- the calls that were made kept the promise
+    were_made : EveryProgramKeeps kind → (made : List (Call K)) (answers : List (Answer K))
+        (state : InState) (own : Tables K) → Going made answers state own
+        → WereMade kind n lent made answers own
+    were_made law made answers state own g =
+        let kept = law false n lent g.exchanges (state_of state) own g.program in
+        record {
+          sheet = g.sheet;
+          exchanges = g.exchanges;
+          say = g.say;
+          state = state_of state;
+          program = g.program;
+          keeps = kept.0;
+          leaves = kept.1;
+        }
 
-  -- all calls were made; or memory ran out before the call at i
-  pub finished : EveryProgramKeeps kind → (cs : List (Call K)) (i : ℕ) (answers : List (Answer K))
-      (state : InState) (own : Tables K) → length cs ≤ i → Going (take i cs) answers state own
-      → WereMade kind n cs answers own
-  finished law cs i answers state own all g =
-      subst (λ (xs : List (Call K)). WereMade kind n xs answers own) (take_all i cs all)
-      (were_made law (take i cs) answers state own g)
+    -- all calls were made; or memory ran out before the call at i
+    pub finished : EveryProgramKeeps kind → (cs : List (Call K)) (i : ℕ)
+        (answers : List (Answer K)) (state : InState) (own : Tables K) → length cs ≤ i
+        → Going (take i cs) answers state own → WereMade kind n lent cs answers own
+    finished law cs i answers state own all g =
+        subst (λ (xs : List (Call K)). WereMade kind n lent xs answers own) (take_all i cs all)
+        (were_made law (take i cs) answers state own g)
 
-  pub stopped : EveryProgramKeeps kind → (cs : List (Call K)) (i : ℕ)
-      (answers answers' : List (Answer K)) (state : InState) (own own' : Tables K) → i < length cs
-      → answers' ≡ answers → own' ≡ own → Going (take i cs) answers state own
-      → WereMade kind n (take (length answers') cs) answers' own'
-  stopped law cs i answers answers' state own own' inside ea eo g =
-      let count : length answers ≡ i = say_long (take i cs) answers g.exchanges g.say
-      ∙ length-take-le i cs (omega arith) in
-      subst (λ (zs : List (Answer K)). WereMade kind n (take (length zs) cs) zs own') (sym ea)
-      (subst (λ (y : Tables K). WereMade kind n (take (length answers) cs) answers y) (sym eo)
-      (subst (λ (j : ℕ). WereMade kind n (take j cs) answers own) (sym count)
-      (were_made law (take i cs) answers state own g)))
+    pub stopped : EveryProgramKeeps kind → (cs : List (Call K)) (i : ℕ)
+        (answers answers' : List (Answer K)) (state : InState) (own own' : Tables K)
+        → i < length cs → answers' ≡ answers → own' ≡ own → Going (take i cs) answers state own
+        → (length answers' < length cs)
+        × WereMade kind n lent (take (length answers') cs) answers' own'
+    stopped law cs i answers answers' state own own' inside ea eo g =
+        let count : length answers ≡ i = say_long (take i cs) answers g.exchanges g.say
+        ∙ length-take-le i cs (omega arith) in (
+          omega (arith, count, ap length ea),
+          subst (λ (zs : List (Answer K)). WereMade kind n lent (take (length zs) cs) zs own')
+              (sym ea)
+              (subst (λ (y : Tables K). WereMade kind n lent (take (length answers) cs) answers y)
+              (sym eo)
+              (subst (λ (j : ℕ). WereMade kind n lent (take j cs) answers own) (sym count)
+              (were_made law (take i cs) answers state own g))),
+        )

@@ -3,11 +3,12 @@
 -- Idea: first places of the right length are the whole table, so what a call leaves there is the
 -- table from then on; places of another length are no table of the sheet.
 use Rattle.std.proofs.Common.{◌≡◌, ℕ, ◌≤◌, ◌-◌, Bool, false, List, ◌++◌, length}
-use Rattle.std.proofs.Common.{take, drop, sym, refl, ap, ◌∙◌, subst, inr, arith}
+use Rattle.std.proofs.Common.{take, drop, Result, sym, refl, ap, ◌∙◌, subst, inr, arith}
 use Rattle.std.proofs.Math.Seq.{length_front}
 use Rattle.std.proofs.lemmas.List.{append-nil, drop_all, length-take-le, take-append-drop, take_all}
 use Rattle.std.proofs.lemmas.List.{with_items_is}
 use Rattle.std.specs.Vec.{with_items}
+use Rattle.std.specs.declared.alloc.AllocError.{AllocError}
 use Rattle.std.specs.declared.alloc.Global.{Global}
 use Rattle.std.specs.declared.vec.Vec.{Vec}
 use Rattle.cost.specs.declared.Cost.{Ghosts}
@@ -22,6 +23,7 @@ use Rattle.session.specs.Book.{allows}
 use Rattle.session.specs.Exchange.{Told, Outcome, not_made as absent}
 use Rattle.session.specs.Program.{State, Tables, lengths, Hands, HandsAll, Meets}
 use Rattle.session.specs.Runs.{state_of, right_lengths, call_for, IsWithin, Says, WasMade}
+use Rattle.session.specs.Runs.{MakesOne}
 
 -- ---- One table
 
@@ -288,6 +290,13 @@ module _ {K : Type 0} (kind : Ghosts K) (state : InState) (own : Tables K) where
       (inr (none, refl, refl, refl))
 
   -- a call is told by what it asks for and the lengths that it is handed
+  pub makes_for : (call : Call K) (act : Act K) (made : InState × Result (Answer K) AllocError)
+      (own' : Tables K) → call.act ≡ act
+      → MakesOne kind state own (call_for act call.handed) made own'
+      → MakesOne kind state own call made own'
+  makes_for call act made own' e h =
+      subst (λ (y : Act K). MakesOne kind state own (call_for y call.handed) made own') (sym e) h
+
   pub made_for : (call : Call K) (act : Act K) (answer : Answer K) (state' : InState)
       (own' : Tables K) → call.act ≡ act
       → WasMade kind state own (call_for act call.handed) answer state' own'

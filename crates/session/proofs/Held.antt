@@ -3,7 +3,8 @@
 -- prices are those that it wrote, and all tables hold together; and on a walk, the walk list is the
 -- pairing that was handed out last. What was told since the settle is right by the grid that was
 -- settled, which is the book's until the sheet is reopened.
-use Rattle.std.proofs.Common.{◌≡◌, ℕ, ◌+◌, ◌<◌, min, List, ◌∷◌, length, Option, sym, ap}
+use Rattle.std.proofs.Common.{◌≡◌, ℕ, ◌+◌, ◌<◌, min, cond, List, ◌∷◌, length, get_or, Option, Some}
+use Rattle.std.proofs.Common.{None, sym, ap}
 use Rattle.std.proofs.Common.{◌∙◌, subst}
 use Rattle.std.specs.List.{AllByRecursion}
 use Rattle.cost.specs.declared.Cost.{Ghosts}
@@ -11,7 +12,8 @@ use Rattle.pairing.specs.Grid.{Grid}
 use Rattle.pairing.specs.Optima.{optima}
 use Rattle.matching.specs.Answers.{IsNth, MarksOf}
 use Rattle.tables.specs.Lent.{lent}
-use Rattle.tables.specs.PairTables.{cell}
+use Rattle.pairing.specs.Places.{place_of}
+use Rattle.tables.specs.PairTables.{cell, byte_of, says_stands}
 use Rattle.tables.specs.Together.{ArePairTables, Together}
 use Rattle.sheet.specs.Size.{size_of}
 use Rattle.session.specs.declared.call.Act.{Act}
@@ -19,7 +21,7 @@ use Rattle.session.specs.declared.call.Lengths.{Lengths}
 use Rattle.session.specs.Book.{Book, Phase, opened, settled, walking, step, grid_in}
 use Rattle.session.specs.Exchange.{Told, Outcome}
 use Rattle.session.specs.Promise.{Settling, noted_of, IsRight}
-use Rattle.session.specs.Program.{State, Tables, lending}
+use Rattle.session.specs.Program.{State, Tables, lending, cost_in, byte_in}
 use Rattle.session.proofs.Walks.{InTurn}
 
 -- the walk list is the pairing that the walk handed out last
@@ -30,10 +32,12 @@ pub record AtPlace (pairings : List (List ℕ)) (list : List ℕ) (walk : List (
   pub as_far : place + 1 ≡ min (length walk) (length pairings)
 
 module _ {K : Type 0} (kind : Ghosts K) (n : ℕ) where
-  -- the pair tables are in order and hold the cells
+  -- the pair tables are in order and hold the cells, and zero for the absent pairs
   pub record Shows (cells : ℕ → ℕ → Option K) (costs : List K) (standing : List ℕ) : Type 0 where
     pub pair_tables : ArePairTables kind n costs standing
-    pub each : (l r : ℕ) → l < n → r < n → cell kind.zero n costs standing l r ≡ cells l r
+    pub costs_are : (l r : ℕ) → l < n → r < n
+        → get_or costs (place_of n l r) kind.zero ≡ cost_in kind.zero (cells l r)
+    pub bytes_are : (l r : ℕ) → l < n → r < n → byte_of n standing l r ≡ byte_in (cells l r)
 
   -- what was told since a settle is right
   pub record Sound (s : Settling K) : Type 0 where
@@ -75,6 +79,23 @@ module _ {K : Type 0} (kind : Ghosts K) (n : ℕ) where
   Needed settled t t' = (t'.partners ≡ t.partners) × (t'.left ≡ t.left) × (t'.right ≡ t.right)
   Needed walking t t' = (t'.partners ≡ t.partners) × (t'.left ≡ t.left) × (t'.right ≡ t.right)
       × (t'.walk ≡ t.walk)
+
+-- a cost and a byte tell the cell
+cell_told : {K : Type 0} (nought : K) (n : ℕ) (costs : List K) (standing : List ℕ) (l r : ℕ)
+    (c : Option K) → get_or costs (place_of n l r) nought ≡ cost_in nought c
+    → byte_of n standing l r ≡ byte_in c → cell nought n costs standing l r ≡ c
+cell_told nought n costs standing l r None ec eb =
+    ap (λ b. cond (says_stands b) (Some (get_or costs (place_of n l r) nought)) None) eb
+cell_told nought n costs standing l r (Some c) ec eb =
+    ap (λ b. cond (says_stands b) (Some (get_or costs (place_of n l r) nought)) None) eb
+    ∙ ap Some ec
+
+pub each : {K : Type 0} (kind : Ghosts K) (n : ℕ) (cells : ℕ → ℕ → Option K) (costs : List K)
+    (standing : List ℕ) → Shows kind n cells costs standing → (l r : ℕ) → l < n → r < n
+    → cell kind.zero n costs standing l r ≡ cells l r
+each kind n cells costs standing shows l r i j =
+    cell_told kind.zero n costs standing l r (cells l r) (shows.costs_are l r i j)
+    (shows.bytes_are l r i j)
 
 pub lent_alike : {K : Type 0} (n : ℕ) (c c' l l' r r' : List K) (s s' p p' : List ℕ) → c' ≡ c
     → s' ≡ s → p' ≡ p → l' ≡ l → r' ≡ r → lent n c' s' p' l' r' ≡ lent n c s p l r

@@ -100,7 +100,7 @@ range_not e = let z : ◌≡◌ {A = ℕ} 0 1 = cc in absurd (omega arith)
 pub absent_not : Absent ≢ Inconsistent
 absent_not e = let z : ◌≡◌ {A = ℕ} 0 1 = cc in absurd (omega arith)
 
-perfect_not : NoPerfectPairing ≢ Inconsistent
+pub perfect_not : NoPerfectPairing ≢ Inconsistent
 perfect_not e = let z : ◌≡◌ {A = ℕ} 0 1 = cc in absurd (omega arith)
 
 module _ {K : Type 0} (kind : Ghosts K) (n : ℕ) where

@@ -2,6 +2,7 @@ pub mod Walks
 pub mod Needs
 pub mod Held
 pub mod Judging
+pub mod Leaving
 pub mod Theorem
 pub mod Fits
 pub mod Cells

@@ -26,7 +26,8 @@ use Rattle.session.specs.Book.{Book, opened, with_cell, stands_in, pair_tables_f
 use Rattle.session.specs.Book.{refusal_by, allows, moved, grid_in}
 use Rattle.session.specs.Exchange.{Outcome}
 use Rattle.session.specs.Promise.{Settling}
-use Rattle.session.specs.Program.{State, state_at, Tables, lengths, HandsAll, told}
+use Rattle.session.specs.Program.{State, state_at, Tables, lengths, HandsAll, told, cost_in}
+use Rattle.session.specs.Program.{byte_in}
 use Rattle.session.proofs.Held.{Held, Shows, Next, held_same, Needed, Beyond}
 use Rattle.session.proofs.Cells.{stands_alike, cell_is, written_shows}
 use Rattle.session.proofs.Fits.{pairs_told}
@@ -74,34 +75,33 @@ module _ {K : Type 0} (kind : Ghosts K) (sheet : Sheet) (swaps : Bool) (b : Book
   stays ec es = held_same kind n own own' (hands.costs.stays refl ec) (hands.standing.stays refl es)
       b s here (subst (λ p. Needed kind n p own own') held.phase_is tt) held
 
-  -- a call that writes a byte and a cost at the place of a pair
-  writes : (act : Act K) (l r byte : ℕ) (cost : K) → pair_tables_fit n (lengths x) ≡ true
-      → are_blocks n l r ≡ true → says_disturbed byte ≡ false
-      → (says_stands byte ≡ true → Within 1000000000 (kind.meaning cost))
-      → x'.costs ≡ set x.costs (place_of n l r) cost
-      → x'.standing ≡ set x.standing (place_of n l r) byte
-      → (moved b act ≡ record b {
-        cells = with_cell b.cells l r
-            (cond (says_stands byte) (Some cost) None);
-      })
+  -- a call that writes at the place of a pair what its new cell says
+  writes : (act : Act K) (l r : ℕ) (new : Option K) → pair_tables_fit n (lengths x) ≡ true
+      → are_blocks n l r ≡ true
+      → (says_stands (byte_in new) ≡ true
+      → Within 1000000000 (kind.meaning (cost_in kind.zero new)))
+      → x'.costs ≡ set x.costs (place_of n l r) (cost_in kind.zero new)
+      → x'.standing ≡ set x.standing (place_of n l r) (byte_in new)
+      → moved b act ≡ record b { cells = with_cell b.cells l r new }
       → Held kind n (moved b act) s here own'
-  writes act l r byte cost fit are calm small ec es e =
+  writes act l r new fit are small ec es e =
       let have = pairs_told n x fit in
       let blocks = blocks_told n l r are in
-      let cells' = with_cell b.cells l r (cond (says_stands byte) (Some cost) None) in
+      let cells' = with_cell b.cells l r new in
       let p = place_of n l r in
+      let cost : K = cost_in kind.zero new in
       let own_costs : own'.costs ≡ set own.costs p cost = hands.costs.kept have.costs ∙ ec
       ∙ ap (λ xs. set xs p cost) (hands.costs.handed refl have.costs) in
-      let own_standing : own'.standing ≡ set own.standing p byte =
+      let own_standing : own'.standing ≡ set own.standing p (byte_in new) =
       hands.standing.kept have.standing ∙ es
-      ∙ ap (λ xs. set xs p byte) (hands.standing.handed refl have.standing) in
+      ∙ ap (λ xs. set xs p (byte_in new)) (hands.standing.handed refl have.standing) in
       subst (λ c. Held kind n c s here own') (sym e) (record {
         phase_is = held.phase_is;
         size_is = held.size_is;
         shows = subst (λ xs. Shows kind n cells' xs own'.standing) (sym own_costs)
             (subst (λ xs. Shows kind n cells' (set own.costs p cost) xs) (sym own_standing)
-            (written_shows kind n b.cells own.costs own.standing held.shows l r byte cost blocks.0
-            blocks.1 calm small));
+            (written_shows kind n b.cells own.costs own.standing held.shows l r blocks.0 blocks.1
+            new small));
         sound = held.sound;
         beyond = subst (λ q. Beyond kind n q (grid_in kind n (record b { cells = cells' })) s own')
             held.phase_is tt;
@@ -122,7 +122,7 @@ module _ {K : Type 0} (kind : Ghosts K) (sheet : Sheet) (swaps : Bool) (b : Book
         (within 1000000000 (kind.meaning cost)) _ _ _ q in
         accepted_next kind n b s (Enter l r cost) (lengths x) o here own' tt (eo ∙ ap told ea)
         (allowed (Enter l r cost) refl) q tt
-        (writes (Enter l r cost) l r 1 cost all.0 all.1 refl
+        (writes (Enter l r cost) l r (Some cost) all.0 all.1
         (λ _. (within_tells 1000000000 (kind.meaning cost)).0 all.2) ec es refl)
     enters_by (Some f) q ea ec es o eo =
         refused_next kind n b s (Enter l r cost) (lengths x) o here own' f None (eo ∙ ap told ea)
@@ -181,7 +181,7 @@ module _ {K : Type 0} (kind : Ghosts K) (sheet : Sheet) (swaps : Bool) (b : Book
           _ _ _ q in
           accepted_next kind n b s (Strike l r) (lengths x) o here own' tt (eo ∙ ap told ea)
           (allowed (Strike l r) refl) q tt
-          (writes (Strike l r) l r 0 kind.zero all.0 all.1 refl
+          (writes (Strike l r) l r None all.0 all.1
           (λ (e : false ≡ true). let z : ◌≡◌ {A = ℕ} 0 1 = cc in absurd (omega arith)) ec es refl)
       strikes_by (Some f) q ea ec es o eo =
           refused_next kind n b s (Strike l r) (lengths x) o here own' f None (eo ∙ ap told ea)

@@ -34,7 +34,7 @@ use Rattle.session.specs.Program.{priced}
 use Rattle.session.proofs.Cells.{alike, stands_alike}
 use Rattle.session.proofs.Fits.{fits, fits_with}
 use Rattle.session.proofs.Held.{Shows, Ready}
-use Rattle.session.proofs.Held.{lent_alike, ready_same}
+use Rattle.session.proofs.Held.{each, lent_alike, ready_same}
 use Rattle.session.proofs.Judging.{never_six, length_not_six}
 use Rattle.session.proofs.Needs.{Mirror, refuses, passes, without}
 
@@ -125,7 +125,8 @@ module _ {K : Type 0} (kind : Ghosts K) (sheet : Sheet) (swaps : Bool) (phase : 
     pub quoted : (q : K × K) → HasLengths (lending n x) → AreBlocks n l r
         → IsQuote kind (lending n x) l r q → IsQuoted kind n (b.cells l r) s.written l r q
     quoted q h are is = record {
-      cost = sym (shows.each l r are.left_below are.right_below)
+      cost = sym (each kind n b.cells own.costs own.standing shows l r are.left_below
+          are.right_below)
           ∙ ap (λ xs. cell kind.zero n xs own.standing l r)
           (sym (hands.costs.handed refl h.room.costs_long))
           ∙ ap (λ xs. cell kind.zero n x.costs xs l r) (sym (own_standing h)) ∙ is.cost;

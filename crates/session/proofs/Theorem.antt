@@ -1,4 +1,4 @@
--- Every program keeps the promise, and its pair tables show the book's cells.
+-- Every program keeps the promise, and its tables hold what is said of them.
 -- Idea: a sheet that was just opened holds a blank book, and each step is right and goes on with
 -- the book, by the lemma of its call. So after every call all were right, by an induction along the
 -- program.
@@ -17,7 +17,7 @@ use Rattle.session.specs.declared.call.Act.{Act}
 use Rattle.session.specs.declared.call.Act.TheVariants.{Enter, Strike, Read, Settle, Quote, Total}
 use Rattle.session.specs.declared.call.Act.TheVariants.{Marks, Start, Next as NextAct, Close}
 use Rattle.session.specs.declared.call.Act.TheVariants.{Reopen}
-use Rattle.session.specs.Book.{Book, Phase, opened, settled, walking, same_phase, made_in, allows}
+use Rattle.session.specs.Book.{Book, Phase, opened, settled, walking, made_in, allows}
 use Rattle.session.specs.Book.{blank, step}
 use Rattle.session.specs.Exchange.{Told, Outcome, Exchange, call_of}
 use Rattle.session.specs.Promise.{Settling, fresh, noted_of, IsRight, AllRight, book_after}
@@ -26,23 +26,14 @@ use Rattle.session.specs.Program.{Makes, Program, opens, calls, EveryProgramKeep
 use Rattle.session.proofs.Asked as asked
 use Rattle.session.proofs.Cells.{opened_shows}
 use Rattle.session.proofs.Held.{Shows, Held, Next, Needed, held_same}
+use Rattle.session.proofs.Allowing.{phase_told}
 use Rattle.session.proofs.Judging.{not_made_next}
+use Rattle.session.proofs.Leaving.{as_told}
 use Rattle.session.proofs.Opened as opening
 use Rattle.session.proofs.Settles.{settles}
 use Rattle.session.proofs.Walked as walked
 
 -- ---- One step
-
-phase_told : (p q : Phase) → same_phase p q ≡ true → p ≡ q
-phase_told opened opened e = refl
-phase_told settled settled e = refl
-phase_told walking walking e = refl
-phase_told opened settled e = let z : ◌≡◌ {A = ℕ} 0 1 = cc in absurd (omega arith)
-phase_told opened walking e = let z : ◌≡◌ {A = ℕ} 0 1 = cc in absurd (omega arith)
-phase_told settled opened e = let z : ◌≡◌ {A = ℕ} 0 1 = cc in absurd (omega arith)
-phase_told settled walking e = let z : ◌≡◌ {A = ℕ} 0 1 = cc in absurd (omega arith)
-phase_told walking opened e = let z : ◌≡◌ {A = ℕ} 0 1 = cc in absurd (omega arith)
-phase_told walking settled e = let z : ◌≡◌ {A = ℕ} 0 1 = cc in absurd (omega arith)
 
 module _ {K : Type 0} (kind : Ghosts K) (swaps : Bool) (sheet : Sheet) (b : Book K) (s : Settling K)
     (own x x' own' : Tables K) where
@@ -235,7 +226,7 @@ module _ {K : Type 0} (kind : Ghosts K) (n : ℕ) where
         };
       }
 
-module _ {K : Type 0} (kind : Ghosts K) (swaps : Bool) (n : ℕ) where
+module _ {K : Type 0} (kind : Ghosts K) (swaps : Bool) (n : ℕ) (lent : Tables K) where
   gone_on : (es : List (Exchange K)) (e : Exchange K) (state state' : State) (own own' : Tables K)
       → Makes kind swaps state own e state' own' → RightSoFar kind n es state own
       → RightSoFar kind n (es ++ e ∷ []) state' own'
@@ -247,11 +238,29 @@ module _ {K : Type 0} (kind : Ghosts K) (swaps : Bool) (n : ℕ) where
       (next (book_after kind n blank es) (told_after kind n blank (fresh kind n) es) g.held)
 
   pub going : {es : List (Exchange K)} {state : State} {own : Tables K}
-      → Program kind swaps n es state own → RightSoFar kind n es state own
-  going (opens sheet costs standing own o) = begun kind n sheet costs standing own o
+      → Program kind swaps n lent es state own → RightSoFar kind n es state own
+  going (opens sheet own o e) = begun kind n sheet lent.costs lent.standing own o
   going (calls {es = es} {s = s} {s' = s'} {own = own} {own' = own'} {e = e} program m) =
       gone_on es e s s' own own' m (going program)
 
 pub every_program_keeps : {K : Type 0} (kind : Ghosts K) → EveryProgramKeeps kind
-every_program_keeps kind swaps n es state own program =
-    let g = going kind swaps n program in (g.right, g.held.shows.each)
+every_program_keeps kind swaps n lent es state own program =
+    let g = going kind swaps n lent program in
+    let t = as_told kind swaps n lent program in (
+      g.right,
+      record {
+        phase = g.held.phase_is;
+        size = g.held.size_is;
+        cells = record {
+          costs_long = g.held.shows.pair_tables.costs_long;
+          standing_long = g.held.shows.pair_tables.standing_long;
+          costs = g.held.shows.costs_are;
+          standing = g.held.shows.bytes_are;
+        };
+        partners = t.partners;
+        left = t.left;
+        right = t.right;
+        walk = t.walk;
+        marks = t.marks;
+      },
+    )

@@ -1,16 +1,16 @@
 -- Any program that makes the calls: each step is bound by nothing but the contract of the public
 -- function that it calls.
 use Rattle.std.specs.Prelude.{◌≡◌, ℕ, ◌<◌, Bool, true, false, not, ◌||◌, ◌⊎◌, List, [], ◌∷◌, ◌++◌}
-use Rattle.std.specs.Prelude.{⊤, length, Ok, Err, Some, None, Option, Result}
+use Rattle.std.specs.Prelude.{⊤, length, Ok, Err, Some, None, Option, Result, slice_index_or}
 use Rattle.cost.specs.declared.Cost.{Ghosts}
 use Rattle.cost.specs.declared.TheConstants.{COST_LIMIT}
 use Rattle.cost.specs.Columns.{within}
 use Rattle.pairing.specs.Grid.{total}
-use Rattle.pairing.specs.Places.{places_of}
+use Rattle.pairing.specs.Places.{place_of, places_of}
 use Rattle.matching.specs.declared.stepping.Step.{Step}
 use Rattle.matching.specs.declared.stepping.Step.TheVariants.{Next as Onward, End}
-use Rattle.tables.specs.Lent.{Lent as Lending, lent, grid}
-use Rattle.tables.specs.PairTables.{cell}
+use Rattle.tables.specs.Lent.{Lent as Lending, lent as as_one, grid}
+use Rattle.tables.specs.PairTables.{byte_of}
 use Rattle.sheet.specs.declared.fault.Fault.{Fault}
 use Rattle.sheet.specs.declared.fault.Refusal.{Refusal}
 use Rattle.sheet.specs.Needs.{Responds}
@@ -61,7 +61,37 @@ lengths x = record {
 
 -- the tables that most calls on a sheet are handed, as one value
 abbrev pub lending : {K : Type 0} → ℕ → Tables K → Lending K
-lending n x = lent n x.costs x.standing x.partners x.left x.right
+lending n x = as_one n x.costs x.standing x.partners x.left x.right
+
+-- ---- What calls tell of tables
+
+-- the tables with what an accepted call tells of them
+abbrev pub with_told : {K : Type 0} (act : Act K) → Told K act → Tables K → Tables K
+with_told (Enter l r c) x t = t
+with_told (Strike l r) x t = t
+with_told (Read l r) x t = t
+with_told Settle w t = record t { partners = w.partners; left = w.left; right = w.right }
+with_told (Quote l r) x t = t
+with_told Total x t = t
+with_told Marks table t = record t { marks = table }
+with_told Start p t = record t { walk = p }
+with_told Next (Some p) t = record t { walk = p }
+with_told Next None t = t
+with_told Close x t = t
+with_told Reopen x t = t
+
+abbrev pub with_outcome : {K : Type 0} (act : Act K) → Outcome (Told K act) → Tables K → Tables K
+with_outcome act not_made t = t
+with_outcome act (turned_down f shortfall) t = t
+with_outcome act (tells x) t = with_told act x t
+
+-- what some calls told last of each table but the pair tables; what it held before where they told
+-- nothing of it
+abbrev pub told_last : {K : Type 0} → Tables K → List (Exchange K) → Tables K
+told_last t [] = t
+told_last t (e ∷ es) = told_last (with_outcome e.act e.outcome t) es
+
+-- ---- What a program hands to a call
 
 -- One table in one step: `own` is the sheet's before the call, x is what the call is handed, x'
 -- what it leaves there, and own' the sheet's after it.
@@ -131,6 +161,18 @@ abbrev pub moved_to : (next back : Phase) → Result Sheet (Refusal Sheet) → S
 moved_to next back (Ok sheet) = state_at next sheet
 moved_to next back (Err r) = state_at back r.state
 
+-- ---- Cells
+
+-- what the pair tables hold at the place of a pair with this cell: its cost and 1 where it stands,
+-- zero and 0 where it is absent
+abbrev pub cost_in : {K : Type 0} → K → Option K → K
+cost_in nought None = nought
+cost_in nought (Some c) = c
+
+abbrev pub byte_in : {K : Type 0} → Option K → ℕ
+byte_in None = 0
+byte_in (Some c) = 1
+
 -- ---- Steps and programs
 
 module _ {K : Type 0} (kind : Ghosts K) where
@@ -191,25 +233,51 @@ module _ {K : Type 0} (kind : Ghosts K) where
     pub hands : HandsAll swaps s own x x' own'
     pub meets : Meets s e.act e.outcome x x' s'
 
-  -- A program on a sheet of n blocks a plane, after so many calls: it opens the sheet, over any
-  -- tables, and then makes one call after the other, each in the state and with the tables that the
-  -- one before left.
-  pub data Program (swaps : Bool) (n : ℕ) : List (Exchange K) → State → Tables K → Type 0 where
-    opens : (sheet : Sheet) (costs : List K) (standing : List ℕ) (own : Tables K)
-        → Opened kind.zero n costs standing (Ok sheet) own.costs own.standing
-        → Program swaps n [] (state_at opened sheet) own
+  -- A program on a sheet of n blocks a plane, after so many calls: it opens the sheet over the
+  -- tables that it is lent, of which `open` takes the two pair tables and the others stay as they
+  -- were; and then it makes one call after the other, each in the state and with the tables that
+  -- the one before left.
+  pub data Program (swaps : Bool) (n : ℕ) (lent : Tables K)
+      : List (Exchange K) → State → Tables K → Type 0 where
+    opens : (sheet : Sheet) (own : Tables K)
+        → Opened kind.zero n lent.costs lent.standing (Ok sheet) own.costs own.standing
+        → own ≡ record lent { costs = own.costs; standing = own.standing }
+        → Program swaps n lent [] (state_at opened sheet) own
     calls : {es : List (Exchange K)} {s s' : State} {own own' : Tables K} {e : Exchange K}
-        → Program swaps n es s own → Makes swaps s own e s' own'
-        → Program swaps n (es ++ e ∷ []) s' own'
+        → Program swaps n lent es s own → Makes swaps s own e s' own'
+        → Program swaps n lent (es ++ e ∷ []) s' own'
 
-  -- the pair tables of n blocks a plane show these cells
-  abbrev pub ShowCells : ℕ → (ℕ → ℕ → Option K) → Tables K → Type 0
-  ShowCells n cells own = (l r : ℕ) → l < n → r < n
-      → cell kind.zero n own.costs own.standing l r ≡ cells l r
+  -- ---- What a program leaves
 
-  -- THE MAIN THEOREM: every program keeps the promise, and the pair tables show the book's cells
-  -- after its last call. The beginning of a program is a program, so this is said after every call.
+  -- the pair tables of n blocks a plane show these cells, and nothing else
+  pub record ShowCells (n : ℕ) (cells : ℕ → ℕ → Option K) (own : Tables K) : Type 0 where
+    pub costs_long : length own.costs ≡ places_of n
+    pub standing_long : length own.standing ≡ places_of n
+    pub costs : (l r : ℕ) → l < n → r < n
+        → slice_index_or own.costs (place_of n l r) kind.zero
+        ≡ cost_in kind.zero (cells l r)
+    pub standing : (l r : ℕ) → l < n → r < n → byte_of n own.standing l r ≡ byte_in (cells l r)
+
+  -- WHAT THE TABLES HOLD after some calls of a program: the pair tables show the book's cells, and
+  -- each other table that the state rests on holds what the calls told of it last, so the partners
+  -- and the prices what the last settle wrote, and the walk list the pairing that was handed out
+  -- last. Of a program that swaps no tables this is so of all of them in every state; a table that
+  -- no call told of is as it was lent.
+  pub record Leaves (swaps : Bool) (n : ℕ) (lent : Tables K) (es : List (Exchange K)) (s : State)
+      (own : Tables K) : Type 0 where
+    pub phase : s.phase ≡ (book_after kind n blank es).phase
+    pub size : size_of s.sheet ≡ n
+    pub cells : ShowCells n (book_after kind n blank es).cells own
+    pub partners : (not swaps || priced s.phase) ≡ true
+        → own.partners ≡ (told_last lent es).partners
+    pub left : (not swaps || priced s.phase) ≡ true → own.left ≡ (told_last lent es).left
+    pub right : (not swaps || priced s.phase) ≡ true → own.right ≡ (told_last lent es).right
+    pub walk : (not swaps || walked s.phase) ≡ true → own.walk ≡ (told_last lent es).walk
+    pub marks : (not swaps) ≡ true → own.marks ≡ (told_last lent es).marks
+
+  -- THE MAIN THEOREM: every program keeps the promise, and its tables hold what is said above after
+  -- its last call. The beginning of a program is a program, so this is said after every call.
   abbrev pub EveryProgramKeeps : Type 0
-  EveryProgramKeeps = (swaps : Bool) (n : ℕ) (es : List (Exchange K)) (s : State) (own : Tables K)
-      → Program swaps n es s own
-      → KeepsPromise kind n es × ShowCells n (book_after kind n blank es).cells own
+  EveryProgramKeeps = (swaps : Bool) (n : ℕ) (lent : Tables K) (es : List (Exchange K)) (s : State)
+      (own : Tables K) → Program swaps n lent es s own
+      → KeepsPromise kind n es × Leaves swaps n lent es s own

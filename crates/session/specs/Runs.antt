@@ -1,6 +1,6 @@
 -- What one call of a run, and a whole run, answer and leave in the tables.
-use Rattle.std.specs.Prelude.{◌≡◌, ℕ, ◌≤◌, false, ◌⊎◌, List, [], ◌∷◌, length, take, Ok, Err, Some}
-use Rattle.std.specs.Prelude.{None, Option, Result, All, Contains, MatchOption, MatchResult}
+use Rattle.std.specs.Prelude.{◌≡◌, ℕ, ◌<◌, ◌≤◌, false, ◌⊎◌, List, [], ◌∷◌, length, take, Ok, Err}
+use Rattle.std.specs.Prelude.{Some, None, Option, Result, All, Contains, MatchOption, MatchResult}
 use Rattle.std.specs.declared.alloc.AllocError.{AllocError}
 use Rattle.std.specs.declared.alloc.Global.{Global}
 use Rattle.std.specs.declared.vec.Vec.{Vec}
@@ -28,11 +28,11 @@ use Rattle.session.specs.declared.running.Stopped.TheVariants.{Sheet, NotLent, M
 use Rattle.session.specs.declared.state.State.{State as InState}
 use Rattle.session.specs.declared.state.State.TheVariants.{Open, Settled as IsSettled, Walking}
 use Rattle.session.specs.declared.sheet_tables.SheetTables.{SheetTables}
-use Rattle.session.specs.Book.{opened, settled, walking, blank}
+use Rattle.session.specs.Book.{opened, settled, walking}
 use Rattle.session.specs.Exchange.{Told, Outcome, not_made, turned_down, tells, Exchange}
 use Rattle.session.specs.Exchange.{call_of}
-use Rattle.session.specs.Program.{State, state_at, Tables, lengths, Makes, Program, ShowCells}
-use Rattle.session.specs.Promise.{KeepsPromise, book_after}
+use Rattle.session.specs.Program.{State, state_at, Tables, lengths, Makes, Program, Leaves}
+use Rattle.session.specs.Promise.{KeepsPromise}
 
 -- ---- States and tables as a program sees them
 
@@ -144,45 +144,63 @@ module _ {K : Type 0} (kind : Ghosts K) where
         (record { act = call.act; handed = call.handed; outcome = outcome }) (state_of state') new
     pub long : lengths new ≡ lengths old
 
-  -- want of memory is found before the call is made
+  -- want of memory is found before the call is made: the state comes back, and the tables are as
+  -- they were
   abbrev pub MakesOne : (state : InState) (old : Tables K) → Call K
-      → Result (InState × Answer K) AllocError → (new : Tables K) → Type 0
-  MakesOne state old call answer new =
-      MatchResult answer (λ r. WasMade state old call r.1 r.0 new) (λ e. new ≡ old)
+      → InState × Result (Answer K) AllocError → (new : Tables K) → Type 0
+  MakesOne state old call made new =
+      MatchResult made.1 (λ answer. WasMade state old call answer made.0 new)
+      (λ e. (made.0 ≡ state) × (new ≡ old))
 
   -- ---- A run
 
-  -- the calls were made and have these answers, and the tables hold what the last call left: the
-  -- calls are a program, so they keep the promise
-  pub record WereMade (n : ℕ) (calls : List (Call K)) (answers : List (Answer K)) (new : Tables K)
-      : Type 0 where
-    pub exchanges : List (Exchange K)
-    pub say : AllSay calls answers exchanges
-    pub state : State
-    pub program : Program kind false n exchanges state new
-    pub keeps : KeepsPromise kind n exchanges
-    pub shows : ShowCells kind n (book_after kind n blank exchanges).cells new
+  -- no call of a list is handed more than is lent
+  abbrev pub AreLent : List (Call K) → (lent : Lengths) → Type 0
+  AreLent calls lent = All (λ call. IsWithin call.handed lent) calls
+
+  -- some call is
+  abbrev pub ExceedsLent : List (Call K) → (lent : Lengths) → Type 0
+  ExceedsLent calls lent =
+      (call : Call K) × Contains calls call × (IsWithin call.handed lent → ⊥)
 
   -- no sheet is opened: the size is wrong, or the lengths are
   abbrev pub IsNoSheet : ℕ → Lengths → Fault → Type 0
   IsNoSheet n h f = (IsSize n → ⊥) × (f ≡ fault Size 0)
       ⊎ (IsSize n × (h ≡ right_lengths n → ⊥) × (f ≡ fault TableLength 0))
 
-  -- a sheet is open over the tables, which had the right lengths and keep them: a program begins
-  pub record Begins (n : ℕ) (old : Tables K) (state : InState) (new : Tables K) : Type 0 where
-    pub program : Program kind false n [] (state_of state) new
-    pub sized : size_of (state_of state).sheet ≡ n
-    pub right : lengths old ≡ right_lengths n
-    pub long : lengths new ≡ lengths old
+  -- the size and the lengths are right for a sheet
+  pub record IsSheet (n : ℕ) (h : Lengths) : Type 0 where
+    pub size : IsSize n
+    pub right : h ≡ right_lengths n
 
-  -- every call is made; or none is, and the tables are as they were; or memory ran out after some.
-  -- A call that is handed more than is lent comes before a sheet that cannot be opened.
-  abbrev pub Runs : ℕ → (old : Tables K) → List (Call K)
+  -- A sheet was opened over the tables as they were lent, the calls were made and have these
+  -- answers, and the tables hold what the last call left: the calls are a program, so they keep the
+  -- promise, and the tables hold what a program leaves.
+  pub record WereMade (n : ℕ) (lent : Tables K) (calls : List (Call K)) (answers : List (Answer K))
+      (new : Tables K) : Type 0 where
+    pub sheet : IsSheet n (lengths lent)
+    pub exchanges : List (Exchange K)
+    pub say : AllSay calls answers exchanges
+    pub state : State
+    pub program : Program kind false n lent exchanges state new
+    pub keeps : KeepsPromise kind n exchanges
+    pub leaves : Leaves kind false n lent exchanges state new
+
+  -- a sheet of n blocks a plane is open over the tables: a program begins
+  pub record Begins (n : ℕ) (lent : Tables K) (state : InState) (new : Tables K) : Type 0 where
+    pub program : Program kind false n lent [] (state_of state) new
+    pub sized : size_of (state_of state).sheet ≡ n
+
+  -- What a run comes to, by its tests in their order: a call is handed more than is lent; the size
+  -- is wrong, or the lengths are; every call is made; or memory ran out before one of them, and
+  -- those before it were made. Refused, the tables are as they were lent. No two of these can be.
+  abbrev pub Runs : ℕ → (lent : Tables K) → List (Call K)
       → Result (Vec (Answer K) Global) (Stopped K) → (new : Tables K) → Type 0
-  Runs n old calls (Ok answers) new = WereMade n calls answers.items new
-  Runs n old calls (Err (Sheet f)) new = IsNoSheet n (lengths old) f
-      × All (λ call. IsWithin call.handed (lengths old)) calls × (new ≡ old)
-  Runs n old calls (Err NotLent) new = ((call : Call K) × Contains calls call
-      × (IsWithin call.handed (lengths old) → ⊥)) × (new ≡ old)
-  Runs n old calls (Err (Memory answers)) new =
-      WereMade n (take (length answers.items) calls) answers.items new
+  Runs n lent calls (Err NotLent) new = ExceedsLent calls (lengths lent) × (new ≡ lent)
+  Runs n lent calls (Err (Sheet f)) new =
+      AreLent calls (lengths lent) × IsNoSheet n (lengths lent) f × (new ≡ lent)
+  Runs n lent calls (Ok answers) new =
+      AreLent calls (lengths lent) × WereMade n lent calls answers.items new
+  Runs n lent calls (Err (Memory answers)) new =
+      AreLent calls (lengths lent) × (length answers.items < length calls)
+      × WereMade n lent (take (length answers.items) calls) answers.items new

@@ -1,12 +1,11 @@
 //! The run of a list of calls on one sheet.
 
 ghost use Rattle.std.specs.Bool.{MatchBool};
-ghost use Rattle.std.specs.Prelude.{◌≡◌, All, Contains, IfOk, MatchResult};
+ghost use Rattle.std.specs.Prelude.{◌≡◌, IfOk, OnErr, MatchResult};
 ghost use Rattle.sheet.specs.Size.{size_of};
-ghost use Rattle.session.specs.declared.call.Call.{Call};
 ghost use Rattle.session.specs.Program.{lengths};
 ghost use Rattle.session.specs.Runs.{state_of, tables_of, right_lengths, IsWithin, MakesOne, Runs};
-ghost use Rattle.session.specs.Runs.{Begins, IsNoSheet};
+ghost use Rattle.session.specs.Runs.{AreLent, ExceedsLent, Begins, IsSheet, IsNoSheet};
 
 mod answers;
 mod on_open;
@@ -37,20 +36,19 @@ pub enum Stopped<K> {
 ///
 /// The tables have the right lengths for the sheet, and the call is handed no more of them than
 /// there is. The copies that the answer holds are made before the call: where memory for them runs
-/// out, the call is not made, and the tables are as they were.
+/// out, the call is not made, the state comes back, and the tables are as they were.
 pub fn make<K: Cost>(
     heap: Global,
     state: State,
     tables: &mut SheetTables<K>,
     call: Call<K>,
-) -> Result<(State, Answer<K>), AllocError>
+) -> (State, Result<Answer<K>, AllocError>)
     requires right { lengths (tables_of tables.old)
         ≡ right_lengths (size_of (state_of state).sheet) }
     requires lent { IsWithin call.handed (lengths (tables_of tables.old)) }
     ensures makes { MakesOne K.Cost state (tables_of tables.old) call result
         (tables_of tables.new) }
-    ensures same_size { IfOk result (λ made.
-        size_of (state_of made.0).sheet ≡ size_of (state_of state).sheet) }
+    ensures same_size { size_of (state_of result.0).sheet ≡ size_of (state_of state).sheet }
     ensures same_lengths { lengths (tables_of tables.new) ≡ lengths (tables_of tables.old) }
 {
     match state {
@@ -66,7 +64,9 @@ pub fn make<K: Cost>(
 /// A call is handed as many first places of each table as it says. Refused, in this order: a call
 /// that is handed more than is lent; a size of 0 or above 64; a table of the wrong length. No call
 /// is then made, and the tables are as they were. Where memory runs out, the answers to the calls
-/// that were made come back, and the tables are as the last of these left them.
+/// that were made come back, and the tables are as the last of these left them. A table that no
+/// accepted call wrote is as it was lent, but for the two pair tables, in which every pair is
+/// absent at first.
 pub fn run<K: Cost>(
     heap: Global,
     n: u16,
@@ -88,11 +88,10 @@ pub fn run<K: Cost>(
         if answers.reserve(1).is_err() {
             return Err(Stopped::Memory(answers));
         }
-        match make(heap, state, tables, *call) {
-            Ok((next, answer)) => {
-                state = next;
-                answers.push_reserved(answer);
-            }
+        let (next, outcome) = make(heap, state, tables, *call);
+        state = next;
+        match outcome {
+            Ok(answer) => answers.push_reserved(answer),
             Err(_) => return Err(Stopped::Memory(answers)),
         }
     }
@@ -101,18 +100,23 @@ pub fn run<K: Cost>(
 
 // Whether each call is handed no more than is lent.
 fn all_lent<K: Cost>(calls: &[Call<K>], lent: Lengths) -> bool
-    ensures { MatchBool result (All (λ call. IsWithin call.handed lent) calls.now)
-        ((call : Call K) × Contains calls.now call × (IsWithin call.handed lent → ⊥)) }
+    ensures { MatchBool result (AreLent K.Cost calls.now lent) (ExceedsLent K.Cost calls.now lent) }
 {
     calls.iter().all(|call| call.handed.within(lent))
 }
 
-// Opens a sheet over the tables, if these have the right lengths for it.
+// Opens a sheet over the tables, if these have the right lengths for it: a program begins.
 fn begin<K: Cost>(n: u16, tables: &mut SheetTables<K>) -> Result<State, Fault>
-    ensures { MatchResult result
-        (λ state. Begins K.Cost n (tables_of tables.old) state (tables_of tables.new))
-        (λ f. IsNoSheet K.Cost n (lengths (tables_of tables.old)) f
-        × (tables_of tables.new ≡ tables_of tables.old)) }
+    ensures sheet { MatchResult result (λ _. IsSheet K.Cost n (lengths (tables_of tables.old)))
+        (λ f. IsNoSheet K.Cost n (lengths (tables_of tables.old)) f) }
+    ensures begins { IfOk result (λ state.
+        Begins K.Cost n (tables_of tables.old) state (tables_of tables.new)) }
+    ensures long { lengths (tables_of tables.new) ≡ lengths (tables_of tables.old) }
+    ensures others { tables_of tables.new ≡ record (tables_of tables.old) {
+      costs = tables.new.costs.items;
+      standing = tables.new.standing.items;
+    } }
+    ensures err { OnErr result (tables_of tables.new ≡ tables_of tables.old) }
 {
     if n == 0 || n > MOST_BLOCKS {
         return Err(Cause::Size.at(0));

@@ -20,19 +20,19 @@ place_right n l r h = mod-mul-add l n r h
 pub place_below : (n l r : ℕ) → l < n → r < n → place_of n l r < places_of n
 place_below n l r hl hr = mul-add-lt l n r n hl hr
 
+-- another pair lies elsewhere
+pub apart : (n l r i j : ℕ) → r < n → j < n → ((i ≡ l) × (j ≡ r) → ⊥)
+    → place_of n i j ≢ place_of n l r
+apart n l r i j hr hj differ = λ same. differ (
+  sym (place_left n i j hj) ∙ ap (λ k. k / n) same ∙ place_left n l r hr,
+  sym (place_right n i j hj) ∙ ap (λ k. k % n) same ∙ place_right n l r hr,
+)
+
 -- where the tables have a place for each pair, and both blocks exist
 module _ {K : Type 0} (nought : K) (n : ℕ) (costs : List K) (standing : List ℕ) (l r : ℕ)
     (have : HavePlaces n (length costs) (length standing)) (hl : l < n) (hr : r < n) where
   spot : ℕ
   spot = place_of n l r
-
-  -- the other pairs lie elsewhere
-  other_place : (i j : ℕ) → j < n → ((i ≡ l) × (j ≡ r) → ⊥) → place_of n i j ≢ spot
-  unfolding spot
-  other_place i j hj differ = λ same. differ (
-    sym (place_left n i j hj) ∙ ap (λ k. k / n) same ∙ place_left n l r hr,
-    sym (place_right n i j hj) ∙ ap (λ k. k % n) same ∙ place_right n l r hr,
-  )
 
   -- a byte and a cost that are written at the pair's place
   pub written : (byte : ℕ) (cost : K) (at : ℕ) → at ≡ place_of n l r
@@ -46,8 +46,8 @@ module _ {K : Type 0} (nought : K) (n : ℕ) (costs : List K) (standing : List �
         (get_or-set_same costs spot cost nought
         (omega (arith, place_below n l r hl hr, have.costs)));
     others = λ i j hi hj differ. ap₂ (λ b x. cond (says_stands b) (Some x) None)
-        (get_or-set_other standing spot (place_of n i j) byte 0 (other_place i j hj differ))
-        (get_or-set_other costs spot (place_of n i j) cost nought (other_place i j hj differ));
+        (get_or-set_other standing spot (place_of n i j) byte 0 (apart n l r i j hr hj differ))
+        (get_or-set_other costs spot (place_of n i j) cost nought (apart n l r i j hr hj differ));
   })
 
 -- tables that were just opened

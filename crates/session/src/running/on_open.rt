@@ -1,6 +1,6 @@
 //! A call on an open sheet.
 
-ghost use Rattle.std.specs.Prelude.{◌≡◌};
+ghost use Rattle.std.specs.Prelude.{◌≡◌, IfOk};
 ghost use Rattle.sheet.specs.Size.{size_of};
 ghost use Rattle.session.specs.declared.call.Act.TheVariants.{Enter, Strike, Read, Settle};
 ghost use Rattle.session.specs.declared.state.State.TheVariants.{Open};
@@ -22,7 +22,7 @@ pub(super) fn make<K: Cost>(
     sheet: OpenSheet,
     tables: &mut SheetTables<K>,
     call: Call<K>,
-) -> Result<(State, Answer<K>), AllocError>
+) -> (State, Result<Answer<K>, AllocError>)
     requires right { lengths (tables_of tables.old) ≡ right_lengths (size_of sheet) }
     requires lent { IsWithin call.handed (lengths (tables_of tables.old)) }
     ensures { MakesOne K.Cost (Open sheet) (tables_of tables.old) call result
@@ -32,18 +32,18 @@ pub(super) fn make<K: Cost>(
     match call.act {
         Act::Enter { left, right, cost } => {
             let answer = enter(&sheet, tables, h, left, right, cost);
-            Ok((State::Open(sheet), answer))
+            (State::Open(sheet), Ok(answer))
         }
         Act::Strike { left, right } => {
             let answer = strike(&sheet, tables, h, left, right);
-            Ok((State::Open(sheet), answer))
+            (State::Open(sheet), Ok(answer))
         }
         Act::Read { left, right } => {
             let answer = read(&sheet, tables, h, left, right);
-            Ok((State::Open(sheet), answer))
+            (State::Open(sheet), Ok(answer))
         }
         Act::Settle => settle(heap, sheet, tables, h),
-        _ => Ok((State::Open(sheet), Answer::NotMade)),
+        _ => (State::Open(sheet), Ok(Answer::NotMade)),
     }
 }
 
@@ -99,13 +99,37 @@ fn read<K: Cost>(
     amount(sheet.read(costs, standing, left, right))
 }
 
+// Copies of the tables that a settle writes.
+struct Copies<K> {
+    partners: Vec<u16>,
+    left: Vec<K>,
+    right: Vec<K>,
+}
+
+fn copy_tables<K: Cost>(
+    heap: Global,
+    partners: &[u16],
+    left: &[K],
+    right: &[K],
+) -> Result<Copies<K>, AllocError>
+    ensures partners { IfOk result (λ made. made.partners.items ≡ partners.now) }
+    ensures left { IfOk result (λ made. made.left.items ≡ left.now) }
+    ensures right { IfOk result (λ made. made.right.items ≡ right.now) }
+{
+    Ok(Copies {
+        partners: Vec::from_slice(heap, partners)?,
+        left: Vec::from_slice(heap, left)?,
+        right: Vec::from_slice(heap, right)?,
+    })
+}
+
 // The copies that the answer needs are made first.
 fn settle<K: Cost>(
     heap: Global,
     sheet: OpenSheet,
     tables: &mut SheetTables<K>,
     h: Lengths,
-) -> Result<(State, Answer<K>), AllocError>
+) -> (State, Result<Answer<K>, AllocError>)
     requires right { lengths (tables_of tables.old) ≡ right_lengths (size_of sheet) }
     requires lent { IsWithin h (lengths (tables_of tables.old)) }
     ensures { MakesOne K.Cost (Open sheet) (tables_of tables.old) (call_for Settle h) result
@@ -114,9 +138,10 @@ fn settle<K: Cost>(
     let partners = &mut tables.partners.as_mut_slice()[0..h.partners];
     let left = &mut tables.left.as_mut_slice()[0..h.left];
     let right = &mut tables.right.as_mut_slice()[0..h.right];
-    let mut partners_told = Vec::from_slice(heap, partners)?;
-    let mut left_told = Vec::from_slice(heap, left)?;
-    let mut right_told = Vec::from_slice(heap, right)?;
+    let mut told = match copy_tables(heap, partners, left, right) {
+        Ok(told) => told,
+        Err(error) => return (State::Open(sheet), Err(error)),
+    };
     let outcome = sheet.settle(
         &tables.costs.as_slice()[0..h.costs],
         &tables.standing.as_slice()[0..h.standing],
@@ -124,8 +149,14 @@ fn settle<K: Cost>(
         left,
         right,
     );
-    partners_told.copy_from_slice(partners);
-    left_told.copy_from_slice(left);
-    right_told.copy_from_slice(right);
-    Ok(settled(outcome, partners_told, left_told, right_told))
+    told.partners.copy_from_slice(partners);
+    told.left.copy_from_slice(left);
+    told.right.copy_from_slice(right);
+    let Copies {
+        partners,
+        left,
+        right,
+    } = told;
+    let (state, answer) = settled(outcome, partners, left, right);
+    (state, Ok(answer))
 }

@@ -1,6 +1,6 @@
 //! A call on a settled sheet.
 
-ghost use Rattle.std.specs.Prelude.{◌≡◌, MatchResult};
+ghost use Rattle.std.specs.Prelude.{◌≡◌};
 ghost use Rattle.sheet.specs.Size.{size_of};
 ghost use Rattle.session.specs.declared.call.Act.TheVariants.{Quote, Total, Marks, Start};
 ghost use Rattle.session.specs.declared.state.State.TheVariants.{Settled};
@@ -22,7 +22,7 @@ pub(super) fn make<K: Cost>(
     sheet: SettledSheet,
     tables: &mut SheetTables<K>,
     call: Call<K>,
-) -> Result<(State, Answer<K>), AllocError>
+) -> (State, Result<Answer<K>, AllocError>)
     requires right { lengths (tables_of tables.old) ≡ right_lengths (size_of sheet) }
     requires lent { IsWithin call.handed (lengths (tables_of tables.old)) }
     ensures { MakesOne K.Cost (Settled sheet) (tables_of tables.old) call result
@@ -32,19 +32,19 @@ pub(super) fn make<K: Cost>(
     match call.act {
         Act::Quote { left, right } => {
             let answer = quote(&sheet, tables, h, left, right);
-            Ok((State::Settled(sheet), answer))
+            (State::Settled(sheet), Ok(answer))
         }
         Act::Total => {
             let answer = total(&sheet, tables, h);
-            Ok((State::Settled(sheet), answer))
+            (State::Settled(sheet), Ok(answer))
         }
         Act::Marks => {
-            let answer = marks(heap, &sheet, tables, h)?;
-            Ok((State::Settled(sheet), answer))
+            let answer = marks(heap, &sheet, tables, h);
+            (State::Settled(sheet), answer)
         }
         Act::Start => start(heap, sheet, tables, h),
-        Act::Reopen => Ok((State::Open(sheet.reopen()), Answer::Done)),
-        _ => Ok((State::Settled(sheet), Answer::NotMade)),
+        Act::Reopen => (State::Open(sheet.reopen()), Ok(Answer::Done)),
+        _ => (State::Settled(sheet), Ok(Answer::NotMade)),
     }
 }
 
@@ -98,10 +98,8 @@ fn marks<K: Cost>(
 ) -> Result<Answer<K>, AllocError>
     requires right { lengths (tables_of tables.old) ≡ right_lengths (size_of sheet.now) }
     requires lent { IsWithin h (lengths (tables_of tables.old)) }
-    ensures { MatchResult result
-        (λ answer. WasMade K.Cost (Settled sheet.now) (tables_of tables.old) (call_for Marks h)
-        answer (Settled sheet.now) (tables_of tables.new))
-        (λ e. tables_of tables.new ≡ tables_of tables.old) }
+    ensures { MakesOne K.Cost (Settled sheet.now) (tables_of tables.old) (call_for Marks h)
+        (Settled sheet.now, result) (tables_of tables.new) }
 {
     let table = &mut tables.marks.as_mut_slice()[0..h.marks];
     let mut told = Vec::from_slice(heap, table)?;
@@ -122,14 +120,17 @@ fn start<K: Cost>(
     sheet: SettledSheet,
     tables: &mut SheetTables<K>,
     h: Lengths,
-) -> Result<(State, Answer<K>), AllocError>
+) -> (State, Result<Answer<K>, AllocError>)
     requires right { lengths (tables_of tables.old) ≡ right_lengths (size_of sheet) }
     requires lent { IsWithin h (lengths (tables_of tables.old)) }
     ensures { MakesOne K.Cost (Settled sheet) (tables_of tables.old) (call_for Start h) result
         (tables_of tables.new) }
 {
     let list = &mut tables.walk.as_mut_slice()[0..h.walk];
-    let mut told = Vec::from_slice(heap, list)?;
+    let mut told = match Vec::from_slice(heap, list) {
+        Ok(told) => told,
+        Err(error) => return (State::Settled(sheet), Err(error)),
+    };
     let outcome = sheet.start(
         &tables.costs.as_slice()[0..h.costs],
         &tables.standing.as_slice()[0..h.standing],
@@ -139,5 +140,6 @@ fn start<K: Cost>(
         list,
     );
     told.copy_from_slice(list);
-    Ok(started(outcome, told))
+    let (state, answer) = started(outcome, told);
+    (state, Ok(answer))
 }

@@ -1,11 +1,11 @@
 //! A call on a walk.
 
-ghost use Rattle.std.specs.Prelude.{◌≡◌, MatchResult};
+ghost use Rattle.std.specs.Prelude.{◌≡◌};
 ghost use Rattle.sheet.specs.Size.{size_of};
 ghost use Rattle.session.specs.declared.call.Act.TheVariants.{Next};
 ghost use Rattle.session.specs.declared.state.State.TheVariants.{Walking};
 ghost use Rattle.session.specs.Program.{lengths};
-ghost use Rattle.session.specs.Runs.{tables_of, right_lengths, IsWithin, MakesOne, WasMade};
+ghost use Rattle.session.specs.Runs.{tables_of, right_lengths, IsWithin, MakesOne};
 ghost use Rattle.session.specs.Runs.{call_for};
 
 use super::answers::stepped;
@@ -22,7 +22,7 @@ pub(super) fn make<K: Cost>(
     walk: Walk,
     tables: &mut SheetTables<K>,
     call: Call<K>,
-) -> Result<(State, Answer<K>), AllocError>
+) -> (State, Result<Answer<K>, AllocError>)
     requires right { lengths (tables_of tables.old) ≡ right_lengths (size_of walk) }
     requires lent { IsWithin call.handed (lengths (tables_of tables.old)) }
     ensures { MakesOne K.Cost (Walking walk) (tables_of tables.old) call result
@@ -30,11 +30,11 @@ pub(super) fn make<K: Cost>(
 {
     match call.act {
         Act::Next => {
-            let answer = next(heap, &walk, tables, call.handed)?;
-            Ok((State::Walking(walk), answer))
+            let answer = next(heap, &walk, tables, call.handed);
+            (State::Walking(walk), answer)
         }
-        Act::Close => Ok((State::Settled(walk.close()), Answer::Done)),
-        _ => Ok((State::Walking(walk), Answer::NotMade)),
+        Act::Close => (State::Settled(walk.close()), Ok(Answer::Done)),
+        _ => (State::Walking(walk), Ok(Answer::NotMade)),
     }
 }
 
@@ -47,10 +47,8 @@ fn next<K: Cost>(
 ) -> Result<Answer<K>, AllocError>
     requires right { lengths (tables_of tables.old) ≡ right_lengths (size_of walk.now) }
     requires lent { IsWithin h (lengths (tables_of tables.old)) }
-    ensures { MatchResult result
-        (λ answer. WasMade K.Cost (Walking walk.now) (tables_of tables.old) (call_for Next h) answer
-        (Walking walk.now) (tables_of tables.new))
-        (λ e. tables_of tables.new ≡ tables_of tables.old) }
+    ensures { MakesOne K.Cost (Walking walk.now) (tables_of tables.old) (call_for Next h)
+        (Walking walk.now, result) (tables_of tables.new) }
 {
     let list = &mut tables.walk.as_mut_slice()[0..h.walk];
     let mut told = Vec::from_slice(heap, list)?;

@@ -16,8 +16,8 @@ returns-in_err-sheet g c =
     c.as_mut_slice.ensures.value c.as_mut_slice-2.ensures.value c.open.ensures.call
     c.in_err-sheet.field-0.0 c.in_err-sheet.was)
 
-pub returns : goal.returns
-returns g c =
+pub returns-clause-begins : goal.returns-clause-begins
+returns-clause-begins g c =
     let t = c.args.tables.now in
     let n = c.args.n in
     let right : lengths (tables_of t) ≡ right_lengths n = search rules in

@@ -6,4 +6,5 @@ use Rattle.session.proofs.running.run.Given as goal
 
 abbrev pub invariant-loop-call : goal.invariant-loop-call
 invariant-loop-call g l =
-    Going g.K.Cost l.n (take l.call-index l.calls) l.answers.items l.state (tables_of l.tables)
+    Going g.K.Cost l.n (tables_of l.fn.tables) (take l.call-index l.calls) l.answers.items l.state
+    (tables_of l.tables)

@@ -17,7 +17,7 @@ returns g c =
     let state = Open c.args.sheet in
     let own : Tables g.row.K.Denot = tables_of c.args.tables.now in
     let o = c.settle-outcome in
-    let answer = c.settled.result.1 in
+    let answer = c.settled-state.result.1 in
     let seen : Tables g.row.K.Denot = record own {
       costs = c.as_slice.result.now;
       standing = c.as_slice-2.result.now;
@@ -33,7 +33,7 @@ returns g c =
     let kept = parts_kept h own seen c.requires.lent (seen_are own seen c.as_slice.ensures.value
     c.as_slice-2.ensures.value c.as_mut_slice.ensures.value c.as_mut_slice-2.ensures.value
     c.as_mut_slice-3.ensures.value refl refl) in
-    was_made g.K.Cost state own Settle h (settle_told left o.result) answer c.settled.result.0
+    was_made g.K.Cost state own Settle h (settle_told left o.result) answer c.settled-state.result.0
     (cut h seen) left _ c.requires.right
     (with_settlement h own (cut h seen) (cut h seen) own kept left.partners _ left.left _
     left.right _
@@ -45,5 +45,6 @@ returns g c =
     c.as_mut_slice-3.ensures.value o.auto.right))
     (says_settle answer o.result c.copy_from_slice.new.self c.copy_from_slice-2.new.self
     c.copy_from_slice-3.new.self left c.copy_from_slice.ensures.items
-    c.copy_from_slice-2.ensures.items c.copy_from_slice-3.ensures.items c.settled.ensures.answer)
-    (inl (refl, (o.result, refl, o.ensures, refl, c.settled.ensures.state)))
+    c.copy_from_slice-2.ensures.items c.copy_from_slice-3.ensures.items
+    c.settled-state.ensures.answer)
+    (inl (refl, (o.result, refl, o.ensures, refl, c.settled-state.ensures.state)))

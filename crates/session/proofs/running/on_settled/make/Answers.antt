@@ -10,12 +10,13 @@ use Rattle.session.specs.Program.{Tables, state_at}
 use Rattle.session.specs.Runs.{tables_of}
 use Rattle.session.proofs.Allowing.{settled_allows}
 use Rattle.session.proofs.Handing.{cut, parts_kept, was_made, not_made, made_for}
+use Rattle.session.proofs.Handing.{makes_for}
 use Rattle.session.proofs.running.on_settled.make.Goals as goal
 
-pub returns-in_ok-answer-in-Marks : goal.returns-in_ok-answer-in-Marks
-returns-in_ok-answer-in-Marks g c =
-    made_for g.K.Cost (Settled c.args.sheet) (tables_of c.args.tables.now) c.args.call Marks _
-    (Settled c.args.sheet) _ c.in-Marks.is c.in_ok-answer-in-Marks.ensures
+pub returns-in-Marks : goal.returns-in-Marks
+returns-in-Marks g c =
+    makes_for g.K.Cost (Settled c.args.sheet) (tables_of c.args.tables.now) c.args.call Marks
+    (Settled c.args.sheet, c.marks-answer.result) _ c.in-Marks.is c.marks-answer.ensures
 
 pub returns-in-Reopen : goal.returns-in-Reopen
 returns-in-Reopen g c =

@@ -17,7 +17,7 @@ returns g c =
     let own : Tables g.row.K.Denot = tables_of c.args.tables.now in
     let outcome = c.start-outcome.result in
     let list = c.start-outcome.new.list in
-    let answer = c.started.result.1 in
+    let answer = c.started-state.result.1 in
     let seen : Tables g.row.K.Denot = record own {
       costs = c.as_slice.result.now;
       standing = c.as_slice-2.result.now;
@@ -29,11 +29,11 @@ returns g c =
     let kept = parts_kept h own seen c.requires.lent (seen_are own seen c.as_slice.ensures.value
     c.as_slice-2.ensures.value c.as_slice-3.ensures.value c.as_slice-4.ensures.value
     c.as_slice-5.ensures.value c.as_mut_slice.ensures.value refl) in
-    was_made g.K.Cost state own Start h (start_told list outcome) answer c.started.result.0
+    was_made g.K.Cost state own Start h (start_told list outcome) answer c.started-state.result.0
     (cut h seen) (record (cut h seen) { walk = list }) _ c.requires.right
     (with_walk h own (cut h seen) (cut h seen) own kept list _
     (part_written h.walk c.args.tables.now.walk seen.walk list c.requires.lent.walk
     c.as_mut_slice.ensures.value c.start-outcome.auto.list))
     (says_start answer outcome c.copy_from_slice.new.self list c.copy_from_slice.ensures.items
-    c.started.ensures.answer)
-    (inl (refl, (outcome, refl, c.start-outcome.ensures, refl, c.started.ensures.state)))
+    c.started-state.ensures.answer)
+    (inl (refl, (outcome, refl, c.start-outcome.ensures, refl, c.started-state.ensures.state)))

@@ -10,12 +10,13 @@ use Rattle.session.specs.Program.{Tables, state_at}
 use Rattle.session.specs.Runs.{tables_of}
 use Rattle.session.proofs.Allowing.{walk_allows}
 use Rattle.session.proofs.Handing.{cut, parts_kept, was_made, not_made, made_for}
+use Rattle.session.proofs.Handing.{makes_for}
 use Rattle.session.proofs.running.on_walk.make.Goals as goal
 
-pub returns-in_ok-answer-in-Next : goal.returns-in_ok-answer-in-Next
-returns-in_ok-answer-in-Next g c =
-    made_for g.K.Cost (Walking c.args.walk) (tables_of c.args.tables.now) c.args.call Next _
-    (Walking c.args.walk) _ c.in-Next.is c.in_ok-answer-in-Next.ensures
+pub returns-in-Next : goal.returns-in-Next
+returns-in-Next g c =
+    makes_for g.K.Cost (Walking c.args.walk) (tables_of c.args.tables.now) c.args.call Next
+    (Walking c.args.walk, c.next-answer.result) _ c.in-Next.is c.next-answer.ensures
 
 pub returns-in-Close : goal.returns-in-Close
 returns-in-Close g c =
