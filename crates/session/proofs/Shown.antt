@@ -1,14 +1,23 @@
--- A whole list of calls keeps the promise.
+-- Whole lists of calls keep the promise, and some answers do not.
 -- Idea: each verdict, walk and mark is computed from its definition; the greatest prices are shown
--- by a test that passes.
-use Rattle.std.proofs.Common.{◌≡◌, ◌≢◌, ℕ, zero, suc, ◌<◌, false, List, [], ◌∷◌, ◌++◌, length}
-use Rattle.std.proofs.Common.{ℤ, Option, Some, None, cond, refl, sym, ◌∙◌, inl, ap, arith}
+-- by a test that passes, and crowd sets as the worked grids of the mathematics have them.
+use Rattle.std.proofs.Common.{◌≡◌, ◌≢◌, ℕ, zero, suc, ◌<◌, true, false, List, [], ◌∷◌, ◌++◌, length}
+use Rattle.std.proofs.Common.{ℤ, pos, negsuc, Option, Some, None, cond, refl, sym, ◌∙◌, inl, ap}
+use Rattle.std.proofs.Common.{arith}
 use Rattle.std.proofs.lemmas.Bool.{false≢true}
 use Rattle.cost.specs.Columns.{Within}
-use Rattle.pairing.specs.Grid.{Grid, PerfectIn, at}
+use Rattle.cost.specs.declared.Cost.{Ghosts}
+use Rattle.cost.specs.declared.free_kind.Free.{Free}
+use Rattle.blockset.specs.Sets.{members, bit}
+use Rattle.pairing.specs.Examples.{crowded_grid, bare_grid}
+use Rattle.pairing.specs.Grid.{Grid, PerfectIn, at, Upto}
+use Rattle.pairing.specs.Inside.{Alike}
+use Rattle.pairing.specs.Largest.{Unpaired}
 use Rattle.pairing.specs.Optima.{optima, has_pair}
 use Rattle.pairing.specs.Places.{place_of}
+use Rattle.pairing.proofs.Alike.{unpaired_like}
 use Rattle.pairing.proofs.Listing.{In, in_optima}
+use Rattle.pairing.proofs.Shown.{crowded as crowded_is, bare as bare_is}
 use Rattle.pairing.proofs.Tests.{sane_is, greatest_is}
 use Rattle.matching.specs.Answers.{MarksOf}
 use Rattle.tables.specs.Said.{columns_at, Bounded}
@@ -17,17 +26,17 @@ use Rattle.sheet.specs.declared.fault.Cause.TheVariants.{NoPerfectPairing, Incon
 use Rattle.sheet.specs.declared.fault.Cause.TheVariants.{TableLength}
 use Rattle.sheet.specs.declared.fault.Fault.{Fault}
 use Rattle.sheet.specs.Refusals.{fault}
-use Rattle.session.specs.Book.{Book, blank, step, grid_in, with_cell}
+use Rattle.session.specs.Book.{Book, blank, step, grid_in, with_cell, stands_in}
 use Rattle.session.specs.Example.{whole_numbers, first, second, with_prices, entries, marks}
 use Rattle.session.specs.Example.{refusals, settled_calls, walk_calls, calls_again, full, since}
-use Rattle.session.specs.Example.{settled_book}
+use Rattle.session.specs.Example.{settled_book, whole, crowded, bare, lower_prices}
 use Rattle.session.specs.Exchange.{Exchange, call_of}
 use Rattle.session.specs.Promise.{AgreesWith, IsSettlement, IsMarked, IsRefusal, IsSound, ended}
 use Rattle.session.specs.Promise.{KeepsPromise, AllRight, Settling, fresh, noted_of}
 use Rattle.session.specs.Promise.{settling_of, book_after}
 use Rattle.session.proofs.Theorem.{told_after}
 use Rattle.session.proofs.Judging.{length_not_six, block_not_six, absent_not_six, length_not}
-use Rattle.session.proofs.Judging.{block_not, absent_not}
+use Rattle.session.proofs.Judging.{block_not, absent_not, perfect_not}
 
 -- what is in the list is perfect
 perfect : (g : Grid) (p : List ℕ) → In p (optima g) → PerfectIn g p
@@ -39,6 +48,11 @@ below_three P a b c zero h = a
 below_three P a b c (suc zero) h = b
 below_three P a b c (suc (suc zero)) h = c
 below_three P a b c (suc (suc (suc k))) h = absurd (omega (arith, h))
+
+below_two : (P : ℕ → Type 0) → P 0 → P 1 → (k : ℕ) → k < 2 → P k
+below_two P a b zero h = a
+below_two P a b (suc zero) h = b
+below_two P a b (suc (suc k)) h = absurd (omega (arith, h))
 
 -- ---- Refusals that are not for want of a perfect pairing
 
@@ -266,12 +280,92 @@ joined b s (e ∷ es) ds h i = (
       (noted_of whole_numbers 3 b s e.act e.outcome) es ds h.1 i,
 )
 
-pub whole : KeepsPromise whole_numbers 3
-    (entries ++ (refusals ++ (settled_calls ++ (walk_calls ++ calls_again))))
-whole =
+pub keeps : KeepsPromise whole_numbers 3 whole
+keeps =
     joined blank (fresh whole_numbers 3) entries
     (refusals ++ (settled_calls ++ (walk_calls ++ calls_again))) entries_right
     (joined full (fresh whole_numbers 3) refusals
     (settled_calls ++ (walk_calls ++ calls_again)) refusals_right
     (joined full (fresh whole_numbers 3) settled_calls (walk_calls ++ calls_again) settled_right
     (joined settled_book told_settled walk_calls calls_again walk_right again_right)))
+
+-- ---- Sheets without a perfect pairing
+
+-- what is told of a settle that is refused for want of a perfect pairing
+explained : (n : ℕ) (b : Book ℤ) (crowd short : ℕ) → Unpaired n (stands_in b.cells) crowd short
+    → IsRefusal whole_numbers n b (fault NoPerfectPairing 0)
+    (Some (record { crowd = crowd; short = short }))
+explained n b crowd short is = record { explained = (refl, is); never_seven = perfect_not }
+
+-- the worked grids without a perfect pairing are tables of the free kind
+abbrev costless : Ghosts Free
+costless = record { columns = 0; meaning = λ _. []; zero = record {} }
+
+-- the book of the crowded sheet
+abbrev crowded_book : Book ℤ
+crowded_book = record blank {
+  cells = with_cell (with_cell (λ l r. None) 0 0 (Some (pos 0))) 1 0 (Some (pos 0));
+}
+
+crowded_alike : Alike 2 (crowded_grid costless).stands (stands_in crowded_book.cells)
+crowded_alike l r i j = below_two
+    (λ l. (crowded_grid costless).stands l r ≡ stands_in crowded_book.cells l r)
+    (below_two (λ r. (crowded_grid costless).stands 0 r ≡ stands_in crowded_book.cells 0 r) refl refl r j)
+    (below_two (λ r. (crowded_grid costless).stands 1 r ≡ stands_in crowded_book.cells 1 r) refl refl r j) l i
+
+pub crowded_unpaired : Unpaired 2 (stands_in crowded_book.cells) 3 1
+crowded_unpaired =
+    unpaired_like 2 (crowded_grid costless).stands (stands_in crowded_book.cells) crowded_alike 3 1
+    (crowded_is costless)
+
+pub crowded_keeps : KeepsPromise whole_numbers 2 (crowded 3 1)
+crowded_keeps = (
+  record { verdict_is = refl; told = tt; sound = record { walks = (refl, tt); agree = tt } },
+  (
+    record { verdict_is = refl; told = tt; sound = record { walks = (refl, tt); agree = tt } },
+    (
+      record {
+        verdict_is = refl;
+        told = explained 2 crowded_book 3 1 crowded_unpaired;
+        sound = record { walks = (refl, tt); agree = tt };
+      },
+      tt,
+    ),
+  ),
+)
+
+bare_alike : Alike 1 (bare_grid costless).stands (stands_in {K = ℤ} (λ l r. None))
+bare_alike zero zero i j = refl
+bare_alike (suc l) r i j = absurd (omega (arith, i))
+bare_alike zero (suc r) i j = absurd (omega (arith, j))
+
+pub bare_keeps : KeepsPromise whole_numbers 1 (bare 1 1)
+bare_keeps = (
+  record {
+    verdict_is = refl;
+    told = explained 1 blank 1 1
+        (unpaired_like 1 (bare_grid costless).stands (stands_in {K = ℤ} (λ l r. None)) bare_alike 1 1
+        (bare_is costless));
+    sound = record { walks = (refl, tt); agree = tt };
+  },
+  tt,
+)
+
+-- a crowd set without left block 1 is made up, and so is a shortage of 2
+pub not_one : Unpaired 2 (stands_in crowded_book.cells) 1 1 → ⊥
+unfolding bit
+not_one is =
+    let e : bit 1 1 ≡ true = (is.crowd_set 1).1 ((crowded_unpaired.crowd_set 1).0 refl) in
+    false≢true e
+
+pub not_two : Unpaired 2 (stands_in crowded_book.cells) 3 2 → ⊥
+unfolding bit members
+not_two is = omega (arith, sym crowded_unpaired.shortage_is ∙ is.shortage_is)
+
+-- ---- Prices that are not the greatest
+
+pub not_greatest : IsSettlement whole_numbers 3 grid lower_prices → ⊥
+not_greatest is =
+    let over : Upto (pos 0 ∷ []) (negsuc 0 ∷ []) = is.greatest.most _ _
+    settled_first.greatest.valid settled_first.greatest.low 0 (omega arith) in
+    over refl

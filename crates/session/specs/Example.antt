@@ -1,6 +1,7 @@
--- The promise on three blocks a plane: a whole list of calls that keeps it, and answers that do
--- not. A cost is a whole number here, in one column.
-use Rattle.std.specs.Prelude.{ℕ, List, [], ◌∷◌, ◌++◌, replicate, ℤ, pos, negsuc, Some, None, Option}
+-- The promise on small sheets: whole lists of calls that keep it, and answers that do not. A cost
+-- is a whole number here, in one column.
+use Rattle.std.specs.Prelude.{◌≡◌, ℕ, List, [], ◌∷◌, ◌++◌, replicate, ℤ, pos, negsuc, Some, None}
+use Rattle.std.specs.Prelude.{Option}
 use Rattle.cost.specs.declared.Cost.{Ghosts}
 use Rattle.matching.specs.declared.augmenting.Shortfall.{Shortfall}
 use Rattle.sheet.specs.declared.fault.Cause.{Cause}
@@ -12,37 +13,39 @@ use Rattle.session.specs.declared.call.Act.TheVariants.{Enter, Strike, Read, Set
 use Rattle.session.specs.declared.call.Act.TheVariants.{Marks, Start, Next, Close, Reopen}
 use Rattle.session.specs.declared.call.Lengths.{Lengths}
 use Rattle.session.specs.Book.{Book, blank, grid_in}
-use Rattle.session.specs.Exchange.{Told, Written, not_made, turned_down, tells, Exchange}
+use Rattle.session.specs.Exchange.{Told, Outcome, Written, not_made, turned_down, tells, Exchange}
+use Rattle.session.specs.Program.{Tables, told_last}
 use Rattle.session.specs.Promise.{Settling, settling_of, AllRight, KeepsPromise, book_after}
+use Rattle.session.specs.Runs.{right_lengths}
 
 abbrev pub whole_numbers : Ghosts ℤ
 whole_numbers = record { columns = 1; meaning = λ z. z ∷ []; zero = pos 0 }
 
 -- ---- Calls with what came of them, over tables of the right lengths
 
-abbrev pub right : Lengths
-right = record {
-  costs = 9;
-  standing = 9;
-  partners = 3;
-  left = 3;
-  right = 3;
-  walk = 3;
-  marks = 9;
-}
+-- on n blocks a plane
+abbrev pub on_blocks : ℕ → (act : Act ℤ) → Outcome (Told ℤ act) → Exchange ℤ
+on_blocks n act outcome = record { act = act; handed = right_lengths n; outcome = outcome }
 
+-- on three blocks a plane
 abbrev pub said : (act : Act ℤ) → Told ℤ act → Exchange ℤ
-said act x = record { act = act; handed = right; outcome = tells x }
+said act x = on_blocks 3 act (tells x)
 
 abbrev pub refused : Act ℤ → Cause → Option Shortfall → Exchange ℤ
-refused act cause shortfall =
-    record { act = act; handed = right; outcome = turned_down (fault cause 0) shortfall }
+refused act cause shortfall = on_blocks 3 act (turned_down (fault cause 0) shortfall)
 
 abbrev pub declined : Act ℤ → Exchange ℤ
-declined act = record { act = act; handed = right; outcome = not_made }
+declined act = on_blocks 3 act not_made
 
 abbrev pub entered : ℕ → ℕ → ℕ → Exchange ℤ
 entered l r cost = said (Enter l r (pos cost)) tt
+
+-- one place of a left price or of a standing byte is missing
+abbrev pub short_left : Lengths
+short_left = record (right_lengths 3) { left = 2 }
+
+abbrev pub short_standing : Lengths
+short_standing = record (right_lengths 3) { standing = 8 }
 
 -- ---- A whole list
 
@@ -74,7 +77,7 @@ refusals =
     ∷ refused (Strike 0 2) Absent None
     ∷ record {
       act = Settle;
-      handed = record right { left = 2 };
+      handed = short_left;
       outcome = turned_down (fault TableLength 0) None;
     }
     ∷ []
@@ -107,6 +110,27 @@ calls_again =
     ∷ said Settle (with_prices second)
     ∷ []
 
+abbrev pub whole : List (Exchange ℤ)
+whole = entries ++ (refusals ++ (settled_calls ++ (walk_calls ++ calls_again)))
+
+-- ---- Sheets without a perfect pairing: a settle is refused, and tells this crowd set and shortage
+
+-- two blocks a plane, of which both left ones stand with right block 0 alone
+abbrev pub crowded : (crowd short : ℕ) → List (Exchange ℤ)
+crowded crowd short =
+    on_blocks 2 (Enter 0 0 (pos 0)) (tells tt)
+    ∷ on_blocks 2 (Enter 1 0 (pos 0)) (tells tt)
+    ∷ on_blocks 2 Settle (turned_down (fault NoPerfectPairing 0)
+    (Some (record { crowd = crowd; short = short })))
+    ∷ []
+
+-- one block a plane, and nothing stands
+abbrev pub bare : (crowd short : ℕ) → List (Exchange ℤ)
+bare crowd short =
+    on_blocks 1 Settle (turned_down (fault NoPerfectPairing 0)
+    (Some (record { crowd = crowd; short = short })))
+    ∷ []
+
 -- ---- What is shown
 
 -- the book after the entries, and after a settle; and what was told since
@@ -123,9 +147,28 @@ since = settling_of whole_numbers 3 (grid_in whole_numbers 3 full) (with_prices 
 abbrev pub Right : List (Exchange ℤ) → Type 0
 Right es = AllRight whole_numbers 3 settled_book since es
 
+-- the sheet's prices, with each left price raised and each right one lowered by one: they are valid
+-- too, and not the greatest
+abbrev pub lower_prices : Written ℤ
+lower_prices = record {
+  partners = first;
+  left = pos 5 ∷ pos 4 ∷ pos 3 ∷ [];
+  right = negsuc 0 ∷ negsuc 2 ∷ negsuc 0 ∷ [];
+}
+
 pub record Shown : Type 0 where
-  pub whole : KeepsPromise whole_numbers 3
-      (entries ++ (refusals ++ (settled_calls ++ (walk_calls ++ calls_again))))
+  pub keeps : KeepsPromise whole_numbers 3 whole
+  pub crowded_keeps : KeepsPromise whole_numbers 2 (crowded 3 1)
+  pub bare_keeps : KeepsPromise whole_numbers 1 (bare 1 1)
+  -- what the calls told last of each table: the second settle, the marks, and the walk to its end
+  pub tables : (lent : Tables ℤ) → told_last lent whole
+      ≡ record lent {
+        partners = second;
+        left = (with_prices second).left;
+        right = (with_prices second).right;
+        walk = second;
+        marks = marks;
+      }
   -- a walk that repeats, one that skips, one that ends early, and one that goes on past its end
   pub repeats : Right (said Start first ∷ said Next (Some first) ∷ []) → ⊥
   pub skips : Right (said Start second ∷ []) → ⊥
@@ -136,14 +179,35 @@ pub record Shown : Type 0 where
   pub all_yes : Right (said Marks (replicate 9 1) ∷ []) → ⊥
   pub all_no : Right (said Marks (replicate 9 0) ∷ []) → ⊥
   pub too_few : Right (said Marks (1 ∷ 1 ∷ 0 ∷ []) ∷ []) → ⊥
-  -- an enter that stores nothing, as a read tells
+  -- an enter that stores nothing, as a read tells, and a read of another cost
   pub stores_nothing : KeepsPromise whole_numbers 3
       (entered 0 0 4 ∷ refused (Read 0 0) Absent None ∷ []) → ⊥
-  -- a settle that refuses what can be paired, and one that writes no prices
+  pub wrong_read : KeepsPromise whole_numbers 3
+      (entered 0 0 4 ∷ said (Read 0 0) (pos 5) ∷ []) → ⊥
+  -- an accepted strike of an absent pair
+  pub strikes_nothing : KeepsPromise whole_numbers 3 (said (Strike 0 0) tt ∷ []) → ⊥
+  -- the refusal of a block before that of a length, and a table of another length that is taken
+  pub block_first : KeepsPromise whole_numbers 3 (record {
+    act = Enter 3 0 (pos 1);
+    handed = short_standing;
+    outcome = turned_down (fault Block 0) None;
+  } ∷ []) → ⊥
+  pub short_taken : Right (record { act = Total; handed = short_left; outcome = tells (pos 7) }
+      ∷ []) → ⊥
+  -- a settle that refuses what can be paired; one that writes the second pairing, no prices, or
+  -- prices that are valid and not the greatest
   pub refuses_all : AllRight whole_numbers 3 full since
       (refused Settle NoPerfectPairing (Some (record { crowd = 7; short = 3 })) ∷ []) → ⊥
+  pub not_first : AllRight whole_numbers 3 full since (said Settle (with_prices second) ∷ []) → ⊥
   pub no_prices : AllRight whole_numbers 3 full since
       (said Settle (record { partners = first; left = []; right = [] }) ∷ []) → ⊥
-  -- a quote by other prices, and a refusal for tables that do not hold together
+  pub not_greatest : AllRight whole_numbers 3 full since (said Settle lower_prices ∷ []) → ⊥
+  -- a crowd set that is made up, a shortage that is, and none at all
+  pub crowd_made_up : KeepsPromise whole_numbers 2 (crowded 1 1) → ⊥
+  pub short_made_up : KeepsPromise whole_numbers 2 (crowded 3 2) → ⊥
+  pub unexplained : KeepsPromise whole_numbers 1
+      (on_blocks 1 Settle (turned_down (fault NoPerfectPairing 0) None) ∷ []) → ⊥
+  -- a quote by other prices, another total, and a refusal for tables that do not hold together
   pub other_prices : Right (said (Quote 1 2) (pos 5, pos 3) ∷ []) → ⊥
+  pub wrong_total : Right (said Total (pos 8) ∷ []) → ⊥
   pub seven : Right (refused Total Inconsistent None ∷ []) → ⊥

@@ -1,15 +1,27 @@
 -- The whole list as `proofs/Shown` has it; each wrong answer against one number.
-use Rattle.std.proofs.Common.{◌≡◌, ℕ, List, [], ◌∷◌, ℤ, pos, Some, None, Option, refl, arith}
-use Rattle.sheet.specs.declared.fault.Cause.TheVariants.{Absent, NoPerfectPairing}
+use Rattle.std.proofs.Common.{◌≡◌, ℕ, List, [], ◌∷◌, ℤ, pos, Some, None, Option, refl, ap, arith}
+use Rattle.sheet.specs.declared.fault.Cause.TheVariants.{TableLength, Absent}
+use Rattle.sheet.specs.declared.fault.Cause.TheVariants.{NoPerfectPairing}
+use Rattle.sheet.specs.Numbers.{cause_number}
 use Rattle.sheet.specs.Refusals.{fault}
-use Rattle.session.specs.Book.{Verdict, refused, accepted}
+use Rattle.session.specs.Book.{Verdict, not_allowed, refused, accepted}
 use Rattle.session.specs.Example.{first, second}
-use Rattle.session.proofs.Shown.{whole}
+use Rattle.session.proofs.Shown.{keeps, crowded_keeps, bare_keeps, not_greatest, not_one}
+use Rattle.session.proofs.Shown.{not_two}
 use Rattle.session.proofs.example.shown.Goals as goal
+
+-- the number of the cause that a verdict refuses for, and 0 where it does not
+abbrev refused_by : Verdict → ℕ
+refused_by not_allowed = 0
+refused_by accepted = 0
+refused_by (refused f) = cause_number f.cause
 
 pub returns : goal.returns
 returns c = record {
-  whole = whole;
+  keeps = keeps;
+  crowded_keeps = crowded_keeps;
+  bare_keeps = bare_keeps;
+  tables = λ lent. refl;
   repeats = λ h.
       let e : ◌≡◌ {A = List (Option (List ℕ))} (Some first ∷ Some first ∷ [])
       (Some first ∷ Some second ∷ []) = h.1.0.sound.walks.0 in
@@ -32,6 +44,27 @@ returns c = record {
   stores_nothing = λ h.
       let e : ◌≡◌ {A = Verdict} (refused (fault Absent 0)) accepted = h.1.0.verdict_is in
       let z : ◌≡◌ {A = ℕ} 0 1 = cc in omega (arith, z);
+  wrong_read = λ h.
+      let e : ◌≡◌ {A = Option ℤ} (Some (pos 4)) (Some (pos 5)) = h.1.0.told in
+      let z : ◌≡◌ {A = ℕ} 4 5 = cc in omega (arith, z);
+  strikes_nothing = λ h.
+      let e : ◌≡◌ {A = Verdict} accepted (refused (fault Absent 0)) = h.0.verdict_is in
+      let z : ◌≡◌ {A = ℕ} 0 1 = cc in omega (arith, z);
+  block_first = λ h.
+      let z : ◌≡◌ {A = ℕ} 3 2 = ap refused_by h.0.verdict_is in omega (arith, z);
+  short_taken = λ h.
+      let e : ◌≡◌ {A = Verdict} accepted (refused (fault TableLength 0)) = h.0.verdict_is in
+      let z : ◌≡◌ {A = ℕ} 0 1 = cc in omega (arith, z);
+  not_first = λ h.
+      let e : first ≡ second = h.0.told.first.1 in
+      let z : ◌≡◌ {A = ℕ} 0 1 = cc in omega (arith, z);
+  not_greatest = λ h. not_greatest h.0.told;
+  crowd_made_up = λ h. not_one h.1.1.0.told.explained.1;
+  short_made_up = λ h. not_two h.1.1.0.told.explained.1;
+  unexplained = λ h. h.0.told.explained refl;
+  wrong_total = λ h.
+      let e : ◌≡◌ {A = List ℤ} (pos 8 ∷ []) (pos 7 ∷ []) = h.0.told in
+      let z : ◌≡◌ {A = ℕ} 8 7 = cc in omega (arith, z);
   refuses_all = λ h.
       let e : ◌≡◌ {A = Verdict} (refused (fault NoPerfectPairing 0)) accepted = h.0.verdict_is in
       let z : ◌≡◌ {A = ℕ} 0 1 = cc in omega (arith, z);
