@@ -21,7 +21,7 @@ use Rattle.session.specs.declared.call.Lengths.{Lengths}
 use Rattle.session.specs.Book.{Book, Phase, opened, settled, walking, step, grid_in}
 use Rattle.session.specs.Exchange.{Told, Outcome}
 use Rattle.session.specs.Promise.{Settling, noted_of, IsRight}
-use Rattle.session.specs.Program.{State, Tables, lending, cost_in, byte_in}
+use Rattle.session.specs.Program.{State, Tables, lending, SameFor, cost_in, byte_in}
 use Rattle.session.proofs.Walks.{InTurn}
 
 -- the walk list is the pairing that the walk handed out last
@@ -72,14 +72,6 @@ module _ {K : Type 0} (kind : Ghosts K) (n : ℕ) where
     pub held : Held (step kind n b (record { act = act; handed = h })) (noted_of kind n b s act o)
         state t
 
-  -- ---- Tables that hold the same where a state rests on them
-
-  abbrev pub Needed : Phase → (t t' : Tables K) → Type 0
-  Needed opened t t' = Unit {0}
-  Needed settled t t' = (t'.partners ≡ t.partners) × (t'.left ≡ t.left) × (t'.right ≡ t.right)
-  Needed walking t t' = (t'.partners ≡ t.partners) × (t'.left ≡ t.left) × (t'.right ≡ t.right)
-      × (t'.walk ≡ t.walk)
-
 -- a cost and a byte tell the cell
 cell_told : {K : Type 0} (nought : K) (n : ℕ) (costs : List K) (standing : List ℕ) (l r : ℕ)
     (c : Option K) → get_or costs (place_of n l r) nought ≡ cost_in nought c
@@ -117,16 +109,16 @@ module _ {K : Type 0} (kind : Ghosts K) (n : ℕ) (t t' : Tables K) (ec : t'.cos
         t'.right t.standing t'.standing t.partners t'.partners ec es ep el er)) r.together;
   }
 
-  beyond_same : (p : Phase) (g : Grid) (s : Settling K) → Needed kind n p t t'
+  beyond_same : (p : Phase) (g : Grid) (s : Settling K) → SameFor p t' t
       → Beyond kind n p g s t → Beyond kind n p g s t'
   beyond_same opened g s same b = tt
   beyond_same settled g s same b = ready_same g s same.0 same.1 same.2 b
   beyond_same walking g s same b = (
-    ready_same g s same.0 same.1 same.2 b.0,
-    subst (λ xs. AtPlace (optima g) xs s.walk) (sym same.3) b.1,
+    ready_same g s same.0.0 same.0.1 same.0.2 b.0,
+    subst (λ xs. AtPlace (optima g) xs s.walk) (sym same.1) b.1,
   )
 
-  pub held_same : (b : Book K) (s : Settling K) (state : State) → Needed kind n b.phase t t'
+  pub held_same : (b : Book K) (s : Settling K) (state : State) → SameFor b.phase t' t
       → Held kind n b s state t → Held kind n b s state t'
   held_same b s state same h = record {
     phase_is = h.phase_is;

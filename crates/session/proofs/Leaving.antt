@@ -3,9 +3,9 @@
 -- Idea: follow one table along the program. Where a call tells nothing of the table, it leaves what
 -- it was handed, so the sheet's own stays; where it tells of it, it was handed a table of the right
 -- length, so the sheet's own is what the call left there, which is what it told.
-use Rattle.std.proofs.Common.{◌≡◌, ℕ, Bool, true, not, ◌||◌, List, [], ◌∷◌, ◌++◌, length, Ok, Err}
-use Rattle.std.proofs.Common.{Result, inl, inr, sym, refl, ap, ◌∙◌, subst}
-use Rattle.std.proofs.lemmas.Bool.{or_right}
+use Rattle.std.proofs.Common.{◌≡◌, ℕ, Bool, true, false, not, ◌||◌, List, [], ◌∷◌, ◌++◌, length, Ok}
+use Rattle.std.proofs.Common.{Err, Result, inl, inr, sym, refl, ap, ◌∙◌, subst}
+use Rattle.std.proofs.lemmas.Bool.{or_left, or_right}
 use Rattle.cost.specs.declared.Cost.{Ghosts}
 use Rattle.matching.specs.declared.stepping.Step.{Step}
 use Rattle.matching.specs.declared.stepping.Step.TheVariants.{Next as Onward, End}
@@ -24,8 +24,12 @@ use Rattle.session.specs.Exchange.{Told, Outcome, not_made, turned_down, tells, 
 use Rattle.session.specs.Program.{State, state_at, Tables, lending, Hands, HandsAll, priced, walked}
 use Rattle.session.specs.Program.{settle_told, marks_told, start_told, next_told, moved_to}
 use Rattle.session.specs.Program.{with_outcome, told_last, Answers, Meets, Makes, Program, opens}
-use Rattle.session.specs.Program.{calls}
+use Rattle.session.specs.Program.{calls, SameFor, SameBeside}
 use Rattle.session.proofs.Allowing.{phase_told}
+
+-- a table that the state rests on may not be swapped
+rests : (swaps : Bool) → (not swaps || true) ≡ true
+rests swaps = or_right (not swaps) true refl
 
 -- the tables but the pair tables hold what these do, where the program may not swap them
 pub record AsTold {K : Type 0} (swaps : Bool) (phase : Phase) (own t : Tables K) : Type 0 where
@@ -34,6 +38,28 @@ pub record AsTold {K : Type 0} (swaps : Bool) (phase : Phase) (own t : Tables K)
   pub right : (not swaps || priced phase) ≡ true → own.right ≡ t.right
   pub walk : (not swaps || walked phase) ≡ true → own.walk ≡ t.walk
   pub marks : (not swaps) ≡ true → own.marks ≡ t.marks
+
+module _ {K : Type 0} (swaps : Bool) (phase : Phase) (own t : Tables K)
+    (told : AsTold swaps phase own t) where
+  pub same_for : SameFor phase own t
+  same_for = by phase told
+    where
+      by : (p : Phase) → AsTold swaps p own t → SameFor p own t
+      by opened h = tt
+      by settled h = (h.partners (rests swaps), h.left (rests swaps), h.right (rests swaps))
+      by walking h = (
+        (h.partners (rests swaps), h.left (rests swaps), h.right (rests swaps)),
+        h.walk (rests swaps),
+      )
+
+  pub same_beside : swaps ≡ false → SameBeside own t
+  same_beside e =
+      let never : not swaps ≡ true = ap not e in
+      let priced_too = or_left (not swaps) (priced phase) never in (
+        (told.partners priced_too, told.left priced_too, told.right priced_too),
+        told.walk (or_left (not swaps) (walked phase) never),
+        told.marks never,
+      )
 
 -- a call that tells nothing of the tables
 untold : {K : Type 0} (act : Act K) (t : Tables K)
@@ -48,10 +74,6 @@ stays : {X : Type 0} {size : ℕ} {needed : Bool} {own x x' own' t : List X}
     → Hands size needed own x x' own' → (needed ≡ true → own ≡ t) → x' ≡ x → needed ≡ true
     → own' ≡ t
 stays hands held e needed = hands.stays needed e ∙ held needed
-
--- a state that rests on a table may not have it swapped
-rests : (swaps : Bool) → (not swaps || true) ≡ true
-rests swaps = or_right (not swaps) true refl
 
 -- ---- One step
 

@@ -28,7 +28,8 @@ use Rattle.session.specs.Exchange.{Outcome}
 use Rattle.session.specs.Promise.{Settling}
 use Rattle.session.specs.Program.{State, state_at, Tables, lengths, HandsAll, told, cost_in}
 use Rattle.session.specs.Program.{byte_in}
-use Rattle.session.proofs.Held.{Held, Shows, Next, held_same, Needed, Beyond}
+use Rattle.session.specs.Program.{SameFor}
+use Rattle.session.proofs.Held.{Held, Shows, Next, held_same, Beyond}
 use Rattle.session.proofs.Cells.{stands_alike, cell_is, written_shows}
 use Rattle.session.proofs.Fits.{pairs_told}
 use Rattle.session.proofs.Judging.{refused_next, accepted_next, never_six, length_not_six}
@@ -73,7 +74,7 @@ module _ {K : Type 0} (kind : Ghosts K) (sheet : Sheet) (swaps : Bool) (b : Book
   -- a call that leaves the pair tables as they were
   stays : x'.costs ≡ x.costs → x'.standing ≡ x.standing → Held kind n b s here own'
   stays ec es = held_same kind n own own' (hands.costs.stays refl ec) (hands.standing.stays refl es)
-      b s here (subst (λ p. Needed kind n p own own') held.phase_is tt) held
+      b s here (subst (λ p. SameFor p own' own) held.phase_is tt) held
 
   -- a call that writes at the place of a pair what its new cell says
   writes : (act : Act K) (l r : ℕ) (new : Option K) → pair_tables_fit n (lengths x) ≡ true

@@ -32,9 +32,10 @@ use Rattle.session.specs.Exchange.{Written, Outcome}
 use Rattle.session.specs.Promise.{Settling, IsSettlement, settling_of}
 use Rattle.session.specs.Program.{state_at, Tables, lengths, lending, HandsAll, settle_told}
 use Rattle.session.specs.Program.{moved_to}
+use Rattle.session.specs.Program.{SameFor}
 use Rattle.session.proofs.Cells.{alike}
 use Rattle.session.proofs.Fits.{fits}
-use Rattle.session.proofs.Held.{Held, Shows, Next, Needed, held_same, lent_alike}
+use Rattle.session.proofs.Held.{Held, Shows, Next, held_same, lent_alike}
 use Rattle.session.proofs.Judging.{refused_next, accepted_next}
 use Rattle.session.proofs.Needs.{Mirror, refuses, passes, without}
 
@@ -212,7 +213,7 @@ module _ {K : Type 0} (kind : Ghosts K) (sheet : Sheet) (swaps : Bool) (b : Book
         (subst (λ (k : Sheet). Held kind n b s (state_at opened k) own') (sym is.same)
         (held_same kind n own own' (hands.costs.stays refl costs_stay)
         (hands.standing.stays refl standing_stays) b s (state_at opened sheet)
-        (subst (λ p. Needed kind n p own own') held.phase_is tt) held))
+        (subst (λ p. SameFor p own' own) held.phase_is tt) held))
 
   pub settles : (a : Result Sheet (Refusal Sheet)) (o : Outcome (Written K)) → o ≡ settle_told x' a
       → Settles kind sheet (lending n x) (lending n x') a

@@ -310,8 +310,10 @@ crowded_book = record blank {
 crowded_alike : Alike 2 (crowded_grid costless).stands (stands_in crowded_book.cells)
 crowded_alike l r i j = below_two
     (λ l. (crowded_grid costless).stands l r ≡ stands_in crowded_book.cells l r)
-    (below_two (λ r. (crowded_grid costless).stands 0 r ≡ stands_in crowded_book.cells 0 r) refl refl r j)
-    (below_two (λ r. (crowded_grid costless).stands 1 r ≡ stands_in crowded_book.cells 1 r) refl refl r j) l i
+    (below_two (λ r. (crowded_grid costless).stands 0 r ≡ stands_in crowded_book.cells 0 r)
+    refl refl r j)
+    (below_two (λ r. (crowded_grid costless).stands 1 r ≡ stands_in crowded_book.cells 1 r)
+    refl refl r j) l i
 
 pub crowded_unpaired : Unpaired 2 (stands_in crowded_book.cells) 3 1
 crowded_unpaired =
@@ -344,7 +346,8 @@ bare_keeps = (
   record {
     verdict_is = refl;
     told = explained 1 blank 1 1
-        (unpaired_like 1 (bare_grid costless).stands (stands_in {K = ℤ} (λ l r. None)) bare_alike 1 1
+        (unpaired_like 1 (bare_grid costless).stands (stands_in {K = ℤ} (λ l r. None)) bare_alike 1
+        1
         (bare_is costless));
     sound = record { walks = (refl, tt); agree = tt };
   },

@@ -22,13 +22,14 @@ use Rattle.session.specs.Book.{blank, step}
 use Rattle.session.specs.Exchange.{Told, Outcome, Exchange, call_of}
 use Rattle.session.specs.Promise.{Settling, fresh, noted_of, IsRight, AllRight, book_after}
 use Rattle.session.specs.Program.{State, state_at, Tables, lengths, HandsAll, Answers, Meets}
-use Rattle.session.specs.Program.{Makes, Program, opens, calls, EveryProgramKeeps}
+use Rattle.session.specs.Program.{Makes, Program, opens, calls, SameFor, told_last}
+use Rattle.session.specs.Program.{EveryProgramKeeps}
 use Rattle.session.proofs.Asked as asked
 use Rattle.session.proofs.Cells.{opened_shows}
-use Rattle.session.proofs.Held.{Shows, Held, Next, Needed, held_same}
+use Rattle.session.proofs.Held.{Shows, Held, Next, held_same}
 use Rattle.session.proofs.Allowing.{phase_told}
 use Rattle.session.proofs.Judging.{not_made_next}
-use Rattle.session.proofs.Leaving.{as_told}
+use Rattle.session.proofs.Leaving.{as_told, same_for, same_beside}
 use Rattle.session.proofs.Opened as opening
 use Rattle.session.proofs.Settles.{settles}
 use Rattle.session.proofs.Walked as walked
@@ -98,7 +99,7 @@ module _ {K : Type 0} (kind : Ghosts K) (swaps : Bool) (sheet : Sheet) (b : Book
 
   -- one that it does not have: all tables stay
   needed_stay : (p : Phase) → HandsAll swaps (state_at p sheet) own x x' own' → x' ≡ x
-      → Needed kind n p own own'
+      → SameFor p own' own
   needed_stay opened hands e = tt
   needed_stay settled hands e =
       let needed : (not swaps || true) ≡ true = or_right (not swaps) true refl in (
@@ -108,9 +109,11 @@ module _ {K : Type 0} (kind : Ghosts K) (swaps : Bool) (sheet : Sheet) (b : Book
       )
   needed_stay walking hands e =
       let needed : (not swaps || true) ≡ true = or_right (not swaps) true refl in (
-        hands.partners.stays needed (ap (λ y. y.partners) e),
-        hands.left.stays needed (ap (λ y. y.left) e),
-        hands.right.stays needed (ap (λ y. y.right) e),
+        (
+          hands.partners.stays needed (ap (λ y. y.partners) e),
+          hands.left.stays needed (ap (λ y. y.left) e),
+          hands.right.stays needed (ap (λ y. y.right) e),
+        ),
         hands.walk.stays needed (ap (λ y. y.walk) e),
       )
 
@@ -120,7 +123,7 @@ module _ {K : Type 0} (kind : Ghosts K) (swaps : Bool) (sheet : Sheet) (b : Book
   all_stay p held hands e =
       held_same kind n own own' (hands.costs.stays refl (ap (λ y. y.costs) e))
       (hands.standing.stays refl (ap (λ y. y.standing) e)) b s (state_at p sheet)
-      (subst (λ q. Needed kind n q own own') held.phase_is (needed_stay p hands e)) held
+      (subst (λ q. SameFor q own' own) held.phase_is (needed_stay p hands e)) held
 
 module _ {K : Type 0} (kind : Ghosts K) (swaps : Bool) where
   next_of : (state state' : State) (own own' : Tables K) (e : Exchange K)
@@ -246,7 +249,7 @@ module _ {K : Type 0} (kind : Ghosts K) (swaps : Bool) (n : ℕ) (lent : Tables 
 pub every_program_keeps : {K : Type 0} (kind : Ghosts K) → EveryProgramKeeps kind
 every_program_keeps kind swaps n lent es state own program =
     let g = going kind swaps n lent program in
-    let t = as_told kind swaps n lent program in (
+    let told = as_told kind swaps n lent program in (
       g.right,
       record {
         phase = g.held.phase_is;
@@ -257,10 +260,7 @@ every_program_keeps kind swaps n lent es state own program =
           costs = g.held.shows.costs_are;
           standing = g.held.shows.bytes_are;
         };
-        partners = t.partners;
-        left = t.left;
-        right = t.right;
-        walk = t.walk;
-        marks = t.marks;
+        told = same_for swaps state.phase own (told_last lent es) told;
+        all_told = same_beside swaps state.phase own (told_last lent es) told;
       },
     )

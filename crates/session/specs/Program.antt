@@ -161,6 +161,22 @@ abbrev pub moved_to : (next back : Phase) → Result Sheet (Refusal Sheet) → S
 moved_to next back (Ok sheet) = state_at next sheet
 moved_to next back (Err r) = state_at back r.state
 
+-- ---- Tables that are the same
+
+-- in what a settle writes
+abbrev pub SameSettlement : {K : Type 0} → (own t : Tables K) → Type 0
+SameSettlement own t = (own.partners ≡ t.partners) × (own.left ≡ t.left) × (own.right ≡ t.right)
+
+-- in what a state rests on beside the pair tables
+abbrev pub SameFor : {K : Type 0} → Phase → (own t : Tables K) → Type 0
+SameFor opened own t = Unit {0}
+SameFor settled own t = SameSettlement own t
+SameFor walking own t = SameSettlement own t × (own.walk ≡ t.walk)
+
+-- in all tables but the pair tables
+abbrev pub SameBeside : {K : Type 0} → (own t : Tables K) → Type 0
+SameBeside own t = SameSettlement own t × (own.walk ≡ t.walk) × (own.marks ≡ t.marks)
+
 -- ---- Cells
 
 -- what the pair tables hold at the place of a pair with this cell: its cost and 1 where it stands,
@@ -259,21 +275,17 @@ module _ {K : Type 0} (kind : Ghosts K) where
     pub standing : (l r : ℕ) → l < n → r < n → byte_of n own.standing l r ≡ byte_in (cells l r)
 
   -- WHAT THE TABLES HOLD after some calls of a program: the pair tables show the book's cells, and
-  -- each other table that the state rests on holds what the calls told of it last, so the partners
-  -- and the prices what the last settle wrote, and the walk list the pairing that was handed out
-  -- last. Of a program that swaps no tables this is so of all of them in every state; a table that
+  -- each other table that the state rests on holds what the calls told of it last, so partners and
+  -- prices are what the last settle wrote, and the walk list is the pairing that was handed out
+  -- last. Of a program that swaps no tables this is so of all tables in every state: a table that
   -- no call told of is as it was lent.
   pub record Leaves (swaps : Bool) (n : ℕ) (lent : Tables K) (es : List (Exchange K)) (s : State)
       (own : Tables K) : Type 0 where
     pub phase : s.phase ≡ (book_after kind n blank es).phase
     pub size : size_of s.sheet ≡ n
     pub cells : ShowCells n (book_after kind n blank es).cells own
-    pub partners : (not swaps || priced s.phase) ≡ true
-        → own.partners ≡ (told_last lent es).partners
-    pub left : (not swaps || priced s.phase) ≡ true → own.left ≡ (told_last lent es).left
-    pub right : (not swaps || priced s.phase) ≡ true → own.right ≡ (told_last lent es).right
-    pub walk : (not swaps || walked s.phase) ≡ true → own.walk ≡ (told_last lent es).walk
-    pub marks : (not swaps) ≡ true → own.marks ≡ (told_last lent es).marks
+    pub told : SameFor s.phase own (told_last lent es)
+    pub all_told : swaps ≡ false → SameBeside own (told_last lent es)
 
   -- THE MAIN THEOREM: every program keeps the promise, and its tables hold what is said above after
   -- its last call. The beginning of a program is a program, so this is said after every call.
