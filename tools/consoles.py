@@ -265,6 +265,20 @@ def printed(typed, help_lines):
     return "".join(line + "\n" for line in out)
 
 
+def odd(rng, line):
+    """The line with other white space, signs and zeros here and there; or a comment in its place."""
+    if rng.random() < 0.03:
+        # the last one is of a byte that is no text
+        return rng.choice(["# " + line, "\u2003#" + line, line + " # now", "#\udcff"])
+    words = line.split(" ")
+    for k, word in enumerate(words):
+        if re.fullmatch("[0-9]+", word) and words[0] != "columns" and rng.random() < 0.1:
+            words[k] = rng.choice(["+", "0", "+00", "-"]) + word
+    blank = lambda: rng.choice(BLANKS.replace("\n", "")) if rng.random() < 0.1 else " "
+    ends = [blank() if rng.random() < 0.1 else "" for _ in range(2)]
+    return ends[0] + "".join(w + blank() for w in words[:-1]) + words[-1] + ends[1]
+
+
 def random_session(rng):
     """A session of mostly sensible lines."""
     n = rng.randint(1, 4)
@@ -289,7 +303,8 @@ def random_session(rng):
         if rng.random() < 0.03:
             line += rng.choice([" 1", " x", " 99999999999999999999"])
         lines.append(line)
-    return ("\n".join(lines) + "\n").encode()
+    lines = [odd(rng, line) for line in lines]
+    return ("\n".join(lines) + "\n").encode("utf-8", "surrogateescape")
 
 
 def main():
