@@ -266,7 +266,7 @@ def printed(typed, help_lines):
 
 
 def odd(rng, line):
-    """The line with other white space, signs and zeros here and there; or a comment in its place."""
+    """The line with other white space, signs and zeros here and there, or a comment instead."""
     if rng.random() < 0.03:
         # the last one is of a byte that is no text
         return rng.choice(["# " + line, "\u2003#" + line, line + " # now", "#\udcff"])

@@ -1,6 +1,6 @@
 -- The words of a line and the forms that it can have, what the names of calls and tables mean, how
 -- a call is handed its tables, what a line does to a sheet, which sizes a word can tell, and
--- refusals and complaints in words.
+-- answers and complaints in words.
 pub mod Words
 pub mod Forms
 pub mod Lines
