@@ -162,10 +162,8 @@ module _ (n : ℕ) (costs : List Plain) (standing : List ℕ) (sheet : Sheet) (c
   pub opened_standing : standing' ≡ replicate (places_of n) 0
   opened_standing = h.clears ∙ sym (renewed _ _ _ opens.0)
 
-  pub opened_have : HavePlaces sheet.size (length costs') (length standing')
-  opened_have =
-      subst (λ (k : ℕ). HavePlaces k (length costs') (length standing')) (sym opened_size)
-      (record {
-        costs = ap length opened_costs ∙ length-replicate (places_of n) (plain (pos 0));
-        standing = ap length opened_standing ∙ length-replicate (places_of n) 0;
-      })
+  pub opened_have : HavePlaces n (length costs') (length standing')
+  opened_have = record {
+    costs = ap length opened_costs ∙ length-replicate (places_of n) (plain (pos 0));
+    standing = ap length opened_standing ∙ length-replicate (places_of n) 0;
+  }

@@ -1,17 +1,28 @@
 -- Entering the pairs of a file that has no fault: what is left to read, and what the tables hold.
--- Idea: what is left of the file is always the bytes of the pairs that are still to come and of the
--- end, and the tables are those after the pairs that came. A pair's field states the pair that it
--- was written for, so each step takes one pair over from the first list to the second.
-use Rattle.std.proofs.Common.{◌≡◌, ℕ, ◌+◌, ◌<◌, ◌≤◌, List, [], ◌∷◌, ◌++◌, length, take, drop, set}
-use Rattle.std.proofs.Common.{sym, refl, ap, ◌∙◌, subst, append_assoc, arith}
-use Rattle.std.proofs.lemmas.List.{append-nil, length-append}
+-- Idea: what is left of the file is always the bytes of what is still to come, and the tables are
+-- those after the pairs that came. So the reader meets a sound field each time, which states what
+-- it was written for, and each step takes one pair over from those to come to those that came.
+use Rattle.std.proofs.Common.{◌≡◌, ℕ, List, [], ◌∷◌, ◌++◌, drop, Some, None, Ok, Err, set, sym}
+use Rattle.std.proofs.Common.{refl, ap, ◌∙◌, subst, append_assoc, arith}
+use Rattle.std.proofs.lemmas.List.{append-nil}
 use Rattle.std.specs.List.{flat_map, AllByRecursion}
 use Rattle.cost.specs.declared.plain_kind.Plain.{Plain}
 use Rattle.pairing.specs.Places.{place_of}
+use Rattle.tables.specs.PairTables.{costs_entered, standing_entered}
+use Rattle.sheet.specs.declared.fault.Fault.{Fault}
+use Rattle.sheet.specs.Refusals.{answer, after}
+use Rattle.sheet.proofs.Refused.{from_err, from_ok, renewed}
 use Rattle.orderfile.specs.declared.record.StatedPair.{StatedPair}
-use Rattle.orderfile.specs.Format.{Order, States, Sound, SoundPair, pair_field, end_field, pair_in}
+use Rattle.orderfile.specs.declared.record.Record.{Record}
+use Rattle.orderfile.specs.declared.record.Record.TheVariants.{Pair}
+use Rattle.orderfile.specs.declared.record.Stage.{Stage}
+use Rattle.orderfile.specs.declared.record.Stage.TheVariants.{Start, Sized, Ended}
+use Rattle.orderfile.specs.Format.{Order, Sound, SoundPair, pair_field, end_field, file_of}
+use Rattle.orderfile.specs.Format.{pair_in, value_of}
+use Rattle.orderfile.specs.Faults.{field_fault}
+use Rattle.orderfile.specs.Records.{record_next, stage_next, record_length}
 use Rattle.orderfile.specs.Loading.{plain, costs_after, standing_after}
-use Rattle.orderfile.proofs.Fields.{pair_stated}
+use Rattle.orderfile.proofs.Fields.{size_sound, pair_sound, pair_stated, end_sound}
 
 -- entering some pairs and then others
 pub costs_append : (n : ℕ) (ps qs : List StatedPair) (costs : List Plain)
@@ -26,157 +37,202 @@ standing_append n [] qs standing = refl
 standing_append n (p ∷ ps) qs standing =
     standing_append n ps qs (set standing (place_of n p.left p.right) 1)
 
--- the invariant: of an order that the file states, some pairs were entered and the others are still
--- to come
-pub record Split (order : Order) (costs₀ : List Plain) (standing₀ : List ℕ) (rest : List ℕ)
-    (costs : List Plain) (standing : List ℕ) : Type 0 where
-  pub done : List StatedPair
-  pub todo : List StatedPair
-  pub all : order.pairs ≡ done ++ todo
-  pub left : rest ≡ flat_map pair_field todo ++ end_field
-  pub costs_are : costs ≡ costs_after order.size done costs₀
-  pub standing_are : standing ≡ standing_after order.size done standing₀
-
-abbrev pub Entering : List ℕ → ℕ → List Plain → List ℕ → List ℕ → List Plain → List ℕ → Type 0
-Entering file n costs₀ standing₀ rest costs standing = (order : Order) → States file order
-    → order.size ≡ n → Split order costs₀ standing₀ rest costs standing
-
--- behind the size all pairs are still to come
-pub entering_start : (file : List ℕ) (n : ℕ) (costs₀ : List Plain) (standing₀ rest : List ℕ)
-    → rest ≡ drop 4 file → Entering file n costs₀ standing₀ rest costs₀ standing₀
-entering_start file n costs₀ standing₀ rest e order s size = record {
-  done = [];
-  todo = order.pairs;
-  all = refl;
-  left = e ∙ ap (drop 4) s.is_file;
-  costs_are = refl;
-  standing_are = refl;
-}
-
 all_later : {X : Type 0} (P : X → Type 0) (xs ys : List X) → AllByRecursion P (xs ++ ys)
     → AllByRecursion P ys
 all_later P [] ys h = h
 all_later P (x ∷ xs) ys h = all_later P xs ys h.1
 
--- the pair that comes next
-pub record NextPair (n : ℕ) (rest : List ℕ) (todo : List StatedPair) : Type 0 where
-  pub pair : StatedPair
-  pub later : List StatedPair
-  pub first : todo ≡ pair ∷ later
-  pub splits : rest ≡ pair_field pair ++ (flat_map pair_field later ++ end_field)
-  pub sound : SoundPair n pair
+module _ (order : Order) (costs₀ : List Plain) (standing₀ : List ℕ) where
+  -- some pairs of the order were entered, and the others are still to come
+  pub record Split (rest : List ℕ) (costs : List Plain) (standing : List ℕ) : Type 0 where
+    pub done : List StatedPair
+    pub todo : List StatedPair
+    pub all : order.pairs ≡ done ++ todo
+    pub left : rest ≡ flat_map pair_field todo ++ end_field
+    pub costs_are : costs ≡ costs_after order.size done costs₀
+    pub standing_are : standing ≡ standing_after order.size done standing₀
 
-next_pair : (n : ℕ) (rest : List ℕ) (todo : List StatedPair) → AllByRecursion (SoundPair n) todo
-    → rest ≡ flat_map pair_field todo ++ end_field → 3 < length rest → NextPair n rest todo
-next_pair n rest [] sound e long = let short : length rest ≡ 3 = ap length e in absurd (omega arith)
-next_pair n rest (p ∷ todo) sound e long = record {
-  pair = p;
-  later = todo;
-  first = refl;
-  splits = e ∙ append_assoc (pair_field p) (flat_map pair_field todo) end_field;
-  sound = sound.0;
-}
+  -- all of them were
+  pub record Entered (costs : List Plain) (standing : List ℕ) : Type 0 where
+    pub costs_are : costs ≡ costs_after order.size order.pairs costs₀
+    pub standing_are : standing ≡ standing_after order.size order.pairs standing₀
 
--- nothing is to come where only the end is left
-no_pair : (rest : List ℕ) (todo : List StatedPair) → rest ≡ flat_map pair_field todo ++ end_field
-    → length rest ≤ 3 → todo ≡ []
-no_pair rest [] e short = refl
-no_pair rest (p ∷ todo) e short =
-    let long : length rest ≡ 13 + length (flat_map pair_field todo ++ end_field) =
-    ap length (e ∙ append_assoc (pair_field p) (flat_map pair_field todo) end_field)
-    ∙ length-append (pair_field p) (flat_map pair_field todo ++ end_field) in
-    absurd (omega arith)
+  -- what is left, and what the tables hold, where a reader of the order's file stands at a stage
+  abbrev pub Ahead : Stage → List ℕ → List Plain → List ℕ → Type 0
+  Ahead Start rest costs standing =
+      (rest ≡ file_of order) × (costs ≡ costs₀) × (standing ≡ standing₀)
+  Ahead (Sized n) rest costs standing = (n ≡ order.size) × Split rest costs standing
+  Ahead (Ended n) rest costs standing = (rest ≡ []) × Entered costs standing
 
-module _ (order : Order) (sound : Sound order) (costs₀ : List Plain) (standing₀ rest : List ℕ)
-    (costs : List Plain) (standing : List ℕ)
-    (split : Split order costs₀ standing₀ rest costs standing) where
-  split_next : 3 < length rest → NextPair order.size rest split.todo
-  split_next long = next_pair order.size rest split.todo
-      (all_later (SoundPair order.size) split.done split.todo
-      (subst (λ (ps : List StatedPair). AllByRecursion (SoundPair order.size) ps) split.all
-      sound.pairs_sound)) split.left long
+  -- what a step of the reader meets: no fault; a pair that is entered, or another record, and then
+  -- what is ahead again; or no record, once all pairs were entered
+  pub record Meets (stage : Stage) (rest : List ℕ) (costs : List Plain)
+      (standing : List ℕ) : Type 0 where
+    pub clear : (at : ℕ) → field_fault stage rest at ≡ None
+    pub sound : (p : StatedPair) → record_next stage rest ≡ Some (Pair p) → SoundPair order.size p
+    pub enters : (p : StatedPair) → record_next stage rest ≡ Some (Pair p)
+        → Ahead (stage_next stage rest) (drop (record_length stage rest) rest)
+        (costs_entered order.size p.left p.right (plain p.cost) costs)
+        (standing_entered order.size p.left p.right standing)
+    pub passes : (next : Record) → record_next stage rest ≡ Some next
+        → ((p : StatedPair) → next ≡ Pair p → ⊥)
+        → Ahead (stage_next stage rest) (drop (record_length stage rest) rest) costs standing
+    pub ends : record_next stage rest ≡ None → Entered costs standing
 
-  -- its field is the pair's
-  next_stated : (next : NextPair order.size rest split.todo)
-      → pair_in (take 10 (drop 3 rest)) ≡ next.pair
-  next_stated next = ap (λ t. pair_in (take 10 (drop 3 t))) next.splits
-      ∙ pair_stated next.pair (flat_map pair_field next.later ++ end_field) next.sound.cost_within
+  module _ (sound : Sound order) (costs : List Plain) (standing : List ℕ) where
+    -- before the size all pairs are still to come
+    meets_size : costs ≡ costs₀ → standing ≡ standing₀ → Meets Start (file_of order) costs standing
+    meets_size ec es = record {
+      clear = λ at. size_sound order.size (flat_map pair_field order.pairs ++ end_field) at
+          sound.some sound.few;
+      sound = λ p e. let z : ◌≡◌ {A = ℕ} 0 1 = cc in absurd (omega arith);
+      enters = λ p e. let z : ◌≡◌ {A = ℕ} 0 1 = cc in absurd (omega arith);
+      passes = λ next e other. (
+        refl,
+        record {
+          done = [];
+          todo = order.pairs;
+          all = refl;
+          left = refl;
+          costs_are = ec;
+          standing_are = es;
+        },
+      );
+      ends = λ e. let z : ◌≡◌ {A = ℕ} 0 1 = cc in absurd (omega arith);
+    }
 
-  next_long : NextPair order.size rest split.todo → 13 ≤ length rest
-  next_long next =
-      let long : length rest ≡ 13 + length (flat_map pair_field next.later ++ end_field) =
-      ap length next.splits
-      ∙ length-append (pair_field next.pair) (flat_map pair_field next.later ++ end_field) in
-      omega arith
+    module _ (done : List StatedPair) (costs_are : costs ≡ costs_after order.size done costs₀)
+        (standing_are : standing ≡ standing_after order.size done standing₀) where
+      meets_pair : (p : StatedPair) (todo : List StatedPair) → order.pairs ≡ done ++ p ∷ todo
+          → SoundPair order.size p
+          → Meets (Sized order.size) (pair_field p ++ (flat_map pair_field todo ++ end_field)) costs
+          standing
+      meets_pair p todo all sound_pair =
+          let more : List ℕ = flat_map pair_field todo ++ end_field in
+          let stated : pair_in (value_of (pair_field p ++ more)) ≡ p =
+          pair_stated p more sound_pair.cost_within in
+          let entered : Ahead (Sized order.size) more
+          (costs_entered order.size p.left p.right (plain p.cost) costs)
+          (standing_entered order.size p.left p.right standing) = (
+            refl,
+            record {
+              done = done ++ p ∷ [];
+              todo = todo;
+              all = all ∙ sym (append_assoc done (p ∷ []) todo);
+              left = refl;
+              costs_are = ap (costs_after order.size (p ∷ [])) costs_are
+                  ∙ sym (costs_append order.size done (p ∷ []) costs₀);
+              standing_are = ap (standing_after order.size (p ∷ [])) standing_are
+                  ∙ sym (standing_append order.size done (p ∷ []) standing₀);
+            },
+          )
+          in
+          record {
+            clear = λ at. pair_sound order.size p more at sound_pair;
+            sound = λ q e. let same : p ≡ q = cc in subst (SoundPair order.size) same sound_pair;
+            enters = λ q e. let same : p ≡ q = cc in
+                subst (λ (x : StatedPair). Ahead (Sized order.size) more
+                (costs_entered order.size x.left x.right (plain x.cost) costs)
+                (standing_entered order.size x.left x.right standing)) same entered;
+            passes = λ next e other. absurd (other (pair_in (value_of (pair_field p ++ more))) cc);
+            ends = λ e. let z : ◌≡◌ {A = ℕ} 0 1 = cc in absurd (omega arith);
+          }
 
-  split_more : (next : NextPair order.size rest split.todo)
-      → Split order costs₀ standing₀ (drop 13 rest)
-      (costs_after order.size (next.pair ∷ []) costs)
-      (standing_after order.size (next.pair ∷ []) standing)
-  split_more next = record {
-    done = split.done ++ next.pair ∷ [];
-    todo = next.later;
-    all = split.all ∙ ap (λ ps. split.done ++ ps) next.first
-        ∙ sym (append_assoc split.done (next.pair ∷ []) next.later);
-    left = ap (drop 13) next.splits;
-    costs_are = ap (costs_after order.size (next.pair ∷ [])) split.costs_are
-        ∙ sym (costs_append order.size split.done (next.pair ∷ []) costs₀);
-    standing_are = ap (standing_after order.size (next.pair ∷ [])) split.standing_are
-        ∙ sym (standing_append order.size split.done (next.pair ∷ []) standing₀);
-  }
-
-  split_end : length rest ≤ 3 → order.pairs ≡ split.done
-  split_end short = split.all
-      ∙ ap (λ ps. split.done ++ ps) (no_pair rest split.todo split.left short)
-      ∙ append-nil split.done
-
--- one turn of the loop: the pair that the next field states was entered
-module _ (file : List ℕ) (n : ℕ) (costs₀ : List Plain) (standing₀ rest : List ℕ)
-    (costs : List Plain) (standing : List ℕ)
-    (entering : Entering file n costs₀ standing₀ rest costs standing) where
-  -- more than the end is left: it begins with the whole field of a sound pair
-  pub entering_field : (order : Order) × States file order × (order.size ≡ n) → 3 < length rest
-      → (13 ≤ length rest) × SoundPair n (pair_in (take 10 (drop 3 rest)))
-  entering_field stated long =
-      let order = stated.0 in
-      let sound = stated.1.sound in
-      let split = entering order stated.1 stated.2 in
-      let next = split_next order sound costs₀ standing₀ rest costs standing split long in (
-        next_long order sound costs₀ standing₀ rest costs standing split next,
-        subst (λ (p : StatedPair). SoundPair n p)
-            (sym (next_stated order sound costs₀ standing₀ rest costs standing split next))
-            (subst (λ (k : ℕ). SoundPair k next.pair) stated.2 next.sound),
-      )
-
-  pub entering_more : (pair : StatedPair) (rest' : List ℕ) (costs' : List Plain)
-      (standing' : List ℕ) → 3 < length rest → pair ≡ pair_in (take 10 (drop 3 rest))
-      → rest' ≡ drop 13 rest → costs' ≡ costs_after n (pair ∷ []) costs
-      → standing' ≡ standing_after n (pair ∷ []) standing
-      → Entering file n costs₀ standing₀ rest' costs' standing'
-  entering_more pair rest' costs' standing' long states er ec eb order s size =
-      let split = entering order s size in
-      let next = split_next order s.sound costs₀ standing₀ rest costs standing split long in
-      let is : next.pair ≡ pair =
-      sym (next_stated order s.sound costs₀ standing₀ rest costs standing split next)
-      ∙ sym states in
-      let more = split_more order s.sound costs₀ standing₀ rest costs standing split next in
-      record {
-        done = more.done;
-        todo = more.todo;
-        all = more.all;
-        left = er ∙ more.left;
-        costs_are = ec ∙ ap (λ k. costs_after k (pair ∷ []) costs) (sym size)
-            ∙ ap (λ p. costs_after order.size (p ∷ []) costs) (sym is) ∙ more.costs_are;
-        standing_are = eb ∙ ap (λ k. standing_after k (pair ∷ []) standing) (sym size)
-            ∙ ap (λ p. standing_after order.size (p ∷ []) standing) (sym is) ∙ more.standing_are;
+      meets_end : order.pairs ≡ done → Meets (Sized order.size) end_field costs standing
+      meets_end all = record {
+        clear = λ at. end_sound order.size [] at;
+        sound = λ p e. let z : ◌≡◌ {A = ℕ} 0 1 = cc in absurd (omega arith);
+        enters = λ p e. let z : ◌≡◌ {A = ℕ} 0 1 = cc in absurd (omega arith);
+        passes = λ next e other. (
+          refl,
+          record {
+            costs_are = costs_are ∙ ap (λ ps. costs_after order.size ps costs₀) (sym all);
+            standing_are = standing_are
+                ∙ ap (λ ps. standing_after order.size ps standing₀) (sym all);
+          },
+        );
+        ends = λ e. let z : ◌≡◌ {A = ℕ} 0 1 = cc in absurd (omega arith);
       }
 
-  pub entering_end : length rest ≤ 3 → (order : Order) → States file order → order.size ≡ n
-      → (costs ≡ costs_after order.size order.pairs costs₀)
-      × (standing ≡ standing_after order.size order.pairs standing₀)
-  entering_end short order s size =
-      let split = entering order s size in
-      let all = split_end order s.sound costs₀ standing₀ rest costs standing split short in (
-        split.costs_are ∙ ap (λ ps. costs_after order.size ps costs₀) (sym all),
-        split.standing_are ∙ ap (λ ps. standing_after order.size ps standing₀) (sym all),
-      )
+      meets_next : (todo : List StatedPair) (rest : List ℕ) → order.pairs ≡ done ++ todo
+          → rest ≡ flat_map pair_field todo ++ end_field
+          → Meets (Sized order.size) rest costs standing
+      meets_next [] rest all left =
+          subst (λ (r : List ℕ). Meets (Sized order.size) r costs standing) (sym left)
+          (meets_end (all ∙ append-nil done))
+      meets_next (p ∷ todo) rest all left =
+          let those : AllByRecursion (SoundPair order.size) (p ∷ todo) =
+          all_later (SoundPair order.size) done (p ∷ todo)
+          (subst (λ (ps : List StatedPair). AllByRecursion (SoundPair order.size) ps) all
+          sound.pairs_sound) in
+          subst (λ (r : List ℕ). Meets (Sized order.size) r costs standing)
+          (sym (left ∙ append_assoc (pair_field p) (flat_map pair_field todo) end_field))
+          (meets_pair p todo all those.0)
+
+    pub meets : (stage : Stage) (rest : List ℕ) → Ahead stage rest costs standing
+        → Meets stage rest costs standing
+    meets Start rest h = subst (λ (r : List ℕ). Meets Start r costs standing) (sym h.0)
+        (meets_size h.1 h.2)
+    meets (Sized n) rest h =
+        let s = h.1 in
+        subst (λ (m : ℕ). Meets (Sized m) rest costs standing) (sym h.0)
+        (meets_next s.done s.costs_are s.standing_are s.todo rest s.all s.left)
+    meets (Ended n) rest h = subst (λ (r : List ℕ). Meets (Ended n) r costs standing) (sym h.0)
+        (record {
+          clear = λ at. refl;
+          sound = λ p e. let z : ◌≡◌ {A = ℕ} 0 1 = cc in absurd (omega arith);
+          enters = λ p e. let z : ◌≡◌ {A = ℕ} 0 1 = cc in absurd (omega arith);
+          passes = λ next e other. let z : ◌≡◌ {A = ℕ} 0 1 = cc in absurd (omega arith);
+          ends = λ e. h.1;
+        })
+
+-- a call of `next` on a record reader that stands where this is ahead
+module _ (order : Order) (costs₀ : List Plain) (standing₀ : List ℕ) (sound : Sound order)
+    (stage : Stage) (rest : List ℕ) (at : ℕ) (stage' : Stage) (rest' : List ℕ)
+    (stages : stage' ≡ after (field_fault stage rest at) stage (stage_next stage rest))
+    (passes : rest' ≡ after (field_fault stage rest at) rest (drop (record_length stage rest) rest))
+    (costs : List Plain) (standing : List ℕ)
+    (ahead : Ahead order costs₀ standing₀ stage rest costs standing) where
+  met : Meets order costs₀ standing₀ stage rest costs standing
+  met = meets order costs₀ standing₀ sound costs standing stage rest ahead
+
+  moved : (costs' : List Plain) (standing' : List ℕ)
+      → Ahead order costs₀ standing₀ (stage_next stage rest) (drop (record_length stage rest) rest)
+      costs' standing'
+      → Ahead order costs₀ standing₀ stage' rest' costs' standing'
+  moved costs' standing' h =
+      let e = met.clear at in
+      subst (λ (r : List ℕ). Ahead order costs₀ standing₀ stage' r costs' standing')
+      (renewed _ _ _ e ∙ sym passes)
+      (subst (λ (s : Stage). Ahead order costs₀ standing₀ s
+      (drop (record_length stage rest) rest) costs' standing') (renewed _ _ _ e ∙ sym stages) h)
+
+  -- it is not refused
+  pub never_refused : (f : Fault) → Err f ≡ answer (field_fault stage rest at)
+      (record_next stage rest) → ⊥
+  never_refused f e =
+      let known = from_err _ _ f e in let clear = met.clear at in
+      let z : ◌≡◌ {A = ℕ} 0 1 = cc in omega arith
+
+  -- where it hands out a pair, the sheet takes it, and this is ahead once it was entered
+  pub handed_next : (p : StatedPair) → Ok (Some (Pair p)) ≡ answer (field_fault stage rest at)
+      (record_next stage rest)
+      → SoundPair order.size p
+      × Ahead order costs₀ standing₀ stage' rest'
+      (costs_entered order.size p.left p.right (plain p.cost) costs)
+      (standing_entered order.size p.left p.right standing)
+  handed_next p answers =
+      let next = sym (from_ok _ _ _ answers).1 in
+      (met.sound p next, moved _ _ (met.enters p next))
+
+  -- where it hands out another record, this is ahead of the same tables
+  pub passed_next : (next : Record) → ((p : StatedPair) → next ≡ Pair p → ⊥)
+      → Ok (Some next) ≡ answer (field_fault stage rest at) (record_next stage rest)
+      → Ahead order costs₀ standing₀ stage' rest' costs standing
+  passed_next next other answers =
+      moved _ _ (met.passes next (sym (from_ok _ _ _ answers).1) other)
+
+  -- where it hands out none, all pairs were entered
+  pub ended_next : Ok None ≡ answer (field_fault stage rest at) (record_next stage rest)
+      → Entered order costs₀ standing₀ costs standing
+  ended_next answers = met.ends (sym (from_ok _ _ _ answers).1)

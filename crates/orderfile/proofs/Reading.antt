@@ -2,7 +2,8 @@
 -- Idea: what was read is a sound front, what is left follows it, and the place is the front's
 -- length. A record without a fault makes the front grow; a fault is then the file's first one; and
 -- where no record is left, the front is the whole file.
-use Rattle.std.proofs.Common.{◌≡◌, ℕ, ◌+◌, ◌≤◌, eqb, List, [], ◌++◌, length, get_or, drop}
+use Rattle.std.proofs.Common.{◌≡◌, ℕ, ◌+◌, ◌-◌, ◌<◌, ◌≤◌, eqb, List, [], ◌++◌, length, get_or}
+use Rattle.std.proofs.Common.{drop}
 use Rattle.std.proofs.Common.{Some, None, Ok, Option, sym, refl, ap, ◌∙◌, subst, ⊎_elim, append-nil}
 use Rattle.std.proofs.Common.{arith}
 use Rattle.std.proofs.lemmas.List.{get_or-append-add, length-append, length-drop, nil_from_length}
@@ -123,6 +124,13 @@ known_still Start End size other known = known
 known_still (Sized n) End size other known = known
 known_still (Ended n) End size other known = known
 
+-- a record takes up some bytes
+record_long : (stage : Stage) (rest : List ℕ) (next : Record) → record_next stage rest ≡ Some next
+    → 3 ≤ record_length stage rest
+record_long Start rest next e = omega arith
+record_long (Sized n) rest next e = omega arith
+record_long (Ended n) rest next e = let z : ◌≡◌ {A = ℕ} 0 1 = cc in absurd (omega arith)
+
 -- what a call of `next` on a record reader tells
 module _ (stage : Stage) (rest : List ℕ) (at : ℕ) (stage' : Stage) (rest' : List ℕ) (at' : ℕ)
     (stages : stage' ≡ after (field_fault stage rest at) stage (stage_next stage rest))
@@ -150,3 +158,18 @@ module _ (stage : Stage) (rest : List ℕ) (at : ℕ) (stage' : Stage) (rest' : 
       let found = from_ok (field_fault stage rest at) (record_next stage rest) (Some next) answers
       in
       stages ∙ sym (renewed _ _ _ found.0) ∙ stage_is stage rest next (sym found.1)
+
+  pub next_shorter : (next : Record) → Ok (Some next) ≡ answer (field_fault stage rest at)
+      (record_next stage rest) → length rest' < length rest
+  next_shorter next answers =
+      let found = from_ok (field_fault stage rest at) (record_next stage rest) (Some next) answers
+      in
+      let left : length rest' ≡ length rest - record_length stage rest =
+      ap length (passes ∙ sym (renewed _ _ _ found.0))
+      ∙ length-drop (record_length stage rest) rest in
+      omega (
+        arith,
+        left,
+        passed-fits stage rest at found.0,
+        record_long stage rest next (sym found.1),
+      )

@@ -7,9 +7,6 @@ ghost use Rattle.orderfile.specs.Format.{overruns, extent};
 
 use sheet::{Cause, Fault};
 
-// The length of a field's tag and of the two bytes that tell its value's length.
-pub(crate) const FIELD_HEAD: usize = 3;
-
 // The lengths of the three kinds of field.
 pub(crate) const SIZE_FIELD: usize = 4;
 

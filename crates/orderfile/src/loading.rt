@@ -2,15 +2,14 @@
 
 ghost use Rattle.std.specs.Prelude.{◌≡◌, length};
 ghost use Rattle.tables.specs.PairTables.{HavePlaces};
-ghost use Rattle.sheet.specs.Size.{size_of};
 ghost use Rattle.orderfile.specs.Format.{Order, States};
 ghost use Rattle.orderfile.specs.Loading.{Checked, costs_after, standing_after, Loaded};
 
-use crate::field::{END_FIELD, FIELD_HEAD, PAIR_FIELD, SIZE_FIELD};
 use crate::record::Record;
-use crate::record_reader::{RecordReader, stated_pair};
+use crate::record_reader::RecordReader;
 use cost::Plain;
 use sheet::{Fault, OpenSheet, open};
+use tables::enter_pair;
 
 /// The size that a file states, once all of the file has been read; or its first fault.
 pub fn check(file: &[u8]) -> Result<u16, Fault>
@@ -35,24 +34,24 @@ pub fn load(file: &[u8], costs: &mut [Plain], standing: &mut [u8]) -> Result<Ope
 {
     let n = check(file)?;
     let sheet = open(n, costs, standing)?;
-    enter_all(&sheet, file, costs, standing);
+    enter_all(n, file, costs, standing);
     Ok(sheet)
 }
 
-// Enters the pairs of a file into a sheet of the size that it states. The file is known to have no
-// fault, so its fields need no reader and are not checked again.
-fn enter_all(sheet: &OpenSheet, file: &[u8], costs: &mut [Plain], standing: &mut [u8])
-    requires stated { (order : Order) × States file.now order × (order.size ≡ size_of sheet.now) }
-    requires places { HavePlaces (size_of sheet.now) (length costs.old) (length standing.old) }
+// Enters the pairs of a file of size n, which is known to have no fault: so the reader, which tests
+// it again, hands out all of its records.
+fn enter_all(n: u16, file: &[u8], costs: &mut [Plain], standing: &mut [u8])
+    requires stated { (order : Order) × States file.now order × (order.size ≡ n) }
+    requires places { HavePlaces n (length costs.old) (length standing.old) }
     ensures { (order : Order) → States file.now order
         → (costs.new ≡ costs_after order.size order.pairs costs.old)
         × (standing.new ≡ standing_after order.size order.pairs standing.old) }
 {
-    let mut rest = &file[SIZE_FIELD..];
-    while rest.len() > END_FIELD {
-        let pair = stated_pair(&rest[FIELD_HEAD..PAIR_FIELD]);
-        let (left, right) = (pair.left as u16, pair.right as u16);
-        sheet.enter_known(costs, standing, left, right, Plain(pair.cost));
-        rest = &rest[PAIR_FIELD..];
+    let mut records = RecordReader::new(file);
+    while let Ok(Some(record)) = records.next() {
+        if let Record::Pair(pair) = record {
+            let (left, right) = (u16::from(pair.left), u16::from(pair.right));
+            enter_pair(n, costs, standing, left, right, Plain(pair.cost));
+        }
     }
 }

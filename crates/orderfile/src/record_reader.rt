@@ -112,7 +112,7 @@ fn pair(n: u8, field: Field<'_>) -> Result<StatedPair, Fault>
 }
 
 // The pair in the ten bytes of a value.
-pub(crate) fn stated_pair(value: &[u8]) -> StatedPair
+fn stated_pair(value: &[u8]) -> StatedPair
     requires { length value.now ≡ 10 }
     ensures { result ≡ pair_in value.now }
 {

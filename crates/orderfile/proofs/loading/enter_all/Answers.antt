@@ -1,74 +1,78 @@
--- The file states an order, so while more than the end is left, the next field is that of a pair
--- that the tables take.
-use Rattle.std.proofs.Common.{◌≡◌, ◌-◌, ◌≤◌, length, take, drop, set, sym, ap, ◌∙◌, subst, w64}
-use Rattle.std.proofs.Common.{to_z, of_z, unsigned_abs, arith}
-use Rattle.std.proofs.Common.{length-drop, get_or}
-use Rattle.std.proofs.lemmas.List.{take_rest}
+-- The reader hands out what the file still has, so a pair fits the tables, and once it was entered
+-- one pair less is to come.
+use Rattle.std.proofs.Common.{◌≡◌, Some, Ok, get_or, slice_set, sym, ap, ◌∙◌, w64}
+use Rattle.std.proofs.Common.{to_z, of_z}
 use Rattle.std.proofs.lemmas.Int.{to_z-of_z}
-use Rattle.cost.specs.declared.TheConstants.{COST_LIMIT}
 use Rattle.pairing.specs.Places.{place_of}
-use Rattle.sheet.specs.Size.{size_of}
+use Rattle.tables.specs.PairTables.{costs_entered, standing_entered}
+use Rattle.sheet.specs.Refusals.{answer}
+use Rattle.orderfile.specs.declared.record.Record.TheVariants.{Pair}
+use Rattle.orderfile.specs.Faults.{field_fault}
 use Rattle.orderfile.specs.Loading.{plain}
+use Rattle.orderfile.specs.Records.{record_next}
 use Rattle.orderfile.proofs.Fields.{fits}
-use Rattle.orderfile.proofs.Entering.{entering_start, entering_field, entering_more, entering_end}
+use Rattle.orderfile.proofs.Reading.{next_shorter}
+use Rattle.orderfile.proofs.Entering.{never_refused, handed_next, passed_next}
 use Rattle.orderfile.proofs.loading.enter_all.Goals as goal
 
-pub loop-rest-init : goal.loop-rest-init
-loop-rest-init c = entering_start c.args.file.now (size_of c.args.sheet.now) c.args.costs.now
-    c.args.standing.now _ (take_rest c.args.file.now 4)
+pub loop-record-smaller-in-Pair : goal.loop-record-smaller-in-Pair
+loop-record-smaller-in-Pair c =
+    let was = c.loop-record.records in
+    let now' = c.next.new.self in
+    next_shorter was.stage was.fields.rest.now was.fields.at now'.stage now'.fields.rest.now
+    now'.fields.at c.next.ensures.stages c.next.ensures.passes c.next.ensures.moves
+    c.in-Ok-Some.record
+    (ap Ok (sym c.in-Ok-Some.field-0-is) ∙ sym c.in-Ok-Some.is ∙ c.next.ensures.answers)
 
-pub slice_bounds-stated_pair-end : goal.slice_bounds-stated_pair-end
-slice_bounds-stated_pair-end c =
-    (entering_field c.args.file.now (size_of c.args.sheet.now) c.args.costs.now c.args.standing.now
-    c.loop-rest.rest.now c.loop-rest.costs c.loop-rest.standing c.loop-rest.invariant
-    c.requires.stated c.loop-rest-test.true).0
+pub loop-record-preserved-in-Pair : goal.loop-record-preserved-in-Pair
+loop-record-preserved-in-Pair c order s =
+    let was = c.loop-record.records in
+    let now' = c.next.new.self in
+    let pair = c.in-Pair.pair in
+    let size : c.args.n ≡ order.size = sym (c.requires.stated.2)
+    ∙ sym (ap (λ t. get_or t 3 0) c.requires.stated.1.is_file)
+    ∙ ap (λ t. get_or t 3 0) s.is_file in
+    let at : place_of c.args.n c.from-left.result c.from-right.result
+    ≡ place_of order.size pair.left pair.right =
+    ap (λ k. place_of k c.from-left.result c.from-right.result) size
+    ∙ ap (λ k. place_of order.size k c.from-right.result) c.from-left.ensures
+    ∙ ap (λ k. place_of order.size pair.left k) c.from-right.ensures in
+    let answers : Ok (Some (Pair pair)) ≡ answer
+    (field_fault was.stage was.fields.rest.now was.fields.at)
+    (record_next was.stage was.fields.rest.now) = ap (λ r. Ok (Some r)) (sym c.in-Pair.is)
+    ∙ ap Ok (sym c.in-Ok-Some.field-0-is) ∙ sym c.in-Ok-Some.is ∙ c.next.ensures.answers in
+    let handed = handed_next order c.args.costs.now c.args.standing.now s.sound was.stage
+    was.fields.rest.now was.fields.at now'.stage now'.fields.rest.now c.next.ensures.stages
+    c.next.ensures.passes c.loop-record.costs c.loop-record.standing
+    (c.loop-record.invariant order s) pair answers in
+    let cost : to_z w64 (of_z w64 pair.cost) ≡ pair.cost =
+    to_z-of_z w64 pair.cost (fits pair.cost handed.0.cost_within) in
+    let costs : c.enter_pair.new.costs
+    ≡ costs_entered order.size pair.left pair.right (plain pair.cost) c.loop-record.costs =
+    c.enter_pair.ensures.costs
+    ∙ ap (λ z. slice_set c.loop-record.costs
+    (place_of c.args.n c.from-left.result c.from-right.result) (plain z)) cost
+    ∙ ap (λ k. slice_set c.loop-record.costs k (plain pair.cost)) at in
+    let standing : c.enter_pair.new.standing
+    ≡ standing_entered order.size pair.left pair.right c.loop-record.standing =
+    c.enter_pair.ensures.standing ∙ ap (λ k. slice_set c.loop-record.standing k 1) at in
+    rw (costs, standing) handed.1
 
-pub enter_known-requires : goal.enter_known-requires
-enter_known-requires c =
-    let sound = (entering_field c.args.file.now (size_of c.args.sheet.now) c.args.costs.now
-    c.args.standing.now c.loop-rest.rest.now c.loop-rest.costs c.loop-rest.standing
-    c.loop-rest.invariant c.requires.stated c.loop-rest-test.true).1 in
-    let is = c.stated_pair-pair.ensures in
-    record {
-      places = record {
-        costs = c.loop-rest.auto.costs ∙ c.requires.places.costs;
-        standing = c.loop-rest.auto.standing ∙ c.requires.places.standing;
-      };
-      left_inside = omega (arith, ap (λ p. p.left) is, sound.left_below);
-      right_inside = omega (arith, ap (λ p. p.right) is, sound.right_below);
-    }
+pub loop-record-preserved : goal.loop-record-preserved
+loop-record-preserved c order s =
+    let was = c.loop-record.records in
+    let now' = c.next.new.self in
+    passed_next order c.args.costs.now c.args.standing.now s.sound was.stage
+    was.fields.rest.now was.fields.at now'.stage now'.fields.rest.now c.next.ensures.stages
+    c.next.ensures.passes c.loop-record.costs c.loop-record.standing
+    (c.loop-record.invariant order s) c.in-Ok-Some.record c.in_default-record.not-Pair
+    (ap Ok (sym c.in-Ok-Some.field-0-is) ∙ sym c.in-Ok-Some.is ∙ c.next.ensures.answers)
 
-pub loop-rest-smaller : goal.loop-rest-smaller
-loop-rest-smaller c =
-    let shorter : length (take (length c.loop-rest.rest.now - 13) (drop 13 c.loop-rest.rest.now))
-    ≡ length c.loop-rest.rest.now - 13 =
-    ap length (take_rest c.loop-rest.rest.now 13) ∙ length-drop 13 c.loop-rest.rest.now in
-    omega (arith, shorter, c.loop-rest-test.true)
-
-pub loop-rest-preserved : goal.loop-rest-preserved
-loop-rest-preserved c =
-    let n = size_of c.args.sheet.now in
-    let pair = c.stated_pair-pair.result in
-    let sound = (entering_field c.args.file.now n c.args.costs.now c.args.standing.now
-    c.loop-rest.rest.now c.loop-rest.costs c.loop-rest.standing c.loop-rest.invariant
-    c.requires.stated c.loop-rest-test.true).1 in
-    let within : unsigned_abs pair.cost ≤ COST_LIMIT =
-    subst (λ p. unsigned_abs p.cost ≤ COST_LIMIT) (sym c.stated_pair-pair.ensures)
-    sound.cost_within in
-    let same : to_z w64 (of_z w64 pair.cost) ≡ pair.cost =
-    to_z-of_z w64 pair.cost (fits pair.cost within) in
-    entering_more c.args.file.now (size_of c.args.sheet.now) c.args.costs.now c.args.standing.now
-    c.loop-rest.rest.now c.loop-rest.costs c.loop-rest.standing c.loop-rest.invariant
-    c.stated_pair-pair.result _ c.enter_known.new.costs c.enter_known.new.standing
-    c.loop-rest-test.true c.stated_pair-pair.ensures (take_rest c.loop-rest.rest.now 13)
-    (c.enter_known.ensures.costs
-    ∙ ap (λ x. set c.loop-rest.costs (place_of n pair.left pair.right) (plain x)) same)
-    c.enter_known.ensures.standing
-
-pub returns : goal.returns
-returns c order s =
-    entering_end c.args.file.now (size_of c.args.sheet.now) c.args.costs.now c.args.standing.now
-    c.loop-rest.rest.now c.loop-rest.costs c.loop-rest.standing c.loop-rest.invariant
-    c.loop-rest-test.false order s
-    (sym (ap (λ t. get_or t 3 0) s.is_file)
-    ∙ ap (λ t. get_or t 3 0) c.requires.stated.1.is_file ∙ c.requires.stated.2)
+pub returns-in_default-2 : goal.returns-in_default-2
+returns-in_default-2 c order s =
+    let was = c.loop-record.records in
+    absurd (never_refused order c.args.costs.now c.args.standing.now s.sound was.stage
+    was.fields.rest.now was.fields.at c.next.new.self.stage c.next.new.self.fields.rest.now
+    c.next.ensures.stages c.next.ensures.passes c.loop-record.costs c.loop-record.standing
+    (c.loop-record.invariant order s) c.in_default.field-0
+    (sym c.in_default.is ∙ c.next.ensures.answers))

@@ -1,13 +1,14 @@
--- What is left of the file are the pairs still to come and the end, and the tables are those after
--- the pairs that came.
+-- What is left of the file are the fields still to come, and the tables are those after the pairs
+-- that came; each record leaves less of the file.
 use Rattle.std.proofs.Common.{length}
-use Rattle.sheet.specs.Size.{size_of}
-use Rattle.orderfile.proofs.Entering.{Entering}
+use Rattle.orderfile.specs.Format.{Order, States}
+use Rattle.orderfile.proofs.Entering.{Ahead}
 use Rattle.orderfile.proofs.loading.enter_all.Given as goal
 
-abbrev pub invariant-loop-rest : goal.invariant-loop-rest
-invariant-loop-rest l = Entering l.file (size_of l.sheet) l.initial.costs l.initial.standing
-    l.rest l.costs l.standing
+abbrev pub invariant-loop-record : goal.invariant-loop-record
+invariant-loop-record l = (order : Order) → States l.file order
+    → Ahead order l.initial.costs l.initial.standing l.records.stage l.records.fields.rest.now
+    l.costs l.standing
 
-abbrev pub decreases-loop-rest : goal.decreases-loop-rest
-decreases-loop-rest l = length l.rest
+abbrev pub decreases-loop-record : goal.decreases-loop-record
+decreases-loop-record l = length l.records.fields.rest.now

@@ -32,11 +32,7 @@ pub enter_all-requires : goal.enter_all-requires
 enter_all-requires c =
     let o = checked_ok c.args.file.now c.in_ok-n.n c.in_ok-n.ensures in
     let h = c.in_ok-sheet.ensures.call in
-    record {
-      stated = (o.0, o.1, o.2 ∙ sym (opened_size _ _ _ _ _ _ h));
-      places =
-          opened_have _ _ _ _ _ _ h;
-    }
+    record { stated = (o.0, o.1, o.2); places = opened_have _ _ _ _ _ _ h }
 
 pub returns : goal.returns
 returns c =
