@@ -1,6 +1,7 @@
 //! Records: what each field states, with the rules for its tag, its length and its value.
 
-ghost use Rattle.std.specs.Prelude.{◌≡◌, length};
+ghost use Rattle.std.specs.Prelude.{◌≡◌, length, nat_lt, unsigned_abs};
+ghost use Rattle.cost.specs.declared.TheConstants.{COST_LIMIT};
 ghost use Rattle.sheet.specs.Refusals.{first_of, answer};
 ghost use Rattle.orderfile.specs.Faults.{size_checks, pair_checks, end_checks, record_fault};
 ghost use Rattle.orderfile.specs.Format.{pair_in};
@@ -13,6 +14,9 @@ use crate::field::{Field, FieldReader};
 use crate::record::{Record, Stage, StatedPair};
 use sheet::{Cause, Fault};
 use tables::{COST_LIMIT, MOST_BLOCKS};
+
+// The largest cost of a pair.
+const LARGEST_COST: i64 = COST_LIMIT as i64;
 
 /// Moves over the records of a file.
 #[derive(Clone, Copy)]
@@ -105,10 +109,18 @@ fn pair(n: u8, field: Field<'_>) -> Result<StatedPair, Fault>
     if pair.left >= n || pair.right >= n {
         return Err(Cause::Block.at(field.place));
     }
-    if pair.cost.unsigned_abs() > COST_LIMIT {
+    if is_beyond(pair.cost) {
         return Err(Cause::CostRange.at(field.place));
     }
     Ok(pair)
+}
+
+// Whether a cost is not within 10^9. It is compared with both ends, since its absolute value would
+// take two instructions more, for each pair of a file.
+fn is_beyond(cost: i64) -> bool
+    ensures { result ≡ nat_lt COST_LIMIT (unsigned_abs cost) }
+{
+    cost < -LARGEST_COST || cost > LARGEST_COST
 }
 
 // The pair in the ten bytes of a value.
