@@ -64,8 +64,8 @@ module _ (order : Order) (costs₀ : List Plain) (standing₀ : List ℕ) where
   Ahead (Sized n) rest costs standing = (n ≡ order.size) × Split rest costs standing
   Ahead (Ended n) rest costs standing = (rest ≡ []) × Entered costs standing
 
-  -- what a step of the reader meets: no fault; a pair that is entered, or another record, and then
-  -- what is ahead again; or no record, once all pairs were entered
+  -- what a step of the reader meets: no fault; and a pair that is entered, or another record, and
+  -- then what is ahead again
   pub record Meets (stage : Stage) (rest : List ℕ) (costs : List Plain)
       (standing : List ℕ) : Type 0 where
     pub clear : (at : ℕ) → field_fault stage rest at ≡ None
@@ -77,7 +77,6 @@ module _ (order : Order) (costs₀ : List Plain) (standing₀ : List ℕ) where
     pub passes : (next : Record) → record_next stage rest ≡ Some next
         → ((p : StatedPair) → next ≡ Pair p → ⊥)
         → Ahead (stage_next stage rest) (drop (record_length stage rest) rest) costs standing
-    pub ends : record_next stage rest ≡ None → Entered costs standing
 
   module _ (sound : Sound order) (costs : List Plain) (standing : List ℕ) where
     -- before the size all pairs are still to come
@@ -98,7 +97,6 @@ module _ (order : Order) (costs₀ : List Plain) (standing₀ : List ℕ) where
           standing_are = es;
         },
       );
-      ends = λ e. let z : ◌≡◌ {A = ℕ} 0 1 = cc in absurd (omega arith);
     }
 
     module _ (done : List StatedPair) (costs_are : costs ≡ costs_after order.size done costs₀)
@@ -135,7 +133,6 @@ module _ (order : Order) (costs₀ : List Plain) (standing₀ : List ℕ) where
                 (costs_entered order.size x.left x.right (plain x.cost) costs)
                 (standing_entered order.size x.left x.right standing)) same entered;
             passes = λ next e other. absurd (other (pair_in (value_of (pair_field p ++ more))) cc);
-            ends = λ e. let z : ◌≡◌ {A = ℕ} 0 1 = cc in absurd (omega arith);
           }
 
       meets_end : order.pairs ≡ done → Meets (Sized order.size) end_field costs standing
@@ -151,7 +148,6 @@ module _ (order : Order) (costs₀ : List Plain) (standing₀ : List ℕ) where
                 ∙ ap (λ ps. standing_after order.size ps standing₀) (sym all);
           },
         );
-        ends = λ e. let z : ◌≡◌ {A = ℕ} 0 1 = cc in absurd (omega arith);
       }
 
       meets_next : (todo : List StatedPair) (rest : List ℕ) → order.pairs ≡ done ++ todo
@@ -183,7 +179,6 @@ module _ (order : Order) (costs₀ : List Plain) (standing₀ : List ℕ) where
           sound = λ p e. let z : ◌≡◌ {A = ℕ} 0 1 = cc in absurd (omega arith);
           enters = λ p e. let z : ◌≡◌ {A = ℕ} 0 1 = cc in absurd (omega arith);
           passes = λ next e other. let z : ◌≡◌ {A = ℕ} 0 1 = cc in absurd (omega arith);
-          ends = λ e. h.1;
         })
 
 -- a call of `next` on a record reader that stands where this is ahead
@@ -231,8 +226,3 @@ module _ (order : Order) (costs₀ : List Plain) (standing₀ : List ℕ) (sound
       → Ahead order costs₀ standing₀ stage' rest' costs standing
   passed_next next other answers =
       moved _ _ (met.passes next (sym (from_ok _ _ _ answers).1) other)
-
-  -- where it hands out none, all pairs were entered
-  pub ended_next : Ok None ≡ answer (field_fault stage rest at) (record_next stage rest)
-      → Entered order costs₀ standing₀ costs standing
-  ended_next answers = met.ends (sym (from_ok _ _ _ answers).1)
