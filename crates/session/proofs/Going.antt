@@ -1,7 +1,7 @@
 -- A run is a program: opening begins it, and each call that is made is one step more.
 -- Idea: the calls so far with what came of each are the exchanges of a program that has come to the
 -- state and the tables as they are; the law is then cited for it as a whole.
-use Rattle.std.proofs.Common.{◌≡◌, ℕ, ◌+◌, ◌<◌, ◌≤◌, false, List, [], ◌∷◌, ◌++◌, length}
+use Rattle.std.proofs.Common.{◌≡◌, ℕ, ◌+◌, ◌<◌, ◌≤◌, true, false, List, [], ◌∷◌, ◌++◌, length}
 use Rattle.std.proofs.Common.{take, Ok, Err, Some, None, Option, Result, inl, inr, get_or, sym}
 use Rattle.std.proofs.Common.{refl, ap, ◌∙◌, subst, arith}
 use Rattle.std.specs.Prelude.{MatchResult}
@@ -31,7 +31,7 @@ use Rattle.session.specs.Book.{Phase}
 use Rattle.session.specs.Program.{State, Tables, lengths, moved_to, Answers, Meets, Program, opens}
 use Rattle.session.specs.Program.{calls, EveryProgramKeeps}
 use Rattle.session.specs.Runs.{state_of, right_lengths, Says, AllSay, WasMade, WereMade, Begins}
-use Rattle.session.specs.Runs.{tables_of, MakesOne, IsSheet}
+use Rattle.session.specs.Runs.{tables_of, MakesOne, IsSheet, holds_copies}
 use Rattle.session.proofs.Handing.{same_lengths}
 
 -- ---- The size stays
@@ -77,17 +77,17 @@ module _ {K : Type 0} (kind : Ghosts K) where
       (makes : MakesOne kind state old call made new) where
     came_to : (r : Result (Answer K) AllocError) → made.1 ≡ r
         → MatchResult r (λ answer. WasMade kind state old call answer made.0 new)
-        (λ e. (made.0 ≡ state) × (new ≡ old))
+        (λ e. (holds_copies call.act ≡ true) × (made.0 ≡ state) × (new ≡ old))
     came_to r e = subst (λ (r : Result (Answer K) AllocError).
         MatchResult r (λ answer. WasMade kind state old call answer made.0 new)
-        (λ e. (made.0 ≡ state) × (new ≡ old))) e makes
+        (λ e. (holds_copies call.act ≡ true) × (made.0 ≡ state) × (new ≡ old))) e makes
 
     pub made_as : (answer : Answer K) → made.1 ≡ Ok answer
         → WasMade kind state old call answer made.0 new
     made_as answer e = came_to (Ok answer) e
 
     pub not_made_then : (none : AllocError) → made.1 ≡ Err none → new ≡ old
-    not_made_then none e = (came_to (Err none) e).1
+    not_made_then none e = (came_to (Err none) e).2
 
 -- ---- Lists
 

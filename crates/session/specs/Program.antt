@@ -270,8 +270,7 @@ module _ {K : Type 0} (kind : Ghosts K) where
     pub costs_long : length own.costs ≡ places_of n
     pub standing_long : length own.standing ≡ places_of n
     pub costs : (l r : ℕ) → l < n → r < n
-        → slice_index_or own.costs (place_of n l r) kind.zero
-        ≡ cost_in kind.zero (cells l r)
+        → slice_index_or own.costs (place_of n l r) kind.zero ≡ cost_in kind.zero (cells l r)
     pub standing : (l r : ℕ) → l < n → r < n → byte_of n own.standing l r ≡ byte_in (cells l r)
 
   -- WHAT THE TABLES HOLD after some calls of a program: the pair tables show the book's cells, and

@@ -1,6 +1,7 @@
 -- What one call of a run, and a whole run, answer and leave in the tables.
-use Rattle.std.specs.Prelude.{◌≡◌, ℕ, ◌<◌, ◌≤◌, false, ◌⊎◌, List, [], ◌∷◌, length, take, Ok, Err}
-use Rattle.std.specs.Prelude.{Some, None, Option, Result, All, Contains, MatchOption, MatchResult}
+use Rattle.std.specs.Prelude.{◌≡◌, ℕ, ◌<◌, ◌≤◌, Bool, true, false, ◌⊎◌, List, [], ◌∷◌, length, take}
+use Rattle.std.specs.Prelude.{Ok, Err, Some, None, Option, Result, All, Contains, MatchOption}
+use Rattle.std.specs.Prelude.{MatchResult}
 use Rattle.std.specs.declared.alloc.AllocError.{AllocError}
 use Rattle.std.specs.declared.alloc.Global.{Global}
 use Rattle.std.specs.declared.vec.Vec.{Vec}
@@ -124,6 +125,14 @@ TellsSettle outcome partners left right a =
     MatchResult outcome (λ sheet. a ≡ Settled partners left right)
     (λ r. TellsRefusal r.fault r.shortfall a)
 
+-- whether the answer to a call holds copies of tables
+abbrev pub holds_copies : {K : Type 0} → Act K → Bool
+holds_copies Settle = true
+holds_copies Marks = true
+holds_copies Start = true
+holds_copies Next = true
+holds_copies _ = false
+
 -- the answers to the calls of a list say what came of each
 abbrev pub AllSay : {K : Type 0} → List (Call K) → List (Answer K) → List (Exchange K) → Type 0
 AllSay [] [] [] = Unit {0}
@@ -144,13 +153,13 @@ module _ {K : Type 0} (kind : Ghosts K) where
         (record { act = call.act; handed = call.handed; outcome = outcome }) (state_of state') new
     pub long : lengths new ≡ lengths old
 
-  -- want of memory is found before the call is made: the state comes back, and the tables are as
-  -- they were
+  -- want of memory, which only an answer with copies can meet, is found before the call is made:
+  -- the state comes back, and the tables are as they were
   abbrev pub MakesOne : (state : InState) (old : Tables K) → Call K
       → InState × Result (Answer K) AllocError → (new : Tables K) → Type 0
   MakesOne state old call made new =
       MatchResult made.1 (λ answer. WasMade state old call answer made.0 new)
-      (λ e. (made.0 ≡ state) × (new ≡ old))
+      (λ e. (holds_copies call.act ≡ true) × (made.0 ≡ state) × (new ≡ old))
 
   -- ---- A run
 

@@ -35,8 +35,9 @@ pub enum Stopped<K> {
 /// Makes one call on a sheet, over its tables, and gives the state that it leaves and the answer.
 ///
 /// The tables have the right lengths for the sheet, and the call is handed no more of them than
-/// there is. The copies that the answer holds are made before the call: where memory for them runs
-/// out, the call is not made, the state comes back, and the tables are as they were.
+/// there is. The copies that an answer holds, to settle, marks, start and next, are made before the
+/// call: where memory for them runs out, the call is not made, the state comes back, and the tables
+/// are as they were.
 pub fn make<K: Cost>(
     heap: Global,
     state: State,

@@ -2,7 +2,7 @@
 -- Idea: a call that none of the arms takes is one that the state does not have.
 use Rattle.std.proofs.Common.{inl, refl, ap}
 use Rattle.session.specs.declared.answer.Answer.TheVariants.{Done}
-use Rattle.session.specs.declared.call.Act.TheVariants.{Marks, Reopen}
+use Rattle.session.specs.declared.call.Act.TheVariants.{Marks, Start, Reopen}
 use Rattle.session.specs.declared.state.State.TheVariants.{Open, Settled}
 use Rattle.session.specs.Book.{opened}
 use Rattle.session.specs.Exchange.{tells}
@@ -17,6 +17,11 @@ pub returns-in-Marks : goal.returns-in-Marks
 returns-in-Marks g c =
     makes_for g.K.Cost (Settled c.args.sheet) (tables_of c.args.tables.now) c.args.call Marks
     (Settled c.args.sheet, c.marks-answer.result) _ c.in-Marks.is c.marks-answer.ensures
+
+pub returns-in-Start : goal.returns-in-Start
+returns-in-Start g c =
+    makes_for g.K.Cost (Settled c.args.sheet) (tables_of c.args.tables.now) c.args.call Start
+    c.start.result _ c.in-Start.is c.start.ensures
 
 pub returns-in-Reopen : goal.returns-in-Reopen
 returns-in-Reopen g c =
