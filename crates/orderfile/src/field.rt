@@ -71,18 +71,21 @@ impl<'a> FieldReader<'a> {
         if rest.len() < 3 {
             return Err(Cause::Overrun.at(self.at));
         }
-        let end = 3 + u16::from_be_bytes([rest[1], rest[2]]) as usize;
-        if rest.len() < end {
+        // Where the next field begins waits for the length, which is therefore the last thing that
+        // is added.
+        let length = u16::from_be_bytes([rest[1], rest[2]]) as usize;
+        let behind = &rest[3..];
+        if behind.len() < length {
             return Err(Cause::Overrun.at(self.at));
         }
         let field = Field {
             tag: rest[0],
-            value: &rest[3..end],
+            value: &behind[..length],
             place: self.at,
         };
         *self = FieldReader {
-            rest: &rest[end..],
-            at: self.at + end,
+            rest: &behind[length..],
+            at: self.at + 3 + length,
         };
         Ok(field)
     }
