@@ -3,6 +3,7 @@
 ghost use Rattle.std.specs.Prelude.{◌<◌, ◌^◌};
 
 use crate::ladder::push_ladders;
+use crate::lists::{lists_height, push_lists};
 use crate::solved::Solved;
 use crate::table::push_table;
 use cost::Plain;
@@ -11,14 +12,17 @@ use std::alloc::{AllocError, Global};
 /// The height of a row of the table and of a step of a ladder.
 pub const ROW: u64 = 26;
 /// What stands above the first row.
-pub const HEAD: u64 = 84;
+pub const HEAD: u64 = 108;
 /// What stands to the left of the first column.
 pub const SIDE: u64 = 96;
 /// The width of a ladder with the space beside it.
 pub const LADDER: u64 = 110;
 
-// What stands below the last row.
+// The height of the legend, with the space around it.
 const FOOT: u64 = 78;
+
+// Pairings of at most this many blocks are drawn as ladders; those of more are listed as numbers.
+const MOST_IN_LADDERS: u16 = 16;
 
 // How the parts of a picture look.
 const STYLE: &str = "\
@@ -27,6 +31,7 @@ text { font: 13px sans-serif; fill: #24292f; text-anchor: middle }
 .title { font-size: 16px; font-weight: bold; text-anchor: start }
 .note { fill: #57606a; text-anchor: start }
 .head { font-weight: bold }
+.side { fill: #57606a }
 .price { fill: #8250df }
 .far { fill: #8c959f }
 .pair { fill: #ffffff; stroke: #d0d7de }
@@ -81,11 +86,30 @@ pub fn down(left: u16) -> u64
     HEAD + ROW * left as u64
 }
 
+// Whether the pairings of a picture are listed as numbers.
+fn are_listed(solved: &Solved) -> bool {
+    solved.size > MOST_IN_LADDERS
+}
+
 // How wide a picture is.
 fn width(measures: Measures, solved: &Solved) -> u64 {
-    let ladders = (solved.pairings.len() as u64).saturating_mul(LADDER);
+    let ladders = if are_listed(solved) {
+        0
+    } else {
+        (solved.pairings.len() as u64).saturating_mul(LADDER)
+    };
     let table = measures.across(solved.size);
     table.saturating_add(ladders).saturating_add(SIDE).max(560)
+}
+
+// Where the legend begins: below the table, and below the lists of pairings.
+fn bottom(solved: &Solved) -> u64 {
+    let lists = if are_listed(solved) {
+        lists_height(solved)
+    } else {
+        0
+    };
+    down(solved.size).saturating_add(lists)
 }
 
 // The words above the table.
@@ -101,9 +125,10 @@ fn push_title(text: &mut String, solved: &Solved) -> Result<(), AllocError> {
     )
 }
 
-// The words below the table.
-fn push_legend(text: &mut String, size: u16) -> Result<(), AllocError> {
-    let (square, y, below) = (down(size) + 17, down(size) + 30, down(size) + 54);
+// What the colours mean.
+fn push_legend(text: &mut String, top: u64) -> Result<(), AllocError> {
+    let (square, y) = (top.saturating_add(17), top.saturating_add(30));
+    let below = top.saturating_add(54);
     write!(
         text,
         "<rect class=\"first\" x=\"16\" y=\"{square}\" width=\"16\" height=\"16\"/>\
@@ -118,7 +143,8 @@ fn push_legend(text: &mut String, size: u16) -> Result<(), AllocError> {
 /// The picture of a settled order file, as an SVG file.
 pub fn draw(heap: Global, solved: &Solved) -> Result<String, AllocError> {
     let measures = Measures::of(heap, solved)?;
-    let (width, height) = (width(measures, solved), down(solved.size) + FOOT);
+    let (width, bottom) = (width(measures, solved), bottom(solved));
+    let height = bottom.saturating_add(FOOT);
     let mut text = String::new(heap);
     write!(
         text,
@@ -128,8 +154,12 @@ pub fn draw(heap: Global, solved: &Solved) -> Result<String, AllocError> {
     )?;
     push_title(&mut text, solved)?;
     push_table(&mut text, measures, solved)?;
-    push_ladders(&mut text, measures, solved)?;
-    push_legend(&mut text, solved.size)?;
+    if are_listed(solved) {
+        push_lists(&mut text, solved)?;
+    } else {
+        push_ladders(&mut text, measures, solved)?;
+    }
+    push_legend(&mut text, bottom)?;
     text.push_str("</svg>\n")?;
     Ok(text)
 }

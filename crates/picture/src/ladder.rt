@@ -24,6 +24,18 @@ fn push_way(text: &mut String, x: u64, left: u16, right: u16) -> Result<(), Allo
     )
 }
 
+// Appends the number of a pairing, and which side of its ladder is which.
+fn push_head(text: &mut String, x: u64, number: usize) -> Result<(), AllocError> {
+    let (middle, far) = (x.saturating_add(APART / 2), x.saturating_add(APART));
+    let (above, y) = (HEAD - 32, HEAD - 8);
+    write!(
+        text,
+        "<text class=\"head\" x=\"{middle}\" y=\"{above}\">no. {number}</text>\
+         <text class=\"side\" x=\"{x}\" y=\"{y}\">left</text>\
+         <text class=\"side\" x=\"{far}\" y=\"{y}\">right</text>\n"
+    )
+}
+
 // Appends the ladder of a pairing.
 fn push_ladder(
     text: &mut String,
@@ -31,11 +43,7 @@ fn push_ladder(
     number: usize,
     pairing: &[u16],
 ) -> Result<(), AllocError> {
-    let (middle, y) = (x.saturating_add(APART / 2), HEAD - 8);
-    write!(
-        text,
-        "<text class=\"head\" x=\"{middle}\" y=\"{y}\">no. {number}</text>"
-    )?;
+    push_head(text, x, number)?;
     for (left, right) in (0..u16::MAX).zip(pairing) {
         push_way(text, x, left, *right)?;
     }

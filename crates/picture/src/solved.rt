@@ -2,7 +2,7 @@
 
 use cost::Plain;
 use orderfile::loading::{check, load};
-use sheet::{Fault, SettledSheet, Step};
+use sheet::{Fault, OpenSheet, Refusal, SettledSheet, Shortfall, Step};
 use std::alloc::{AllocError, Global};
 use tables::places;
 
@@ -31,8 +31,19 @@ pub struct Solved {
 pub enum Trouble {
     #[error("{0}")]
     Refused(#[from] Fault),
+    /// No pairing is perfect: the crowd set and its shortage.
+    #[error("no pairing is perfect")]
+    Unmatched(Shortfall),
     #[error("{0}")]
     Memory(#[from] AllocError),
+}
+
+// Why a sheet could not be settled.
+fn trouble_of(refusal: Refusal<OpenSheet>) -> Trouble {
+    match refusal.shortfall {
+        Some(shortfall) => Trouble::Unmatched(shortfall),
+        None => Trouble::Refused(refusal.fault),
+    }
 }
 
 /// Settles an order file, or tells why that cannot be done.
@@ -51,7 +62,7 @@ pub fn solve(heap: Global, file: &[u8]) -> Result<Solved, Trouble> {
             left.as_mut_slice(),
             right.as_mut_slice(),
         )
-        .map_err(Fault::from)?;
+        .map_err(trouble_of)?;
     let mut solved = Solved {
         size,
         costs,

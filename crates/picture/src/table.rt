@@ -1,4 +1,5 @@
-//! The table of a picture: a cell for each pair, the numbers of the blocks, and their prices.
+//! The table of a picture: a cell for each pair, the numbers of the blocks, their planes and their
+//! prices.
 
 use crate::canvas::{HEAD, Measures, ROW, SIDE, down};
 use crate::solved::Solved;
@@ -75,6 +76,17 @@ fn push_row(
     Ok(())
 }
 
+// Appends which blocks have the columns and which the rows.
+fn push_sides(text: &mut String) -> Result<(), AllocError> {
+    let (right, left, plane) = (HEAD - 54, HEAD - 32, HEAD - 14);
+    write!(
+        text,
+        "<text class=\"note\" x=\"{SIDE}\" y=\"{right}\">right blocks (plane 1)</text>\n\
+         <text class=\"note\" x=\"16\" y=\"{left}\">left blocks</text>\
+         <text class=\"note\" x=\"16\" y=\"{plane}\">(plane 0)</text>\n"
+    )
+}
+
 // Appends the numbers of the right blocks and their prices, above the rows.
 fn push_heads(text: &mut String, measures: Measures, solved: &Solved) -> Result<(), AllocError> {
     let (number, amount) = (HEAD - 28, HEAD - 8);
@@ -100,6 +112,7 @@ pub fn push_table(
     measures: Measures,
     solved: &Solved,
 ) -> Result<(), AllocError> {
+    push_sides(text)?;
     push_heads(text, measures, solved)?;
     for left in 0..solved.size {
         push_row(text, measures, solved, left)?;
