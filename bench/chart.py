@@ -1,4 +1,4 @@
-"""Draws the ratios of the calls by class as an SVG picture."""
+"""Draws the ratios of the calls by class as an SVG picture, with a mark at each aim."""
 
 STYLE = """
   .back { fill: #ffffff } .text { fill: #1f2328 } .small { fill: #59636e }
@@ -12,6 +12,8 @@ STYLE = """
   text { font-family: sans-serif }
 """
 LEFT, PANEL, GAP, TOP, ROW, BAR, RIGHT = 170, 210, 34, 92, 24, 15, 20
+# How wide the number at a bar is, and how far it stays from the bar's end and from an aim.
+LABEL, SPACE = 27, 4
 
 
 class Picture:
@@ -33,6 +35,32 @@ class Picture:
                           % (style, x, y, width, height))
 
 
+def label_at(x, end, aim):
+    """Where the number of a bar from x to `end` begins: within the bar at its end, or behind it, or
+    before or behind the aim, whichever first has the room and does not cross the mark there."""
+    places = [end - SPACE - LABEL, end + SPACE]
+    if aim is not None:
+        places += [aim - SPACE - LABEL, aim + SPACE]
+    for at in places:
+        crosses = aim is not None and at - SPACE < aim < at + LABEL + SPACE
+        meets_end = at < end < at + LABEL
+        if at >= x and not crosses and not meets_end:
+            return at
+    return end + SPACE
+
+
+def draw_bar(picture, x, y, unit, most, bar):
+    """The bar of a class, its number, and a mark at its aim. `bar`: a ratio, and an aim or none."""
+    ratio, aim = bar
+    style = "open" if aim is None else "met" if ratio <= aim else "missed"
+    end, mark = x + min(ratio, most) * unit, None if aim is None else x + aim * unit
+    picture.bar(x, y, end - x, style)
+    picture.text(label_at(x, end, mark), y + BAR - 3,
+                 "%.2f" % ratio + (" →" if ratio > most else ""), 11)
+    if mark is not None:
+        picture.line(mark, y - 3, mark, y + BAR + 3, "aim", 2)
+
+
 def draw_panel(picture, x, call, bars, most):
     """One call: a bar for each class, and a mark at its aim. `bars`: ratios and aims, by class."""
     bottom, unit = TOP + ROW * len(bars), PANEL / most
@@ -42,17 +70,10 @@ def draw_panel(picture, x, call, bars, most):
         at = x + k / 2 * unit
         picture.line(at, TOP, at, bottom, "one" if k == 2 else "grid")
         picture.text(at, bottom + 16, "%g" % (k / 2), 11, "middle", "small")
-    picture.text(x + PANEL / 2, bottom + 34, "time to that of the C++ job", 11, "middle", "small")
-    for k, (ratio, aim) in enumerate(bars):
-        y = TOP + ROW * k + (ROW - BAR) / 2
-        style = "open" if aim is None else "met" if ratio <= aim else "missed"
-        picture.bar(x, y, min(ratio, most) * unit, style)
-        inside = ratio > most * 0.82
-        picture.text(x + min(ratio, most) * unit + (-4 if inside else 4), y + BAR - 3,
-                     "%.2f" % ratio + (" →" if ratio > most else ""), 11,
-                     "end" if inside else "start")
-        if aim is not None:
-            picture.line(x + aim * unit, y - 3, x + aim * unit, y + BAR + 3, "aim", 2)
+    picture.text(x + PANEL / 2, bottom + 34, "time, in units of the C++ job", 11, "middle",
+                 "small")
+    for k, bar in enumerate(bars):
+        draw_bar(picture, x, TOP + ROW * k + (ROW - BAR) / 2, unit, most, bar)
 
 
 def draw_legend(picture):

@@ -1,11 +1,12 @@
-"""Measures all calls on all classes of sheets, says which aims are missed, and writes the table and
-the chart.
+"""Measures all calls on all classes of sheets, says which aims are missed, and writes the tables
+and the chart.
 
     report.py FOLDER [--rounds N] [--sheets N] [--page]
 
-FOLDER holds the program `measure`; the numbers go to FOLDER/numbers.tsv and the table to
-FOLDER/table.md. With --page the table is put into docs/benchmarks.md too. The status is 1 if an aim
-is missed. Run it at the top of the repository, by bench/run.
+FOLDER holds the program `measure`; the numbers go to FOLDER/numbers.tsv and the table of them to
+FOLDER/table.md. With --page all that is told of them is put into docs/benchmarks.md too: how the
+calls stand beside their aims, where others are faster, the table, and what was measured before. The
+status is 1 if an aim is missed. Run it at the top of the repository, by bench/run.
 """
 import argparse
 import csv
@@ -31,9 +32,19 @@ WORST_AIM = 3
 PLAIN_AIM = 1.0
 FREE_AIM = 0.04
 
-COLUMNS = ("call", "class", "µs before", "µs now", "C++ µs", "ratio before", "ratio now", "aim",
-           "instr. before", "instr. now", "C++ instr.", "two-step", "growth", "scipy µs",
-           "LEMON µs")
+# What has an aim.
+BESIDE_CPP = "time to that of the C++ job"
+TWO_STEP = "two-step costs to plain ones"
+GROWTH = "growth with the number of blocks"
+AS_FAST = "settling to the assignment alone by %s"
+SLOWEST = "settling on the slowest class to random costs"
+PLAIN = "settling to the plain assignment in C++"
+FREE = "a step of the walk without costs to the same"
+
+COLUMNS = ("call", "class", "µs", "C++ µs", "ratio", "aim", "two-step", "growth", "scipy µs",
+           "LEMON µs", "instr.", "C++ instr.")
+BEFORE_COLUMNS = ("call", "class", "µs before", "µs", "ratio before", "ratio", "instr. before",
+                  "instr.")
 
 
 class Numbers:
@@ -88,19 +99,25 @@ def aim_of(call, name):
 
 
 class Judge:
-    """Shows numbers, in bold those that miss their aim, and keeps what was missed."""
+    """Shows numbers, in bold those that miss their aim, and keeps what was missed. Of each kind of
+    aim it counts how often it was asked for and how often met."""
 
     def __init__(self):
-        self.missed = []
+        self.missed, self.kinds = [], {}
 
-    def show(self, what, value, aim, form="%.2f", below=False):
+    def show(self, kind, what, value, aim, form="%.2f", below=False):
         if value is None:
             return "–"
         text = form % value
-        if aim is None or value < aim or value == aim and not below:
+        if aim is None:
+            return text
+        met = value < aim or value == aim and not below
+        asked, kept = self.kinds.get(kind, (0, 0))
+        self.kinds[kind] = asked + 1, kept + met
+        if met:
             return text
         limit = ("below " if below else "at most ") + form % aim
-        self.missed.append("%s: %s, wanted %s" % (what, text, limit))
+        self.missed.append("%s%s: %s, wanted %s" % (what, kind, text, limit))
         return "**%s**" % text
 
 
@@ -112,18 +129,14 @@ def count_text(value):
     return "–" if value is None else format(round(value), ",")
 
 
-def measured(now, before, name, call, judge):
-    """The columns that each row has: times, ratios, the aim, instructions."""
-    aim = aim_of(call, name)
-    old = before.ratio(name, call)
-    return [
-        time_text(before.time(name, call)), time_text(now.time(name, call)),
-        time_text(now.time(name, call + ".cpp")), "–" if old is None else "%.2f" % old,
-        judge.show("%s, %s, to C++" % (call, CLASSES.get(name, "largest order file")),
-                   now.ratio(name, call), aim),
-        "" if aim is None else "%.1f" % aim, count_text(before.count(name, call)),
-        count_text(now.count(name, call)), count_text(now.count(name, call + ".cpp")),
-    ]
+def calls():
+    """Each row of the tables: a call, its class of sheets, and the name of that class."""
+    rows = [(call, name, title) for call in CALLS for name, title in CLASSES.items()]
+    return rows + [(call, "file", "largest order file") for call in ("load", "save")]
+
+
+def ratio_text(value):
+    return "–" if value is None else "%.2f" % value
 
 
 def solver_cells(now, name, judge):
@@ -131,26 +144,37 @@ def solver_cells(now, name, judge):
     cells = []
     for solver, title in (("scipy", "scipy"), ("lemon", "LEMON")):
         other, settle = now.time(name, solver), now.time(name, "settle")
-        slower = judge.show("settle, %s, to the assignment alone by %s" % (CLASSES[name], title),
+        slower = judge.show(AS_FAST % title, "settle, %s, " % CLASSES[name],
                             divided(settle, other), 1, below=True).startswith("**")
         cells.append("**%s**" % time_text(other) if slower else time_text(other))
     return cells
 
 
-def rows(now, before, judge):
-    found = []
-    for call in CALLS:
-        for name, title in CLASSES.items():
-            where = "%s, %s, " % (call, title)
-            found.append([call, title] + measured(now, before, name, call, judge) + [
-                judge.show(where + "two-step to plain", now.two_step(name, call), TWO_STEP_AIM),
-                judge.show(where + "growth", now.growth(name, call), GROWTH_AIMS[call],
-                           below=True),
-            ] + (solver_cells(now, name, judge) if call == "settle" else ["", ""]))
-    for call in ("load", "save"):
-        found.append([call, "largest order file"] + measured(now, before, "file", call, judge)
-                     + [""] * 4)
-    return found
+def row(now, judge, call, name, title):
+    """What is told of a call on a class: times, the aims, what others take, instructions."""
+    where, aim = "%s, %s, " % (call, title), aim_of(call, name)
+    cells = [
+        call, title, time_text(now.time(name, call)), time_text(now.time(name, call + ".cpp")),
+        judge.show(BESIDE_CPP, where, now.ratio(name, call), aim),
+        "" if aim is None else "%.1f" % aim,
+    ]
+    if name == "file":
+        cells += [""] * 4
+    else:
+        cells += [
+            judge.show(TWO_STEP, where, now.two_step(name, call), TWO_STEP_AIM),
+            judge.show(GROWTH, where, now.growth(name, call), GROWTH_AIMS[call], below=True),
+        ] + (solver_cells(now, name, judge) if call == "settle" else ["", ""])
+    return cells + [count_text(now.count(name, call)), count_text(now.count(name, call + ".cpp"))]
+
+
+def row_before(now, before, call, name, title):
+    """What a call took before, beside what it takes."""
+    return [
+        call, title, time_text(before.time(name, call)), time_text(now.time(name, call)),
+        ratio_text(before.ratio(name, call)), ratio_text(now.ratio(name, call)),
+        count_text(before.count(name, call)), count_text(now.count(name, call)),
+    ]
 
 
 def markdown(header, lines):
@@ -168,14 +192,32 @@ def other_aims(now, judge):
     plain = now.time("random", "assign")
     return "\n".join([
         "- settling on the slowest class, %s, to settling on random costs: %s (at most %d)"
-        % (CLASSES[worst], judge.show("worst class to random", now.time(worst, "settle") / random,
-                                      WORST_AIM), WORST_AIM),
+        % (CLASSES[worst], judge.show(SLOWEST, "", now.time(worst, "settle") / random, WORST_AIM),
+           WORST_AIM),
         "- settling to the plain assignment in C++, on random costs: %s (at most %.1f)"
-        % (judge.show("settle to the plain assignment", random / plain, PLAIN_AIM), PLAIN_AIM),
+        % (judge.show(PLAIN, "", random / plain, PLAIN_AIM), PLAIN_AIM),
         "- a step of the walk without costs to the same: %s (at most %.2f)"
-        % (judge.show("walk without costs", now.time("free", "next") / plain, FREE_AIM, "%.4f"),
-           FREE_AIM),
+        % (judge.show(FREE, "", now.time("free", "next") / plain, FREE_AIM, "%.4f"), FREE_AIM),
     ])
+
+
+def span(ratios):
+    """The least and the greatest of some ratios, in words."""
+    texts = sorted({"%.2f" % ratio for ratio in ratios if ratio is not None}, key=float)
+    return " to ".join(texts[:1] + texts[1:][-1:])
+
+
+def standing_text(now, judge):
+    """How the calls stand: how long they take beside the C++ job, and which aims are met."""
+    ratios = {}
+    for call, name, _ in calls():
+        ratios.setdefault(call, []).append(now.ratio(name, call))
+    told = ["`%s` %s" % (call, span(found)) for call, found in ratios.items()]
+    lines = [[kind, str(asked), str(met), "**%d**" % (asked - met) if met < asked else "0"]
+             for kind, (asked, met) in judge.kinds.items()]
+    return (wrapped("Where the C++ job takes 1, from the fastest class of sheets to the slowest: "
+                    + ", ".join(told) + ".") + "\n\n"
+            + markdown(["what has an aim", "aims", "met", "missed"], lines))
 
 
 def slower_text(now):
@@ -199,6 +241,16 @@ def wrapped(text, width=100):
             lines.append("")
         lines[-1] = (lines[-1] + " " + word).strip()
     return "\n".join(lines)
+
+
+def page_parts(now, before):
+    """The parts of the page that tell numbers, each by its mark, and the judge of the aims."""
+    judge = Judge()
+    table = markdown(list(COLUMNS), [row(now, judge, *call) for call in calls()])
+    table += "\n\n" + other_aims(now, judge)
+    earlier = markdown(list(BEFORE_COLUMNS), [row_before(now, before, *call) for call in calls()])
+    return {"standing": standing_text(now, judge), "slower": wrapped(slower_text(now)),
+            "table": table, "before": earlier}, judge
 
 
 def put_into_page(parts):
@@ -232,15 +284,15 @@ def main():
     command = [os.path.join(chosen.folder, "measure")]
     times = measuring.times(command, chosen.folder, chosen.rounds, chosen.sheets)
     counts = measuring.instructions(command, chosen.folder) if shutil.which("valgrind") else {}
-    now, before, judge = Numbers(times, counts), Numbers.read(BEFORE), Judge()
+    now, before = Numbers(times, counts), Numbers.read(BEFORE)
     now.write(os.path.join(chosen.folder, "numbers.tsv"))
-    table = markdown(list(COLUMNS), rows(now, before, judge)) + "\n\n" + other_aims(now, judge)
+    parts, judge = page_parts(now, before)
     with open(os.path.join(chosen.folder, "table.md"), "w") as file:
-        file.write(table + "\n")
+        file.write(parts["table"] + "\n")
     draw(now)
     if chosen.page:
-        put_into_page({"slower": wrapped(slower_text(now)), "table": table})
-    print(table + "\n\n" + slower_text(now))
+        put_into_page(parts)
+    print(parts["table"] + "\n\n" + parts["standing"] + "\n\n" + parts["slower"])
     for line in judge.missed:
         print("missed: " + line)
     print("%d aims missed" % len(judge.missed))
