@@ -11,12 +11,11 @@ many files in one run; it also makes calls that a listing does not make. --write
 FOLDER/K.order and the expected text as FOLDER/K.txt. What differs is kept in target/listings, and
 then the status is 1.
 
-It shares nothing with the crates. What a file states is read by tools/order_files.py, which is
-written from docs/order-files.md alone. Up to 8 blocks a plane all pairings are gone through and the
-cheapest kept. Beyond that an optimum pairing, and prices that prove it, come from
-tools/assignments.py, which exchanges along negative cycles; the optimum pairings are the perfect
-ones over the tight pairs, and these are found from left block to left block, with a test at each
-whether the rest can still be paired.
+It shares nothing with the crates. What a file states is read by tools/order_files.py. Up to 8
+blocks a plane all pairings are gone through and the cheapest kept. Beyond that an optimum pairing,
+and prices that prove it, come from tools/assignments.py, which exchanges along negative cycles; the
+optimum pairings are the perfect ones over the tight pairs, and these are found from left block to
+left block, with a test at each whether the rest can still be paired.
 """
 import argparse
 import itertools

@@ -2,8 +2,8 @@
 """Makes the files of crates/orderfile_trial, order files, sound and damaged, and what each one
 states, and the input of crates/inspect_trial, which is longer than what is read of it.
 
-Run in the repository's root. It is written from docs/order-files.md alone and shares nothing with
-the crates, so the comparison in the gate is one of two independent readers.
+Run in the repository's root. It is written from docs/order-files.md and docs/refusals.md alone and
+shares nothing with the crates, so the comparison in the gate is one of two independent readers.
 """
 import random
 import struct

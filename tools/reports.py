@@ -2,9 +2,9 @@
 """Makes the files of crates/report_trial: order files, and the listing and the map of each; and
 those of crates/inspect_map_trial: a sample without a perfect pairing, and its map.
 
-Run in the repository's root. It is written from docs/order-files.md alone, and finds optimum
-pairings by going through all perfect ones and the crowd set by its definition, so the comparison in
-the gate is with plain enumeration.
+Run in the repository's root. It is written from docs/order-files.md and docs/refusals.md alone, and
+finds optimum pairings by going through all perfect ones and the crowd set by its definition, so the
+comparison in the gate is with plain enumeration.
 """
 import itertools
 import random

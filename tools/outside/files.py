@@ -7,7 +7,7 @@ calls for C.
 `few` are for a run under memcheck, which takes some fifty times as long as the calls alone, and
 `many` for the others. A record is the length of the file in four bytes, high byte first, the file,
 and in one byte the number of its first fault, or 0 where it has none. That number comes from
-tools/order_files.py, which is written from docs/order-files.md alone.
+tools/order_files.py, which shares nothing with the crates.
 """
 import argparse
 import itertools
