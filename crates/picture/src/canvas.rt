@@ -13,10 +13,13 @@ use std::alloc::{AllocError, Global};
 pub const ROW: u64 = 26;
 /// What stands above the first row.
 pub const HEAD: u64 = 108;
-/// What stands to the left of the first column.
+/// What stands to the left of the first column, or more where a left price is long.
 pub const SIDE: u64 = 96;
 /// The width of a ladder with the space beside it.
 pub const LADDER: u64 = 110;
+
+// What the numbers of the left blocks take of the side.
+const NUMBERS: u64 = 36;
 
 // The height of the legend, with the space around it.
 const FOOT: u64 = 78;
@@ -43,22 +46,43 @@ text { font: 13px sans-serif; fill: #24292f; text-anchor: middle }
 </style>
 ";
 
-/// The measures of a picture: how wide a column of its table is, and where things stand.
+// How wide the longest of some numbers is, of two digits at least.
+fn widest(heap: Global, numbers: &[Plain]) -> Result<u64, AllocError> {
+    let mut longest = 2;
+    for Plain(number) in numbers {
+        longest = longest.max(format!(in heap; "{number}")?.len());
+    }
+    Ok((longest as u64).saturating_mul(9))
+}
+
+/// The measures of a picture: how wide its side and a column of its table are, and where things
+/// stand.
 #[derive(Clone, Copy, Drop)]
 pub struct Measures {
+    side: u64,
     column: u64,
 }
 
 impl Measures {
     /// Measures that leave room for the longest number of a sheet.
     fn of(heap: Global, solved: &Solved) -> Result<Measures, AllocError> {
-        let mut longest = 2;
-        for Plain(number) in solved.costs.iter().chain(&solved.right) {
-            longest = longest.max(format!(in heap; "{number}")?.len());
-        }
+        let left = widest(heap, solved.left.as_slice())?;
+        let right = widest(heap, solved.right.as_slice())?;
+        let cost = widest(heap, solved.costs.as_slice())?;
         Ok(Measures {
-            column: (longest as u64).saturating_mul(9).saturating_add(16),
+            side: left.saturating_add(NUMBERS + 16).max(SIDE),
+            column: right.max(cost).saturating_add(16),
         })
+    }
+
+    /// Where the table begins.
+    pub fn side(&self) -> u64 {
+        self.side
+    }
+
+    /// The middle of the left prices.
+    pub fn price(&self) -> u64 {
+        self.side.saturating_add(NUMBERS) / 2
     }
 
     /// The width of a column of the table.
@@ -70,7 +94,7 @@ impl Measures {
     pub fn across(&self, right: u16) -> u64 {
         self.column
             .saturating_mul(right as u64)
-            .saturating_add(SIDE)
+            .saturating_add(self.side)
     }
 
     /// The middle of the column of a right block.

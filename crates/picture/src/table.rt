@@ -1,7 +1,7 @@
 //! The table of a picture: a cell for each pair, the numbers of the blocks, their planes and their
 //! prices.
 
-use crate::canvas::{HEAD, Measures, ROW, SIDE, down};
+use crate::canvas::{HEAD, Measures, ROW, down};
 use crate::solved::Solved;
 use cost::Plain;
 use std::alloc::AllocError;
@@ -64,7 +64,7 @@ fn push_row(
         "<text class=\"head\" x=\"28\" y=\"{base}\">{left}</text>"
     )?;
     if let Some(Plain(price)) = solved.left.get(left as usize) {
-        let x = SIDE - 30;
+        let x = measures.price();
         write!(
             text,
             "<text class=\"price\" x=\"{x}\" y=\"{base}\">{price}</text>\n"
@@ -77,11 +77,12 @@ fn push_row(
 }
 
 // Appends which blocks have the columns and which the rows.
-fn push_sides(text: &mut String) -> Result<(), AllocError> {
+fn push_sides(text: &mut String, measures: Measures) -> Result<(), AllocError> {
+    let side = measures.side();
     let (right, left, plane) = (HEAD - 54, HEAD - 32, HEAD - 14);
     write!(
         text,
-        "<text class=\"note\" x=\"{SIDE}\" y=\"{right}\">right blocks (plane 1)</text>\n\
+        "<text class=\"note\" x=\"{side}\" y=\"{right}\">right blocks (plane 1)</text>\n\
          <text class=\"note\" x=\"16\" y=\"{left}\">left blocks</text>\
          <text class=\"note\" x=\"16\" y=\"{plane}\">(plane 0)</text>\n"
     )
@@ -112,7 +113,7 @@ pub fn push_table(
     measures: Measures,
     solved: &Solved,
 ) -> Result<(), AllocError> {
-    push_sides(text)?;
+    push_sides(text, measures)?;
     push_heads(text, measures, solved)?;
     for left in 0..solved.size {
         push_row(text, measures, solved, left)?;
