@@ -1,6 +1,7 @@
 -- Alternating chains: steps from a block to another by a standing pair, and on by a pair of the
 -- pairing. Exchanging the two kinds of pairs along a chain makes another pairing.
 use Rattle.std.specs.Prelude.{◌≡◌, ℕ, ◌<◌, ◌≤◌, Bool, true, false, List}
+use Rattle.pairing.specs.Places.{rights_of}
 use Rattle.pairing.specs.Grid.{at, Perfect}
 
 -- ---- From the left blocks that a pairing leaves out
@@ -19,7 +20,7 @@ Held n p out r = (l : ℕ) × (l < n) × (out l ≡ false) × (at p l ≡ r)
 -- no chain from a left block that is left out ends at a right block that is free: there is no
 -- augmenting path
 abbrev pub Stuck : (n : ℕ) (stands : ℕ → ℕ → Bool) (p : List ℕ) (out : ℕ → Bool) → Type 0
-Stuck n stands p out = (l r : ℕ) → Reached n stands p out l → r < n → stands l r ≡ true
+Stuck n stands p out = (l r : ℕ) → Reached n stands p out l → r < rights_of n → stands l r ≡ true
     → Held n p out r
 
 -- ---- Over a perfect pairing of tight pairs
@@ -42,8 +43,10 @@ Sends n k tight p l r = (q : List ℕ) × Perfect n tight q × Agree k p q × (a
 
 -- a set of right blocks that no step leaves
 abbrev pub Closed : (n : ℕ) (tight : ℕ → ℕ → Bool) (p : List ℕ) → (ℕ → Bool) → Type 0
-Closed n tight p C = (l r : ℕ) → l < n → r < n → C (at p l) ≡ true → tight l r ≡ true → C r ≡ true
+Closed n tight p C = (l r : ℕ) → l < n → r < rights_of n → C (at p l) ≡ true → tight l r ≡ true
+    → C r ≡ true
 
 -- a set Y that has each right block that stands with any left block of X
 abbrev pub Shut : (n : ℕ) (stands : ℕ → ℕ → Bool) → (X Y : ℕ → Bool) → Type 0
-Shut n stands X Y = (l r : ℕ) → l < n → r < n → X l ≡ true → stands l r ≡ true → Y r ≡ true
+Shut n stands X Y = (l r : ℕ) → l < n → r < rights_of n → X l ≡ true → stands l r ≡ true
+    → Y r ≡ true

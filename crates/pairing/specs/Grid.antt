@@ -5,6 +5,7 @@ use Rattle.std.specs.declared.cmp.Ordering.TheVariants.{Greater}
 use Rattle.cost.specs.declared.TheConstants.{COST_LIMIT}
 use Rattle.blockset.specs.declared.TheConstants.{MOST_BLOCKS}
 use Rattle.cost.specs.Columns.{Within, zeros, plus, lex}
+use Rattle.pairing.specs.Places.{rights_of}
 
 -- `size` left blocks and as many right blocks, both numbered from 0: which pairs of a left and a
 -- right block stand, how many columns a cost has, and the columns of the cost of each standing
@@ -15,13 +16,17 @@ pub record Grid : Type 0 where
   pub stands : ℕ → ℕ → Bool
   pub cost : ℕ → ℕ → List ℤ
 
+-- how many right blocks a grid has
+abbrev pub right_count : Grid → ℕ
+right_count g = rights_of g.size
+
 -- what entering a cost grants: few blocks, and at each standing pair a cost of the grid's columns,
 -- each within `COST_LIMIT`
 pub record Sane (g : Grid) : Type 0 where
   pub few : g.size ≤ MOST_BLOCKS
-  pub sized : (l r : ℕ) → l < g.size → r < g.size → g.stands l r ≡ true
+  pub sized : (l r : ℕ) → l < g.size → r < right_count g → g.stands l r ≡ true
       → length (g.cost l r) ≡ g.columns
-  pub small : (l r : ℕ) → l < g.size → r < g.size → g.stands l r ≡ true
+  pub small : (l r : ℕ) → l < g.size → r < right_count g → g.stands l r ≡ true
       → Within COST_LIMIT (g.cost l r)
 
 -- the numbers below n: the n blocks of a side
@@ -36,7 +41,7 @@ at p l = slice_index p l
 -- each of n left blocks has a right block that it stands with, and no right block comes twice
 pub record Perfect (n : ℕ) (stands : ℕ → ℕ → Bool) (p : List ℕ) : Type 0 where
   pub len : length p ≡ n
-  pub below : (l : ℕ) → l < n → at p l < n
+  pub below : (l : ℕ) → l < n → at p l < rights_of n
   pub standing : (l : ℕ) → l < n → stands l (at p l) ≡ true
   pub once : (l m : ℕ) → l < n → m < n → at p l ≡ at p m → l ≡ m
 

@@ -3,13 +3,14 @@ use Rattle.std.specs.Prelude.{◌≡◌, ℕ, ◌-◌, ◌<◌, ◌≤◌, Bool,
 use Rattle.std.specs.Prelude.{IsTrue, ◌↔◌}
 use Rattle.std.specs.List.{list_any}
 use Rattle.blockset.specs.Sets.{members, bit}
+use Rattle.pairing.specs.Places.{rights_of}
 use Rattle.pairing.specs.Grid.{numbers, at, Perfect}
 
 -- a set of standing pairs in which no block comes twice: p gives each left block that is not in
 -- `out` its right block
 pub record Partial (n : ℕ) (stands : ℕ → ℕ → Bool) (p : List ℕ) (out : ℕ → Bool) : Type 0 where
   pub len : length p ≡ n
-  pub below : (l : ℕ) → l < n → out l ≡ false → at p l < n
+  pub below : (l : ℕ) → l < n → out l ≡ false → at p l < rights_of n
   pub standing : (l : ℕ) → l < n → out l ≡ false → stands l (at p l) ≡ true
   pub once : (l m : ℕ) → l < n → m < n → out l ≡ false → out m ≡ false → at p l ≡ at p m → l ≡ m
 
@@ -40,7 +41,7 @@ around n stands X r = list_any (λ l. X l && stands l r) (numbers n)
 
 -- how many more left blocks a set has than right blocks stand with any of them
 abbrev pub shortage : ℕ → (ℕ → ℕ → Bool) → (ℕ → Bool) → ℕ
-shortage n stands X = members n X - members n (around n stands X)
+shortage n stands X = members n X - members (rights_of n) (around n stands X)
 
 -- no pairing is perfect; these are the crowd set, as one number, and its shortage
 pub record Unpaired (n : ℕ) (stands : ℕ → ℕ → Bool) (crowd short : ℕ) : Type 0 where

@@ -5,6 +5,7 @@ use Rattle.std.specs.Prelude.{filter, ◌==◌, nat_lt}
 use Rattle.std.specs.List.{flat_map, list_any, list_all}
 use Rattle.std.specs.Ordering.{is_le}
 use Rattle.cost.specs.Columns.{lex}
+use Rattle.pairing.specs.Places.{rights_of}
 use Rattle.pairing.specs.Grid.{Grid, numbers, at, Perfect, total, Optimum}
 
 -- dictionary order: p comes before q if at the first place where they differ p has the smaller
@@ -29,7 +30,7 @@ is_perfect n stands p = list_all (λ l. stands l (at p l)
 
 -- the perfect pairings
 abbrev pub perfects : ℕ → (ℕ → ℕ → Bool) → List (List ℕ)
-perfects n stands = filter (is_perfect n stands) (lists n n)
+perfects n stands = filter (is_perfect n stands) (lists (rights_of n) n)
 
 -- the test that xs is at most ys
 abbrev pub is_upto : List ℤ → List ℤ → Bool

@@ -2,7 +2,7 @@
 use Rattle.std.specs.Prelude.{◌≡◌, ℕ, ◌<◌, true, List, length, ℤ}
 use Rattle.cost.specs.declared.TheConstants.{RAIL}
 use Rattle.cost.specs.Columns.{Within, zeros, plus}
-use Rattle.pairing.specs.Grid.{Grid, at, Upto}
+use Rattle.pairing.specs.Grid.{Grid, right_count, at, Upto}
 
 -- what a value of a cost kind means: so many columns, each on the rail from -`RAIL` to `RAIL`
 pub record Value (columns : ℕ) (xs : List ℤ) : Type 0 where
@@ -21,14 +21,14 @@ Tight g left right p = (l : ℕ) → l < g.size → TightPair g left right l (at
 -- feasible, and tight at p)
 pub record Valid (g : Grid) (left right : ℕ → List ℤ) (p : List ℕ) : Type 0 where
   pub lefts : (l : ℕ) → l < g.size → Value g.columns (left l)
-  pub rights : (r : ℕ) → r < g.size → Value g.columns (right r)
-  pub under : (l r : ℕ) → l < g.size → r < g.size → g.stands l r ≡ true
+  pub rights : (r : ℕ) → r < right_count g → Value g.columns (right r)
+  pub under : (l r : ℕ) → l < g.size → r < right_count g → g.stands l r ≡ true
       → Upto (plus (left l) (right r)) (g.cost l r)
   pub equal : Tight g left right p
 
 -- no right price is above zero
 abbrev pub Low : Grid → (right : ℕ → List ℤ) → Type 0
-Low g right = (r : ℕ) → r < g.size → Upto (right r) (zeros g.columns)
+Low g right = (r : ℕ) → r < right_count g → Upto (right r) (zeros g.columns)
 
 -- valid prices, no right price above zero, whose right prices are at least those of all other such
 -- prices, at each right block
@@ -36,4 +36,4 @@ pub record Greatest (g : Grid) (left right : ℕ → List ℤ) (p : List ℕ) : 
   pub valid : Valid g left right p
   pub low : Low g right
   pub most : (left' right' : ℕ → List ℤ) → Valid g left' right' p → Low g right' → (r : ℕ)
-      → r < g.size → Upto (right' r) (right r)
+      → r < right_count g → Upto (right' r) (right r)

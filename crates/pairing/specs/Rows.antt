@@ -2,8 +2,13 @@
 use Rattle.std.specs.Prelude.{ℕ, Bool, List, length, slice_index_or}
 use Rattle.blockset.specs.declared.BlockSet.{BlockSet}
 use Rattle.blockset.specs.Has.{no_blocks, has}
+use Rattle.pairing.specs.Places.{rights_of}
 use Rattle.pairing.specs.Grid.{Perfect}
 use Rattle.pairing.specs.Optima.{perfects}
+
+-- how many right blocks there are for the rows
+abbrev pub rights_in : List BlockSet → ℕ
+rights_in rows = rights_of (length rows)
 
 -- row l holds right block r
 abbrev pub holds : List BlockSet → ℕ → ℕ → Bool

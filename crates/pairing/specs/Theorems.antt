@@ -4,6 +4,7 @@ use Rattle.std.specs.Prelude.{◌≡◌, ℕ, ◌+◌, ◌-◌, ◌<◌, ◌≤�
 use Rattle.std.specs.Prelude.{[], ℤ, IsTrue, ◌≢◌, Contains, AllPairs, length, nat_lt}
 use Rattle.std.specs.declared.cmp.Ordering.{Ordering}
 use Rattle.cost.specs.Columns.{minus, lex}
+use Rattle.pairing.specs.Places.{rights_of}
 use Rattle.pairing.specs.Grid.{Grid, Sane, at, Perfect, PerfectIn, total, Optimum}
 use Rattle.pairing.specs.Prices.{Valid, Tight, Greatest}
 use Rattle.blockset.specs.Sets.{members}
@@ -79,7 +80,7 @@ pub record GivenAlike (given given' : Bool) : Type 0 where
 pub record LeavesOut (many few least : ℕ) : Type 0 where
   pub is : least ≡ many - few
   pub bound : (n : ℕ) (stands : ℕ → ℕ → Bool) (X Y : ℕ → Bool) → Shut n stands X Y
-      → members n X ≡ many → members n Y ≡ few
+      → members n X ≡ many → members (rights_of n) Y ≡ few
       → (p : List ℕ) (out : ℕ → Bool) → Partial n stands p out
       → (least ≤ members n (λ l. X l && out l)) × (pairs n out + least ≤ n)
 
@@ -88,10 +89,10 @@ pub record LeavesOut (many few least : ℕ) : Type 0 where
 pub record Hall (many few : ℕ) (possible : Bool) : Type 0 where
   pub is : IsTrue possible ↔ (many ≤ few)
   pub needed : (n : ℕ) (stands : ℕ → ℕ → Bool) (X Y : ℕ → Bool) → Shut n stands X Y
-      → members n X ≡ many → members n Y ≡ few
+      → members n X ≡ many → members (rights_of n) Y ≡ few
       → possible ≡ false → (p : List ℕ) → Perfect n stands p → ⊥
   pub enough : (n : ℕ) (stands : ℕ → ℕ → Bool)
-      → ((X : ℕ → Bool) → members n X ≤ members n (around n stands X)) → (p : List ℕ)
+      → ((X : ℕ → Bool) → members n X ≤ members (rights_of n) (around n stands X)) → (p : List ℕ)
       × Perfect n stands p
 
 -- ---- Largest pairings
@@ -122,7 +123,8 @@ abbrev pub ShortBy : (left_out short : ℕ) → Type 0
 ShortBy left_out short =
     (n : ℕ) (stands : ℕ → ℕ → Bool) (p : List ℕ) (out X : ℕ → Bool) → Largest n stands p out
     → members n out ≡ left_out → CrowdSet n stands X
-    → (shortage n stands X ≡ short) × (members n X ≡ members n (around n stands X) + short)
+    → (shortage n stands X ≡ short)
+    × (members n X ≡ members (rights_of n) (around n stands X) + short)
     × ((short ≡ 0) ↔ ((q : List ℕ) × Perfect n stands q))
 
 -- ---- Exchange along a chain
@@ -133,7 +135,7 @@ ShortBy left_out short =
 abbrev pub SendsIfChain : (chain sends : Bool) → Type 0
 SendsIfChain chain sends =
     (n k : ℕ) (tight : ℕ → ℕ → Bool) (p : List ℕ) → Perfect n tight p → (l r : ℕ) → k ≤ l → l < n
-    → r < n
+    → r < rights_of n
     → (((tight l r ≡ true) × Chain n k tight p r (at p l)) ↔ Sends n k tight p l r)
     × ((IsTrue chain ↔ ((tight l r ≡ true) × Chain n k tight p r (at p l)))
     → (IsTrue sends ↔ Sends n k tight p l r))
