@@ -10,7 +10,7 @@ use Rattle.std.proofs.lemmas.Int.{ints}
 use Rattle.std.proofs.lemmas.Bool.{cond_both, cond-true, cond-false}
 use Rattle.std.specs.Ordering.{ordering_reverse}
 use Rattle.cost.specs.Columns.{plus, lex}
-use Rattle.cost.specs.Laws.{Mirrored, EqualIsSame, Chained, Shifted}
+use Rattle.cost.specs.Laws.{OrderMirrors, EqualIsSame, OrderChains, OrderShifts}
 
 -- what first columns x and y make of the order of the rest
 abbrev pub headed : ℤ → ℤ → Ordering → Ordering
@@ -43,7 +43,7 @@ head_same x y rest e =
     let g : lt_z y x ≡ false = grind (arith, ints) in
     cond-false (lt_z x y) _ _ f ∙ cond-false (lt_z y x) _ _ g
 
-pub lex_mirror : (xs ys : List ℤ) → length xs ≡ length ys → lex ys xs ≡ ordering_reverse (lex xs ys)
+pub lex_mirror : OrderMirrors
 lex_mirror [] [] e = refl
 lex_mirror [] (y ∷ ys) e = absurd (omega arith)
 lex_mirror (x ∷ xs) [] e = absurd (omega arith)
@@ -100,21 +100,17 @@ less_chain (x ∷ xs) (y ∷ ys) (z ∷ zs) e f h k =
       | above _ o ↦ absurd (never _ h o)
     ]
 
-pub mirrored : (order : Ordering) → Mirrored order (ordering_reverse order)
-mirrored order xs ys e h = lex_mirror xs ys e ∙ ap ordering_reverse h
-
-pub chained : (order : Ordering) → Chained order order
-chained Less xs ys zs e f h k = less_chain xs ys zs e f h k
-chained Equal xs ys zs e f h k = ap (λ t. lex t zs) (lex_same xs ys e h) ∙ k
-chained Greater xs ys zs e f h k =
+pub lex_chain : OrderChains
+lex_chain Less xs ys zs e f h k = less_chain xs ys zs e f h k
+lex_chain Equal xs ys zs e f h k = ap (λ t. lex t zs) (lex_same xs ys e h) ∙ k
+lex_chain Greater xs ys zs e f h k =
     lex_mirror zs xs (sym (e ∙ f))
     ∙ ap ordering_reverse
     (less_chain zs ys xs (sym f) (sym e) (lex_mirror ys zs f ∙ ap ordering_reverse k)
     (lex_mirror xs ys e ∙ ap ordering_reverse h))
 
 -- the same added to both sides changes no comparison of first columns
-lex_shift : (xs ys zs : List ℤ) → length xs ≡ length ys → length ys ≡ length zs
-    → lex (plus xs zs) (plus ys zs) ≡ lex xs ys
+pub lex_shift : OrderShifts
 lex_shift [] ys zs e f = refl
 lex_shift (x ∷ xs) [] zs e f = absurd (omega arith)
 lex_shift (x ∷ xs) (y ∷ ys) [] e f = absurd (omega arith)
@@ -125,6 +121,3 @@ lex_shift (x ∷ xs) (y ∷ ys) (z ∷ zs) e f =
           ∙ lex_shift xs ys zs (omega arith) (omega arith) ∙ sym o
       | above l o ↦ head_above (x +ℤ z) (y +ℤ z) _ (omega (arith, ints)) ∙ sym o
     ]
-
-pub shifted : (order : Ordering) → Shifted order order
-shifted order xs ys zs e f h = lex_shift xs ys zs e f ∙ h

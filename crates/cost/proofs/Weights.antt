@@ -10,7 +10,8 @@ use Rattle.std.proofs.lemmas.Cmp.{by_ranked}
 use Rattle.std.specs.Cmp.{int_cmp_is}
 use Rattle.std.specs.Ordering.{MatchOrdering}
 use Rattle.cost.specs.Columns.{zeros, plus, minus, lex}
-use Rattle.cost.specs.Weights.{weight_from, weight, Light, Weighed, SumWeighed, DifferenceWeighed}
+use Rattle.cost.specs.Weights.{weight_from, weight, Light, WeightsCompare, SumsWeigh}
+use Rattle.cost.specs.Weights.{DifferencesWeigh}
 use Rattle.cost.proofs.Order.{head}
 use Rattle.cost.proofs.Order.Head.{below, same, above}
 
@@ -87,12 +88,10 @@ module _ (xs ys : List ℤ) (e : length xs ≡ length ys) (h : Light xs) (k : Li
       by_ranked (weight xs <ℤ weight ys) (xs ≡ ys) (weight ys <ℤ weight xs) (lex xs ys) ranked
       (λ _ l. absurd (omega (arith, ints))) (λ _ q. q) (λ _ l. absurd (omega (arith, ints)))
 
-pub weighed : (order : Ordering) → Weighed order order
-weighed order xs ys e h k o =
-    sym (int_cmp_is (weight xs) (weight ys) order
-    (subst (λ (t : Ordering). MatchOrdering t (weight xs <ℤ weight ys) (weight xs ≡ weight ys)
-    (weight ys <ℤ weight xs)) o
-    (ranked_map (lex xs ys) (ranked xs ys e h k) (λ l. l) (λ q. ap weight q) (λ l. l))))
+pub weights_compare : WeightsCompare
+weights_compare xs ys e h k =
+    sym (int_cmp_is (weight xs) (weight ys) (lex xs ys)
+    (ranked_map (lex xs ys) (ranked xs ys e h k) (λ l. l) (λ q. ap weight q) (λ l. l)))
 
 -- weights add up
 plus_from : (a b : ℤ) (xs ys : List ℤ) → length xs ≡ length ys → weight_from (a +ℤ b)
@@ -119,10 +118,10 @@ minus_from a b (x ∷ xs) (y ∷ ys) e =
     ap (λ t. weight_from t (minus xs ys)) f ∙ minus_from (a *ℤ pos 18446744073709551616 +ℤ x)
     (b *ℤ pos 18446744073709551616 +ℤ y) xs ys (omega arith)
 
-pub weight_plus : SumWeighed
+pub weight_plus : SumsWeigh
 weight_plus xs ys e = plus_from (pos 0) (pos 0) xs ys e
 
-pub weight_minus : DifferenceWeighed
+pub weight_minus : DifferencesWeigh
 weight_minus xs ys e = minus_from (pos 0) (pos 0) xs ys e
 
 pub weight_zeros : (n : ℕ) → weight (zeros n) ≡ pos 0

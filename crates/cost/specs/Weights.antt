@@ -3,7 +3,6 @@
 -- are so far below the base that the first one that differs outweighs all that follow it.
 use Rattle.std.specs.Prelude.{◌≡◌, ◌*◌, ◌^◌, List, [], ◌∷◌, length, ℤ, pos, ◌+ℤ◌, ◌-ℤ◌, ◌*ℤ◌}
 use Rattle.std.specs.Ordering.{int_cmp}
-use Rattle.std.specs.declared.cmp.Ordering.{Ordering}
 use Rattle.cost.specs.declared.TheConstants.{RAIL}
 use Rattle.cost.specs.Columns.{Within, plus, minus, lex}
 
@@ -19,17 +18,17 @@ weight xs = weight_from (pos 0) xs
 abbrev pub Light : List ℤ → Type 0
 Light xs = Within (4000 * RAIL) xs
 
--- where light columns compare as `order`, their weights compare as `weighed`
-abbrev pub Weighed : Ordering → Ordering → Type 0
-Weighed order weighed = (xs ys : List ℤ) → length xs ≡ length ys → Light xs → Light ys
-    → lex xs ys ≡ order → int_cmp (weight xs) (weight ys) ≡ weighed
+-- the weights of light columns compare as the columns do
+abbrev pub WeightsCompare : Type 0
+WeightsCompare = (xs ys : List ℤ) → length xs ≡ length ys → Light xs → Light ys
+    → int_cmp (weight xs) (weight ys) ≡ lex xs ys
 
 -- a sum of columns weighs what both weigh together
-abbrev pub SumWeighed : Type 0
-SumWeighed = (xs ys : List ℤ) → length xs ≡ length ys
+abbrev pub SumsWeigh : Type 0
+SumsWeigh = (xs ys : List ℤ) → length xs ≡ length ys
     → weight (plus xs ys) ≡ weight xs +ℤ weight ys
 
 -- a difference of columns weighs what the first weighs more than the second
-abbrev pub DifferenceWeighed : Type 0
-DifferenceWeighed = (xs ys : List ℤ) → length xs ≡ length ys
+abbrev pub DifferencesWeigh : Type 0
+DifferencesWeigh = (xs ys : List ℤ) → length xs ≡ length ys
     → weight (minus xs ys) ≡ weight xs -ℤ weight ys

@@ -1,11 +1,11 @@
-//! The laws of column arithmetic: each function's contract is a law, and its result the witness.
+//! The laws of column arithmetic, each the contract of a function. One without a result does nothing:
+//! it is here for the law that it states.
 
 ghost use Rattle.std.specs.Prelude.{ℕ, ◌≤◌};
-ghost use Rattle.cost.specs.Laws.{Exact, Mirrored, EqualIsSame, Chained, Shifted};
-ghost use Rattle.cost.specs.Weights.{Weighed, SumWeighed, DifferenceWeighed};
+ghost use Rattle.cost.specs.Laws.{Exact, OrderMirrors, EqualIsSame, OrderChains, OrderShifts};
+ghost use Rattle.cost.specs.Weights.{WeightsCompare, SumsWeigh, DifferencesWeigh};
 
 use crate::RAIL;
-use std::cmp::Ordering;
 
 /// How far sums and differences stay exact: where the bounds of two values add up to at most this
 /// number, nothing is stopped at an end of the rail. No greater number would do.
@@ -16,36 +16,28 @@ pub fn exact_reach() -> u64
     RAIL
 }
 
-/// How two values compare the other way round, where they compare as `order`. Only a value itself
-/// compares as equal to it, so the order is total.
-pub fn mirror(order: Ordering) -> Ordering
-    ensures mirrored { Mirrored order result }
+/// The other way round two values compare in reverse, and only the same columns compare as equal: so
+/// the order is total.
+pub fn order_mirrors()
+    ensures mirrors { OrderMirrors }
     ensures equal { EqualIsSame }
-{
-    order.reverse()
-}
+{}
 
-/// How the outer two of three values compare, where both pairs of neighbours compare alike.
-pub fn chain(neighbours: Ordering) -> Ordering
-    ensures { Chained neighbours result }
-{
-    neighbours
-}
+/// Where both pairs of neighbours of three values compare alike, the outer two do too.
+pub fn order_chains()
+    ensures { OrderChains }
+{}
 
-/// How two values compare once the same is added to both, told how they compare before.
-pub fn shift(before: Ordering) -> Ordering
-    ensures { Shifted before result }
-{
-    before
-}
+/// Adding the same to two values keeps their order.
+pub fn order_shifts()
+    ensures { OrderShifts }
+{}
 
-/// How the weights of two values compare, told how the values compare. The weight of a value is its
-/// columns read as one whole number, by which contracts speak of sums and orders at once; no code
-/// computes it.
-pub fn weigh(columns: Ordering) -> Ordering
-    ensures order { Weighed columns result }
-    ensures sum { SumWeighed }
-    ensures difference { DifferenceWeighed }
-{
-    columns
-}
+/// The weights of two values compare as the values do, and add up as they do. The weight of a value
+/// is its columns read as one whole number, by which contracts speak of sums and orders at once; no
+/// code computes it.
+pub fn weights_compare()
+    ensures order { WeightsCompare }
+    ensures sum { SumsWeigh }
+    ensures difference { DifferencesWeigh }
+{}

@@ -15,7 +15,7 @@ mod tests;
 mod two_step_kind;
 
 pub use free_kind::Free;
-pub use laws::{chain, exact_reach, mirror, shift, weigh};
+pub use laws::{exact_reach, order_chains, order_mirrors, order_shifts, weights_compare};
 pub use plain_kind::Plain;
 use std::cmp::Ordering;
 pub use two_step_kind::TwoStep;
