@@ -1,19 +1,20 @@
 -- What the answers of a kind do to columns that are made of two parts.
 -- Idea: two lists whose first parts are equally long are gone through side by side, so each part
 -- meets its own counterpart; the proofs are inductions over the first parts.
-use Rattle.std.specs.Prelude.{◌≡◌, ◌≢◌, ℕ, true, false, cond, ◌&&◌, ◌||◌, List, [], ◌∷◌, ◌++◌}
-use Rattle.std.specs.Prelude.{length, ℤ, int_lt, nat_le, unsigned_abs, refl}
+use Rattle.std.specs.Prelude.{◌≡◌, ◌≢◌, ℕ, ◌&&◌, ◌||◌, List, [], ◌∷◌, ◌++◌}
+use Rattle.std.specs.Prelude.{length, ℤ, refl}
 use Rattle.std.specs.declared.cmp.Ordering.TheVariants.{Less, Equal, Greater}
 use Rattle.std.specs.declared.cmp.Ordering.{Ordering}
 use Rattle.std.proofs.Common.{sym, ap, ◌∙◌, arith}
-use Rattle.std.proofs.lemmas.List.Folds.{list_all-append}
 use Rattle.std.specs.Ordering.{ordering_then, is_lt, is_eq}
-use Rattle.cost.specs.Columns.{Within, within, columnwise, lex}
+use Rattle.cost.specs.Columns.{Within, columnwise, lex}
+use Rattle.cost.specs.Kind.{KindLaws}
+use Rattle.cost.proofs.Order.{headed, headed_then}
 
 -- two values of one kind have equally many columns
-pub same_length : {K : Type 0} (columns : ℕ) (meaning : K → List ℤ)
-    → ((x : K) → length (meaning x) ≡ columns) → (x y : K) → length (meaning x) ≡ length (meaning y)
-same_length columns meaning sized x y = sized x ∙ sym (sized y)
+pub same_length : {K : Type 0} {columns : ℕ} {meaning : K → List ℤ} {zero : K}
+    → KindLaws columns meaning zero → (x y : K) → length (meaning x) ≡ length (meaning y)
+same_length laws x y = laws.column_count x ∙ sym (laws.column_count y)
 
 pub columnwise-append : (f : ℤ → ℤ → ℤ) (a c b d : List ℤ) → length a ≡ length c
     → columnwise f (a ++ b) (c ++ d) ≡ columnwise f a c ++ columnwise f b d
@@ -29,23 +30,12 @@ lex-append [] [] b d e = refl
 lex-append [] (y ∷ c) b d e = absurd (omega arith)
 lex-append (x ∷ a) [] b d e = absurd (omega arith)
 lex-append (x ∷ a) (y ∷ c) b d e =
-    let h : lex (a ++ b) (c ++ d) ≡ ordering_then (lex a c) (lex b d) =
-    lex-append a c b d (omega arith) in
-    elim (int_lt x y) as
-    (λ t. cond t Less (cond (int_lt y x) Greater (lex (a ++ b) (c ++ d))) ≡ ordering_then
-    (cond t Less (cond (int_lt y x) Greater (lex a c))) (lex b d)) [
-      | true ↦ refl
-      | false ↦ elim (int_lt y x) as (λ t. cond t Greater (lex (a ++ b) (c ++ d)) ≡ ordering_then
-          (cond t Greater (lex a c)) (lex b d)) [ true ↦ refl | false ↦ h ]
-    ]
+    ap (headed x y) (lex-append a c b d (omega arith)) ∙ headed_then x y (lex a c) (lex b d)
 
 pub then_keeps : (o p : Ordering) → (o ≢ Equal) → ordering_then o p ≡ o
 then_keeps Less p h = refl
 then_keeps Equal p h = absurd (h refl)
 then_keeps Greater p h = refl
-
-pub within-append : (k : ℕ) (a b : List ℤ) → within k (a ++ b) ≡ (within k a && within k b)
-within-append k a b = list_all-append (λ x. nat_le (unsigned_abs x) k) a b
 
 -- all columns are within a limit just where those of both parts are
 pub within_parts : (k : ℕ) (a b : List ℤ) → Within k (a ++ b) → Within k a × Within k b
@@ -57,8 +47,3 @@ pub then_less : (o p : Ordering) → is_lt (ordering_then o p) ≡ (is_lt o || (
 then_less Less p = refl
 then_less Equal p = refl
 then_less Greater p = refl
-
-pub then_equal : (o p : Ordering) → is_eq (ordering_then o p) ≡ (is_eq o && is_eq p)
-then_equal Less p = refl
-then_equal Equal p = refl
-then_equal Greater p = refl

@@ -2,12 +2,11 @@
 -- Idea: column by column, the size of a sum or difference is at most the sizes together, and a
 -- number on the rail is its own nearest one.
 use Rattle.std.proofs.Common.{◌≡◌, ℕ, zero, suc, ◌+◌, ◌≤◌, leb, List, [], ◌∷◌, length, ℤ, pos}
-use Rattle.std.proofs.Common.{negsuc, ◌+ℤ◌, ◌-ℤ◌, nat_abs, sum_by, All, Decides, inl, inr, refl, ap}
+use Rattle.std.proofs.Common.{negsuc, ◌+ℤ◌, ◌-ℤ◌, nat_abs, sum_by, Decides, inl, inr, refl, ap}
 use Rattle.std.proofs.Common.{◌∙◌, arith}
 use Rattle.std.proofs.lemmas.Int.{ints}
 use Rattle.std.proofs.lemmas.Bool.{leb-true, le-leb, cases_lt}
-use Rattle.std.proofs.lemmas.Bool.Decides.{Decides-by_and}
-use Rattle.std.proofs.lemmas.List.Elements.{All-from_recursion, recursion_from_All}
+use Rattle.std.proofs.ByRecursion.{Decides-by_and}
 use Rattle.cost.specs.Columns.{rail_of, Within, within, columnwise, zeros, plus, minus}
 use Rattle.cost.specs.Laws.{Exact}
 
@@ -97,9 +96,5 @@ zeros_within a (suc n) = (omega arith, zeros_within a n)
 
 -- the test tells the fact
 pub within_tells : (k : ℕ) (xs : List ℤ) → Decides (within k xs) (Within k xs)
-within_tells k xs =
-    let P : ℤ → Type 0 = λ x. nat_abs x ≤ k in
-    let all : Decides (within k xs) (All P xs) = Decides-by_and (λ x. leb (nat_abs x) k) P
-    (within k)
-    (λ x. (leb-true (nat_abs x) k, le-leb (nat_abs x) k)) refl (λ _ _. refl) xs in
-    (λ t. recursion_from_All P xs (all.0 t), λ h. all.1 (All-from_recursion P xs h))
+within_tells k = Decides-by_and (λ x. leb (nat_abs x) k) (λ x. nat_abs x ≤ k) (within k)
+    (λ x. (leb-true (nat_abs x) k, le-leb (nat_abs x) k)) refl (λ _ _. refl)

@@ -1,15 +1,19 @@
 -- The order of columns is total, passes along chains, and is kept when the same is added on both
 -- sides.
--- Idea: at the first column there are three cases, less, the same and greater. The first and the
--- last decide at once, in every comparison that is asked about; in the middle case the columns are
--- the same and the rest of the lists decides.
-use Rattle.std.proofs.Common.{◌≡◌, ℕ, true, false, cond, List, [], ◌∷◌, length, ℤ, ◌+ℤ◌, ◌<ℤ◌}
+-- Idea: on lists of one length it is std's order of lists, which is total. What std does not say is
+-- shown column by column: at the first one there are three cases, less, the same and greater. The
+-- first and the last decide at once; in the middle case the columns are the same and the rest of
+-- the lists decides.
+use Rattle.std.proofs.Common.{◌≡◌, Bool, true, false, cond, List, [], ◌∷◌, length, ℤ, ◌+ℤ◌, ◌<ℤ◌}
 use Rattle.std.proofs.Common.{Ordering, Less, Equal, Greater, sym, refl, ap, ◌∙◌, arith}
 use lib.Signed.{lt_z}
 use Rattle.std.proofs.lemmas.Int.{ints}
 use Rattle.std.proofs.lemmas.Bool.{cond_both, cond-true, cond-false}
-use Rattle.std.specs.Ordering.{ordering_reverse}
-use Rattle.cost.specs.Columns.{plus, lex}
+use Rattle.std.proofs.lemmas.Cmp.{int_cmp_total, lists_total, tied_itself}
+use Rattle.std.specs.Cmp.{IsTotalOrder}
+use Rattle.std.specs.Cmp.Lexicographic.{slice_cmp}
+use Rattle.std.specs.Ordering.{ordering_reverse, ordering_then, int_cmp}
+use Rattle.cost.specs.Columns.{lex}
 use Rattle.cost.specs.Laws.{OrderMirrors, EqualIsSame, OrderChains, OrderShifts}
 
 -- what first columns x and y make of the order of the rest
@@ -43,26 +47,34 @@ head_same x y rest e =
     let g : lt_z y x ≡ false = grind (arith, ints) in
     cond-false (lt_z x y) _ _ f ∙ cond-false (lt_z y x) _ _ g
 
+-- first columns that decide do so whatever is asked behind them
+pub headed_then : (x y : ℤ) (o p : Ordering) → headed x y (ordering_then o p)
+    ≡ ordering_then (headed x y o) p
+headed_then x y o p = by_test (lt_z x y) (lt_z y x)
+  where
+    by_test : (s t : Bool) → cond s Less (cond t Greater (ordering_then o p))
+        ≡ ordering_then (cond s Less (cond t Greater o)) p
+    by_test true t = refl
+    by_test false true = refl
+    by_test false false = refl
+
+-- lists of one length compare as std compares lists
+lex_is : (xs ys : List ℤ) → length xs ≡ length ys → lex xs ys ≡ slice_cmp int_cmp xs ys
+lex_is [] [] e = refl
+lex_is [] (y ∷ ys) e = absurd (omega arith)
+lex_is (x ∷ xs) [] e = absurd (omega arith)
+lex_is (x ∷ xs) (y ∷ ys) e = headed_then x y Equal (lex xs ys)
+    ∙ ap (ordering_then (int_cmp x y)) (lex_is xs ys (omega arith))
+
+lists : IsTotalOrder (slice_cmp int_cmp)
+lists = lists_total int_cmp_total
+
 pub lex_mirror : OrderMirrors
-lex_mirror [] [] e = refl
-lex_mirror [] (y ∷ ys) e = absurd (omega arith)
-lex_mirror (x ∷ xs) [] e = absurd (omega arith)
-lex_mirror (x ∷ xs) (y ∷ ys) e =
-    elim (head x y (lex xs ys)) [
-      | below l o ↦ head_above y x _ l ∙ sym (ap ordering_reverse o)
-      | same i o ↦ head_same y x _ (sym i) ∙ lex_mirror xs ys (omega arith)
-          ∙ sym (ap ordering_reverse o)
-      | above l o ↦ head_below y x _ l ∙ sym (ap ordering_reverse o)
-    ]
+lex_mirror xs ys e = lex_is ys xs (sym e) ∙ lists.antisymm ys xs
+    ∙ ap ordering_reverse (sym (lex_is xs ys e))
 
-never : (o : Ordering) → o ≡ Less → o ≡ Greater → ⊥
-never o p q = let z : ◌≡◌ {A = ℕ} 0 1 = cc in omega arith
-
-never_equal : (o : Ordering) → o ≡ Less → o ≡ Equal → ⊥
-never_equal o p q = let z : ◌≡◌ {A = ℕ} 0 1 = cc in omega arith
-
-never_greater : (o : Ordering) → o ≡ Greater → o ≡ Equal → ⊥
-never_greater o p q = let z : ◌≡◌ {A = ℕ} 0 1 = cc in omega arith
+pub lex_refl : (xs : List ℤ) → lex xs xs ≡ Equal
+lex_refl xs = lex_is xs xs refl ∙ tied_itself lists xs
 
 pub lex_same : EqualIsSame
 lex_same [] [] e h = refl
@@ -70,35 +82,16 @@ lex_same [] (y ∷ ys) e h = absurd (omega arith)
 lex_same (x ∷ xs) [] e h = absurd (omega arith)
 lex_same (x ∷ xs) (y ∷ ys) e h =
     elim (head x y (lex xs ys)) [
-      | below l o ↦ absurd (never_equal _ o h)
+      | below l o ↦ cc (sym o ∙ h)
       | same i o ↦ let t : xs ≡ ys = lex_same xs ys (omega arith) (sym o ∙ h) in cc
-      | above l o ↦ absurd (never_greater _ o h)
+      | above l o ↦ cc (sym o ∙ h)
     ]
-
-pub lex_refl : (xs : List ℤ) → lex xs xs ≡ Equal
-lex_refl [] = refl
-lex_refl (x ∷ xs) = head_same x x _ refl ∙ lex_refl xs
 
 less_chain : (xs ys zs : List ℤ) → length xs ≡ length ys → length ys ≡ length zs → lex xs ys ≡ Less
     → lex ys zs ≡ Less → lex xs zs ≡ Less
-less_chain [] ys zs e f h k = absurd (never_equal _ h refl)
-less_chain (x ∷ xs) [] zs e f h k = absurd (omega arith)
-less_chain (x ∷ xs) (y ∷ ys) [] e f h k = absurd (omega arith)
-less_chain (x ∷ xs) (y ∷ ys) (z ∷ zs) e f h k =
-    elim (head x y (lex xs ys)) [
-      | below l _ ↦ elim (head y z (lex ys zs)) [
-        | below m _ ↦ head_below x z _ (omega (arith, ints))
-        | same j _ ↦ head_below x z _ (omega (arith, ints))
-        | above _ p ↦ absurd (never _ k p)
-      ]
-      | same i o ↦ elim (head y z (lex ys zs)) [
-        | below m _ ↦ head_below x z _ (omega (arith, ints))
-        | same j p ↦ head_same x z _ (i ∙ j) ∙ less_chain xs ys zs (omega arith) (omega arith)
-            (sym o ∙ h) (sym p ∙ k)
-        | above _ p ↦ absurd (never _ k p)
-      ]
-      | above _ o ↦ absurd (never _ h o)
-    ]
+less_chain xs ys zs e f h k =
+    lex_is xs zs (e ∙ f)
+    ∙ lists.trans xs ys zs (sym (lex_is xs ys e) ∙ h) (sym (lex_is ys zs f) ∙ k)
 
 pub lex_chain : OrderChains
 lex_chain Less xs ys zs e f h k = less_chain xs ys zs e f h k

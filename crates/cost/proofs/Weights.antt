@@ -2,18 +2,22 @@
 -- Idea: the columns are digits in base 2^64 (Horner's rule). Columns are far smaller than the base,
 -- so the first column that differs outweighs all that follow it, and the order of the columns is
 -- the order of the numbers; sums of columns are sums of the numbers.
-use Rattle.std.proofs.Common.{◌≡◌, ℕ, zero, suc, List, [], ◌∷◌, length, ℤ, pos, ◌+ℤ◌, ◌-ℤ◌, ◌*ℤ◌}
+use Rattle.std.proofs.Common.{◌≡◌, ℕ, zero, suc, List, [], ◌∷◌, length, ℤ, pos, ◌+ℤ◌, ◌-ℤ◌, ◌*ℤ◌, ◌^◌}
 use Rattle.std.proofs.Common.{◌≤ℤ◌, ◌<ℤ◌, Ordering, Less, Equal, Greater, sym, refl, ap, ◌∙◌, subst}
 use Rattle.std.proofs.Common.{arith}
 use Rattle.std.proofs.lemmas.Int.{ints}
 use Rattle.std.proofs.lemmas.Cmp.{by_ranked}
 use Rattle.std.specs.Cmp.{int_cmp_is}
 use Rattle.std.specs.Ordering.{MatchOrdering}
-use Rattle.cost.specs.Columns.{zeros, plus, minus, lex}
+use Rattle.cost.specs.Columns.{columnwise, zeros, lex}
 use Rattle.cost.specs.Weights.{weight_from, weight, Light, WeightsCompare, SumsWeigh}
 use Rattle.cost.specs.Weights.{DifferencesWeigh}
 use Rattle.cost.proofs.Order.{head}
 use Rattle.cost.proofs.Order.Head.{below, same, above}
+
+-- what the columns are digits in
+abbrev base : ℤ
+base = pos (2 ^ 64)
 
 -- a difference so far outweighs what follows
 less_from : (a b : ℤ) (xs ys : List ℤ) → length xs ≡ length ys → Light xs → Light ys → a <ℤ b
@@ -22,8 +26,8 @@ less_from a b [] [] e h k l = l
 less_from a b [] (y ∷ ys) e h k l = absurd (omega arith)
 less_from a b (x ∷ xs) [] e h k l = absurd (omega arith)
 less_from a b (x ∷ xs) (y ∷ ys) e h k l =
-    less_from (a *ℤ pos 18446744073709551616 +ℤ x) (b *ℤ pos 18446744073709551616 +ℤ y) xs ys
-    (omega arith) h.1 k.1 (omega (arith, ints, h.0, k.0))
+    less_from (a *ℤ base +ℤ x) (b *ℤ base +ℤ y) xs ys (omega arith) h.1 k.1
+    (omega (arith, ints, h.0, k.0))
 
 ranked_map : {P Q R P' Q' R' : Type 0} (o : Ordering) → MatchOrdering o P Q R → (P → P') → (Q → Q')
     → (R → R') → MatchOrdering o P' Q' R'
@@ -38,91 +42,73 @@ ranked_from a [] [] e h k = refl
 ranked_from a [] (y ∷ ys) e h k = absurd (omega arith)
 ranked_from a (x ∷ xs) [] e h k = absurd (omega arith)
 ranked_from a (x ∷ xs) (y ∷ ys) e h k =
-    let B : ℤ = a *ℤ pos 18446744073709551616 in
-    let P : Ordering → Type 0 =
-    λ o. MatchOrdering o (weight_from (B +ℤ x) xs <ℤ weight_from (B +ℤ y) ys)
-    (◌≡◌ {A = List ℤ} (x ∷ xs) (y ∷ ys)) (weight_from (B +ℤ y) ys <ℤ weight_from (B +ℤ x) xs) in
+    let u : ℤ = a *ℤ base +ℤ x in
+    let v : ℤ = a *ℤ base +ℤ y in
+    let P : Ordering → Type 0 = λ o. MatchOrdering o (weight_from u xs <ℤ weight_from v ys)
+    (◌≡◌ {A = List ℤ} (x ∷ xs) (y ∷ ys)) (weight_from v ys <ℤ weight_from u xs) in
     let n : length xs ≡ length ys = omega arith in
     elim (head x y (lex xs ys)) [
-      | below l o ↦
-          subst P (sym o) (less_from (B +ℤ x) (B +ℤ y) xs ys n h.1 k.1 (omega (arith, ints)))
-      | same i o ↦ subst P (sym o) (ranked_map (lex xs ys) (ranked_from (B +ℤ x) xs ys n h.1 k.1)
-          (λ l. subst (λ (t : ℤ). weight_from (B +ℤ x) xs <ℤ weight_from (B +ℤ t) ys) i l)
+      | below l o ↦ subst P (sym o) (less_from u v xs ys n h.1 k.1 (omega (arith, ints)))
+      | same i o ↦ subst P (sym o) (ranked_map (lex xs ys) (ranked_from u xs ys n h.1 k.1)
+          (λ l. subst (λ (t : ℤ). weight_from u xs <ℤ weight_from (a *ℤ base +ℤ t) ys) i l)
           (λ q. cc)
-          (λ l. subst (λ (t : ℤ). weight_from (B +ℤ t) ys <ℤ weight_from (B +ℤ x) xs) i l))
-      | above l o ↦
-          subst P (sym o) (less_from (B +ℤ y) (B +ℤ x) ys xs (sym n) k.1 h.1 (omega (arith, ints)))
+          (λ l. subst (λ (t : ℤ). weight_from (a *ℤ base +ℤ t) ys <ℤ weight_from u xs) i l))
+      | above l o ↦ subst P (sym o) (less_from v u ys xs (sym n) k.1 h.1 (omega (arith, ints)))
     ]
 
 -- the order of two lists by their weights
 module _ (xs ys : List ℤ) (e : length xs ≡ length ys) (h : Light xs) (k : Light ys) where
-  pub ranked : MatchOrdering (lex xs ys) (weight xs <ℤ weight ys) (xs ≡ ys) (weight ys <ℤ weight xs)
+  ranked : MatchOrdering (lex xs ys) (weight xs <ℤ weight ys) (xs ≡ ys) (weight ys <ℤ weight xs)
   ranked = ranked_from (pos 0) xs ys e h k
 
+  by_weight : {G : Type 0} → (lex xs ys ≡ Less → weight xs <ℤ weight ys → G)
+      → (lex xs ys ≡ Equal → xs ≡ ys → G) → (lex xs ys ≡ Greater → weight ys <ℤ weight xs → G) → G
+  by_weight = by_ranked (weight xs <ℤ weight ys) (xs ≡ ys) (weight ys <ℤ weight xs) (lex xs ys)
+      ranked
+
   pub less_is : lex xs ys ≡ Less → weight xs <ℤ weight ys
-  less_is o =
-      subst (λ (t : Ordering). MatchOrdering t (weight xs <ℤ weight ys) (xs ≡ ys)
-      (weight ys <ℤ weight xs)) o ranked
+  less_is o = by_weight (λ _ l. l) (λ p _. cc (sym o ∙ p)) (λ p _. cc (sym o ∙ p))
 
   pub not_less_is : (lex xs ys ≡ Less → ⊥) → weight ys ≤ℤ weight xs
-  not_less_is o =
-      by_ranked (weight xs <ℤ weight ys) (xs ≡ ys) (weight ys <ℤ weight xs) (lex xs ys) ranked
-      (λ l _. absurd (o l)) (λ _ q. let w : weight xs ≡ weight ys = ap weight q in
-      omega (arith, ints)) (λ _ l. omega (arith, ints))
+  not_less_is o = by_weight (λ p _. absurd (o p))
+      (λ _ q. let w : weight xs ≡ weight ys = ap weight q in omega (arith, ints))
+      (λ _ l. omega (arith, ints))
 
   pub upto_is : (lex xs ys ≡ Greater → ⊥) → weight xs ≤ℤ weight ys
-  upto_is o =
-      by_ranked (weight xs <ℤ weight ys) (xs ≡ ys) (weight ys <ℤ weight xs) (lex xs ys) ranked
-      (λ _ l. omega (arith, ints)) (λ _ q. let w : weight xs ≡ weight ys = ap weight q in
-      omega (arith, ints)) (λ l _. absurd (o l))
+  upto_is o = by_weight (λ _ l. omega (arith, ints))
+      (λ _ q. let w : weight xs ≡ weight ys = ap weight q in omega (arith, ints))
+      (λ p _. absurd (o p))
 
   pub upto_from : weight xs ≤ℤ weight ys → lex xs ys ≡ Greater → ⊥
-  upto_from l o =
-      let r : weight ys <ℤ weight xs =
-      subst (λ (t : Ordering). MatchOrdering t (weight xs <ℤ weight ys) (xs ≡ ys)
-      (weight ys <ℤ weight xs)) o ranked in
-      omega (arith, ints)
+  upto_from l o = by_weight (λ p _. cc (sym o ∙ p)) (λ p _. cc (sym o ∙ p))
+      (λ _ m. omega (arith, ints))
 
   pub same_from : weight xs ≡ weight ys → xs ≡ ys
-  same_from w =
-      by_ranked (weight xs <ℤ weight ys) (xs ≡ ys) (weight ys <ℤ weight xs) (lex xs ys) ranked
-      (λ _ l. absurd (omega (arith, ints))) (λ _ q. q) (λ _ l. absurd (omega (arith, ints)))
+  same_from w = by_weight (λ _ l. absurd (omega (arith, ints))) (λ _ q. q)
+      (λ _ l. absurd (omega (arith, ints)))
 
 pub weights_compare : WeightsCompare
 weights_compare xs ys e h k =
     sym (int_cmp_is (weight xs) (weight ys) (lex xs ys)
     (ranked_map (lex xs ys) (ranked xs ys e h k) (λ l. l) (λ q. ap weight q) (λ l. l)))
 
--- weights add up
-plus_from : (a b : ℤ) (xs ys : List ℤ) → length xs ≡ length ys → weight_from (a +ℤ b)
-    (plus xs ys) ≡ weight_from a xs +ℤ weight_from b ys
-plus_from a b [] [] e = refl
-plus_from a b [] (y ∷ ys) e = absurd (omega arith)
-plus_from a b (x ∷ xs) [] e = absurd (omega arith)
-plus_from a b (x ∷ xs) (y ∷ ys) e =
-    let f : ((a +ℤ b) *ℤ pos 18446744073709551616 +ℤ (x +ℤ y)) ≡
-    ((a *ℤ pos 18446744073709551616 +ℤ x) +ℤ (b *ℤ pos 18446744073709551616 +ℤ y)) =
-    omega (arith, ints) in
-    ap (λ t. weight_from t (plus xs ys)) f ∙ plus_from (a *ℤ pos 18446744073709551616 +ℤ x)
-    (b *ℤ pos 18446744073709551616 +ℤ y) xs ys (omega arith)
-
-minus_from : (a b : ℤ) (xs ys : List ℤ) → length xs ≡ length ys → weight_from (a -ℤ b)
-    (minus xs ys) ≡ weight_from a xs -ℤ weight_from b ys
-minus_from a b [] [] e = refl
-minus_from a b [] (y ∷ ys) e = absurd (omega arith)
-minus_from a b (x ∷ xs) [] e = absurd (omega arith)
-minus_from a b (x ∷ xs) (y ∷ ys) e =
-    let f : ((a -ℤ b) *ℤ pos 18446744073709551616 +ℤ (x -ℤ y)) ≡
-    ((a *ℤ pos 18446744073709551616 +ℤ x) -ℤ (b *ℤ pos 18446744073709551616 +ℤ y)) =
-    omega (arith, ints) in
-    ap (λ t. weight_from t (minus xs ys)) f ∙ minus_from (a *ℤ pos 18446744073709551616 +ℤ x)
-    (b *ℤ pos 18446744073709551616 +ℤ y) xs ys (omega arith)
+-- what a linear operation on columns gives weighs what it gives of the weights
+module _ (f : ℤ → ℤ → ℤ) (linear : (a b x y : ℤ) → (f a b *ℤ base +ℤ f x y) ≡
+    f (a *ℤ base +ℤ x) (b *ℤ base +ℤ y)) where
+  columnwise_from : (a b : ℤ) (xs ys : List ℤ) → length xs ≡ length ys
+      → weight_from (f a b) (columnwise f xs ys) ≡ f (weight_from a xs) (weight_from b ys)
+  columnwise_from a b [] [] e = refl
+  columnwise_from a b [] (y ∷ ys) e = absurd (omega arith)
+  columnwise_from a b (x ∷ xs) [] e = absurd (omega arith)
+  columnwise_from a b (x ∷ xs) (y ∷ ys) e =
+      ap (λ t. weight_from t (columnwise f xs ys)) (linear a b x y)
+      ∙ columnwise_from (a *ℤ base +ℤ x) (b *ℤ base +ℤ y) xs ys (omega arith)
 
 pub weight_plus : SumsWeigh
-weight_plus xs ys e = plus_from (pos 0) (pos 0) xs ys e
+weight_plus = columnwise_from ◌+ℤ◌ (λ a b x y. omega (arith, ints)) (pos 0) (pos 0)
 
 pub weight_minus : DifferencesWeigh
-weight_minus xs ys e = minus_from (pos 0) (pos 0) xs ys e
+weight_minus = columnwise_from ◌-ℤ◌ (λ a b x y. omega (arith, ints)) (pos 0) (pos 0)
 
 pub weight_zeros : (n : ℕ) → weight (zeros n) ≡ pos 0
 weight_zeros zero = refl

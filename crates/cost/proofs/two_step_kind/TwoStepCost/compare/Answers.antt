@@ -6,20 +6,13 @@ use Rattle.cost.proofs.two_step_kind.TwoStepCost.compare.Goals as goal
 
 pub returns-in-Equal : goal.returns-in-Equal
 returns-in-Equal g c =
-    let a = g.A.Cost.meaning c.args.self.0 in
-    let b = g.A.Cost.meaning c.args.other.0 in
-    let e = same_length g.A.Cost.columns g.A.Cost.meaning g.met.A.Cost.laws.column_count
-    c.args.self.0 c.args.other.0 in
-    let h = lex-append a b (g.B.Cost.meaning c.args.self.1) (g.B.Cost.meaning c.args.other.1) e in
+    let h = lex-append _ _ (g.B.Cost.meaning c.args.self.1) (g.B.Cost.meaning c.args.other.1)
+    (same_length g.met.A.Cost.laws c.args.self.0 c.args.other.0) in
     let k = c.in-Equal.ensures in
     search (rules, h, k)
 
 pub returns-in_default : goal.returns-in_default
 returns-in_default g c =
-    let a = g.A.Cost.meaning c.args.self.0 in
-    let b = g.A.Cost.meaning c.args.other.0 in
-    let e = same_length g.A.Cost.columns g.A.Cost.meaning g.met.A.Cost.laws.column_count
-    c.args.self.0 c.args.other.0 in
-    let h = lex-append a b (g.B.Cost.meaning c.args.self.1) (g.B.Cost.meaning c.args.other.1) e in
     c.compare.ensures ∙ sym (then_keeps _ _ (λ z. c.in_default.not-Equal (c.compare.ensures ∙ z)))
-    ∙ sym h
+    ∙ sym (lex-append _ _ (g.B.Cost.meaning c.args.self.1) (g.B.Cost.meaning c.args.other.1)
+    (same_length g.met.A.Cost.laws c.args.self.0 c.args.other.0))

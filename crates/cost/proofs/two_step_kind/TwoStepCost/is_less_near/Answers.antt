@@ -3,7 +3,6 @@
 use Rattle.std.proofs.Common.{◌||◌, ◌&&◌, sym, ap, ap₂, ◌∙◌}
 use Rattle.std.specs.Ordering.{is_lt}
 use Rattle.cost.specs.declared.TheConstants.{HALF_RAIL}
-use Rattle.cost.specs.Columns.{lex}
 use Rattle.cost.proofs.Append.{lex-append, then_less, same_length, within_parts}
 use Rattle.cost.proofs.two_step_kind.TwoStepCost.is_less_near.Goals as goal
 
@@ -21,13 +20,7 @@ is_less_near-requires-2 g c =
 
 pub returns : goal.returns
 returns g c =
-    let first = g.A.Cost.meaning in
-    let second = g.B.Cost.meaning in
-    let same = same_length g.A.Cost.columns first g.met.A.Cost.laws.column_count c.args.self.0
-    c.args.than.0 in
-    ap₂ ◌||◌ c.is_less_near.ensures
-    (ap₂ ◌&&◌ c.is_equal_near.ensures c.is_less_near-2.ensures)
-    ∙ sym (ap is_lt (lex-append (first c.args.self.0) (first c.args.than.0) (second c.args.self.1)
-    (second c.args.than.1) same)
-    ∙ then_less (lex (first c.args.self.0) (first c.args.than.0))
-    (lex (second c.args.self.1) (second c.args.than.1)))
+    let same = same_length g.met.A.Cost.laws c.args.self.0 c.args.than.0 in
+    ap₂ ◌||◌ c.is_less_near.ensures (ap₂ ◌&&◌ c.is_equal_near.ensures c.is_less_near-2.ensures)
+    ∙ sym (ap is_lt (lex-append _ _ (g.B.Cost.meaning c.args.self.1)
+    (g.B.Cost.meaning c.args.than.1) same) ∙ then_less _ _)

@@ -6,5 +6,4 @@ use Rattle.cost.proofs.two_step_kind.TwoStepCost.take_away.Goals as goal
 pub returns : goal.returns
 returns g c = rw (c.take_away.ensures, c.take_away-2.ensures)
     (sym (columnwise-append _ _ _ _ _
-    (same_length g.A.Cost.columns g.A.Cost.meaning g.met.A.Cost.laws.column_count c.args.self.0
-    c.args.other.0)))
+    (same_length g.met.A.Cost.laws c.args.self.0 c.args.other.0)))

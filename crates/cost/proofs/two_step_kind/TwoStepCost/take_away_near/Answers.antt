@@ -22,5 +22,4 @@ take_away_near-requires-2-clause-second g c =
 pub returns : goal.returns
 returns g c = rw (c.take_away_near.ensures, c.take_away_near-2.ensures)
     (sym (columnwise-append _ _ _ _ _
-    (same_length g.A.Cost.columns g.A.Cost.meaning g.met.A.Cost.laws.column_count c.args.self.0
-    c.args.other.0)))
+    (same_length g.met.A.Cost.laws c.args.self.0 c.args.other.0)))
