@@ -1,5 +1,5 @@
-//! The laws of column arithmetic, each the contract of a function. One without a result does nothing:
-//! it is here for the law that it states.
+//! The laws of column arithmetic, each the contract of a function. One without a result does
+//! nothing: it is here for the law that it states.
 
 ghost use Rattle.std.specs.Prelude.{ℕ, ◌≤◌};
 ghost use Rattle.cost.specs.Laws.{Exact, OrderMirrors, EqualIsSame, OrderChains, OrderShifts};
@@ -16,8 +16,8 @@ pub fn exact_reach() -> u64
     RAIL
 }
 
-/// The other way round two values compare in reverse, and only the same columns compare as equal: so
-/// the order is total.
+/// The other way round two values compare in reverse, and only the same columns compare as equal:
+/// so the order is total.
 pub fn order_mirrors()
     ensures mirrors { OrderMirrors }
     ensures equal { EqualIsSame }

@@ -8,7 +8,7 @@ use Rattle.std.proofs.Common.{◌≡◌, ℕ, zero, suc, ◌<◌, Bool, true, fa
 use Rattle.std.proofs.Common.{pos, ◌+ℤ◌, ◌≤ℤ◌, sym, refl, inl, inr, arith}
 use Rattle.std.proofs.lemmas.Int.{ints}
 use Rattle.std.proofs.lemmas.Bool.{cases_Bool, cond-true, cond-false, eqb-true, or_cases}
-use Rattle.std.proofs.lemmas.Bool.{true≢false, both_ways}
+use Rattle.std.proofs.lemmas.Bool.{true≢false}
 use Rattle.pairing.specs.Grid.{at, Perfect}
 use Rattle.pairing.specs.Theorems.{GivenAlike}
 use Rattle.pairing.proofs.Sums.{sum_z, sum_same, sum-zero, sum_tight, without, sum_without}
@@ -81,28 +81,23 @@ one_if b = cond b (pos 1) (pos 0)
 implies_le : (a b : Bool) → (a ≡ true → b ≡ true) → one_if a ≤ℤ one_if b
 implies_le a b h = grind (arith, ints)
 
-same_if : (a b : Bool) → one_if a ≡ one_if b → b ≡ true → a ≡ true
-same_if a b e h = grind arith
+same_if : (a b : Bool) → one_if a ≡ one_if b → a ≡ b
+same_if a b e = grind arith
 
 module _ (n : ℕ) (stands stands' : ℕ → ℕ → Bool) (p q : List ℕ) (h : Perfect n stands p)
     (k : Perfect n stands' q) (C : ℕ → Bool)
     (more : (l : ℕ) → l < n → C (at p l) ≡ true → C (at q l) ≡ true) where
-  pub given_back : (l : ℕ) → l < n → C (at q l) ≡ true → C (at p l) ≡ true
-  given_back l i t =
+  given_same : (l : ℕ) → l < n → C (at p l) ≡ C (at q l)
+  given_same l i =
       let sp = sum_shuffle n stands p h (λ r. one_if (C r)) in
       let sq = sum_shuffle n stands' q k (λ r. one_if (C r)) in
       let e = sum_tight n (λ m. one_if (C (at p m))) (λ m. one_if (C (at q m)))
       (λ m j. implies_le (C (at p m)) (C (at q m)) (more m j)) (omega (arith, ints)) l i in
-      same_if (C (at p l)) (C (at q l)) e t
+      same_if (C (at p l)) (C (at q l)) e
 
-  given_same : (b : Bool) (l : ℕ) → l < n → C (at q l) ≡ b → C (at p l) ≡ b
-  given_same true l i e = given_back l i e
-  given_same false l i e = elim (cases_Bool (C (at p l)))
-      [ inl t ↦ absurd (both_ways (C (at q l)) e (more l i t)) | inr f ↦ f ]
-
-pub given_alike : (b : Bool) → GivenAlike b b
-given_alike b = record {
-  alike = λ n stands stands' p q h k C more. given_same n stands stands' p q h k C more b;
+pub given_alike : GivenAlike
+given_alike = record {
+  alike = given_same;
   closed = λ n tight p q h k C shut. given_same n tight tight p q h k C
-      (λ l i t. shut l (at q l) i (k.below l i) t (k.standing l i)) b;
+      (λ l i t. shut l (at q l) i (k.below l i) t (k.standing l i));
 }

@@ -21,7 +21,7 @@ use Rattle.blockset.proofs.Members.{members_none, members_no, inject_le}
 use Rattle.pairing.specs.Grid.{at, Perfect}
 use Rattle.pairing.specs.Largest.{Partial, Largest, Crowd, CrowdSet, around}
 use Rattle.pairing.specs.Chains.{Reached, free, onward, Held, Stuck, Shut}
-use Rattle.pairing.specs.Theorems.{LeavesOut, Hall, LargestIfStuck, CrowdIfReached, ShortBy}
+use Rattle.pairing.specs.Theorems.{LeavesOut, Hall, LargestIfStuck, ShortBy}
 use Rattle.pairing.proofs.Members.{some_below, some_tells, pairs_and_out}
 use Rattle.pairing.proofs.Closures.{Closure, closure, reached_all}
 use Rattle.pairing.proofs.Filling.{fill}
@@ -512,12 +512,11 @@ module _ (n : ℕ) (stands : ℕ → ℕ → Bool) where
         ),
       )
 
-pub largest_if_stuck_lem : (b : Bool) → LargestIfStuck b b
-largest_if_stuck_lem b n stands = record {
-  exists = largest_exists n stands;
-  are = λ p out part. (stuck_largest n stands p out part, largest_stuck n stands p out part);
-  told = λ p out part. Decides-like b (stuck_largest n stands p out part)
-      (largest_stuck n stands p out part);
+pub largest_if_stuck : LargestIfStuck
+largest_if_stuck = record {
+  exists = largest_exists;
+  are = λ n stands p out part.
+      (stuck_largest n stands p out part, largest_stuck n stands p out part);
 }
 
 -- where every set of left blocks stands with enough right blocks, the reached ones do, so that a
@@ -544,13 +543,7 @@ hall many few = record {
   enough = enough;
 }
 
-pub crowd_if_reached_lem : (b : Bool) → CrowdIfReached b b
-crowd_if_reached_lem b n stands p out h l = let e = reached_crowd n stands p out h l in
-    (e, Decides-like b e.0 e.1)
-
-pub short_by_lem : (k : ℕ) → ShortBy k k
-short_by_lem k n stands p out X h e crowd =
-    let s : members n X ≡ members n (around n stands X) + k = crowd_short n stands p out h X crowd
-    ∙ ap (λ x. members n (around n stands X) + x) e in
-    let w = none_out n stands p out h X crowd in
-    (omega (arith, s), s, (λ z. w.0 (e ∙ z), λ q. sym e ∙ w.1 q))
+pub short_by : ShortBy
+short_by n stands p out X h crowd =
+    let s = crowd_short n stands p out h X crowd in
+    (omega (arith, s), s, none_out n stands p out h X crowd)

@@ -6,13 +6,11 @@
 -- pairing costs the same exactly if none of its pairs exceeds its prices, that is, if it is tight.
 -- Greatest prices: each of two such systems is at least the other, so their right prices weigh the
 -- same, and are the same.
-use Rattle.std.proofs.Common.{◌≡◌, ℕ, ◌<◌, Bool, true, ◌↔◌, List, length, ℤ, ◌+ℤ◌, ◌-ℤ◌, ◌≤ℤ◌}
-use Rattle.std.proofs.Common.{Decides, Equal, Greater, sym, ap, ◌∙◌, arith}
+use Rattle.std.proofs.Common.{◌≡◌, ℕ, ◌<◌, true, List, length, ℤ, ◌+ℤ◌, ◌-ℤ◌, ◌≤ℤ◌}
+use Rattle.std.proofs.Common.{sym, ap, ◌∙◌, arith}
 use Rattle.std.proofs.lemmas.Int.{ints}
-use Rattle.std.proofs.lemmas.Bool.Decides.{Decides-like}
-use Rattle.cost.specs.Columns.{minus, lex}
+use Rattle.cost.specs.Columns.{minus}
 use Rattle.cost.proofs.Exact.{minus-within, within_more, length-columnwise}
-use Rattle.cost.proofs.Order.{lex_refl}
 use Rattle.cost.specs.Weights.{weight}
 use Rattle.cost.proofs.Weights.{same_from, weight_minus}
 use Rattle.pairing.specs.Grid.{Grid, Sane, at, PerfectIn, total, Optimum}
@@ -95,32 +93,26 @@ module _ (g : Grid) (s : Sane g) (left right : ℕ → List ℤ) where
     pub valid_for : (q : List ℕ) → Tight g left right q → Valid g left right q
     valid_for q t = record { lefts = v.lefts; rights = v.rights; under = v.under; equal = t }
 
-pub proves_optimum : ProvesOptimum Greater
-proves_optimum g left right p s h v = let o = optimum g s left right p h v in (o, o.least)
+pub proves_optimum : ProvesOptimum
+proves_optimum g left right p s h v = optimum g s left right p h v
 
--- two facts that give each other are told by one test
-told : (b : Bool) (P Q : Type 0) → P ↔ Q → (P ↔ Q) × (Decides b P → Decides b Q)
-told b P Q e = (e, Decides-like b e.0 e.1)
+pub optimum_if_tight : OptimumIfTight
+optimum_if_tight g left right p q s h v k = (
+  λ t. optimum g s left right q k (valid_for g s left right p h v q t),
+  tight g s left right p h v q,
+)
 
-pub optimum_if_tight_lem : (b : Bool) → OptimumIfTight b b
-optimum_if_tight_lem b g left right p q s h v k =
-    told b (Tight g left right q) (Optimum g q) (
-      λ t. optimum g s left right q k (valid_for g s left right p h v q t),
-      tight g s left right p h v q,
-    )
+pub tight_alike : TightAlike
+tight_alike g left right left' right' p p' q s h v h' v' k =
+    let a = optimum_if_tight g left right p q s h v k in
+    let c = optimum_if_tight g left' right' p' q s h' v' k in
+    (λ t. c.1 (a.0 t), λ t. a.1 (c.0 t))
 
-pub tight_alike : (b : Bool) → TightAlike b b
-tight_alike b g left right left' right' p p' q s h v h' v' k =
-    let a = (optimum_if_tight_lem b g left right p q s h v k).0 in
-    let c = (optimum_if_tight_lem b g left' right' p' q s h' v' k).0 in
-    told b (Tight g left right q) (Tight g left' right' q) (λ t. c.1 (a.0 t), λ t. a.1 (c.0 t))
-
-pub valid_alike : (b : Bool) → ValidAlike b b
-valid_alike b g left right p q s h v k =
-    told b (Optimum g q) (Valid g left right q) (
-      λ o. valid_for g s left right p h v q (tight g s left right p h v q o),
-      optimum g s left right q k,
-    )
+pub valid_alike : ValidAlike
+valid_alike g left right p q s h v k = (
+  λ o. valid_for g s left right p h v q (tight g s left right p h v q o),
+  optimum g s left right q k,
+)
 
 -- ---- the greatest prices
 
@@ -147,12 +139,10 @@ module _ (g : Grid) (s : Sane g) (left right left' right' : ℕ → List ℤ) (p
     (b : Greatest g left' right' q) where
   -- prices valid for p are valid for q too, since q is optimum
   moved : Valid g left right q
-  moved = (valid_alike true g left right p q s h a.valid k).0.0
-      (optimum g s left' right' q k b.valid)
+  moved = (valid_alike g left right p q s h a.valid k).0 (optimum g s left' right' q k b.valid)
 
   back : Valid g left' right' p
-  back = (valid_alike true g left' right' q p s k b.valid h).0.0
-      (optimum g s left right p h a.valid)
+  back = (valid_alike g left' right' q p s k b.valid h).0 (optimum g s left right p h a.valid)
 
   rights_same : (r : ℕ) → r < g.size → right r ≡ right' r
   rights_same r j =
@@ -168,16 +158,11 @@ module _ (g : Grid) (s : Sane g) (left right left' right' : ℕ → List ℤ) (p
       left_is g s left right p h a.valid l i ∙ ap (minus (g.cost l (at p l)))
       (rights_same (at p l) (h.below l i)) ∙ sym (left_is g s left' right' p h back l i)
 
-same_compare : (xs ys : List ℤ) → xs ≡ ys → lex xs ys ≡ Equal
-same_compare xs ys e = ap (λ t. lex t ys) e ∙ lex_refl ys
-
-pub greatest_alike : GreatestAlike Equal
-greatest_alike g left right left' right' p q s h k a b x i =
-    let r = rights_same g s left right left' right' p q h k a b x i in
-    let l = lefts_same g s left right left' right' p q h k a b x i in (
-      same_compare (right x) (right' x) r,
-      same_compare (left x) (left' x) l,
-      r,
-      l,
-      left_is g s left right p h a.valid x i,
-    )
+pub greatest_alike : GreatestAlike
+greatest_alike g left right left' right' p q s h k a b = (
+  rights_same g s left right left' right' p q h k a b,
+  λ l i. (
+    lefts_same g s left right left' right' p q h k a b l i,
+    left_is g s left right p h a.valid l i,
+  ),
+)

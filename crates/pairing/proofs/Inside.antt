@@ -4,7 +4,6 @@
 -- the grids can change places. Their sizes and columns are taken as the very same first.
 use Rattle.std.proofs.Common.{◌≡◌, ℕ, zero, suc, ◌<◌, ◌≤◌, Bool, true, List, length, ℤ, sym}
 use Rattle.std.proofs.Common.{refl, ap, ◌∙◌, subst, ap₂, ltb, ◌&&◌, arith}
-use Rattle.std.proofs.lemmas.Bool.Decides.{Decides-like}
 use Rattle.cost.specs.Columns.{Within, plus}
 use Rattle.pairing.specs.Grid.{Grid, Sane, at, PerfectIn, total_of, total, Upto, Optimum}
 use Rattle.pairing.specs.Prices.{Valid, Greatest}
@@ -126,8 +125,8 @@ module _ (n columns : ℕ) (s t : ℕ → ℕ → Bool) (c d : ℕ → ℕ → L
 
 module _ (n columns : ℕ) (s t : ℕ → ℕ → Bool) (c d : ℕ → ℕ → List ℤ) (e : Alike n s t)
     (f : CostAlike n s c d) where
-  alike_at : (b : Bool) → AlikeInside b b (one n columns s t c d e f) (other n columns s t c d e f)
-  alike_at b =
+  alike_at : AlikeInside (one n columns s t c d e f) (other n columns s t c d e f)
+  alike_at =
       let back_e = e' n columns s t c d e f in
       let back_f = f' n columns s t c d e f in
       record {
@@ -154,13 +153,12 @@ module _ (n columns : ℕ) (s t : ℕ → ℕ → Bool) (c d : ℕ → ℕ → L
         );
         is_marked = λ l r. ap (λ ps. ltb l n && has_pair l r ps)
             (optima_like n columns s t c d e f);
-        told = λ p. Decides-like b (there n columns s t c d e f p) (back n columns s t c d e f p);
       }
 
-pub inside_matters : (b : Bool) → InsideMatters b b
-inside_matters b g h i =
-    subst (λ k. AlikeInside b b g
+pub inside_matters : InsideMatters
+inside_matters g h i =
+    subst (λ k. AlikeInside g
     (record { size = h.size; columns = k; stands = h.stands; cost = h.cost })) i.columns
-    (subst (λ k. AlikeInside b b g
+    (subst (λ k. AlikeInside g
     (record { size = k; columns = g.columns; stands = h.stands; cost = h.cost })) i.size
-    (alike_at g.size g.columns g.stands h.stands g.cost h.cost i.stands i.cost b))
+    (alike_at g.size g.columns g.stands h.stands g.cost h.cost i.stands i.cost))

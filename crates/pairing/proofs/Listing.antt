@@ -16,7 +16,7 @@ use Rattle.std.specs.Ordering.{is_le}
 use Rattle.std.proofs.lemmas.Int.{ints}
 use Rattle.std.proofs.ByRecursion.{all_kept_by, All-weaker, All-append, All-get_or, Decides-by_and}
 use Rattle.std.proofs.lemmas.Bool.Decides.{Decides-and, Decides-not, Decides-eqb}
-use Rattle.std.proofs.lemmas.Bool.Decides.{Decides-like, same_from_decides}
+use Rattle.std.proofs.lemmas.Bool.Decides.{Decides-like}
 use Rattle.std.proofs.lemmas.List.Elements.{recursion_from_All}
 use Rattle.std.proofs.lemmas.Bool.{cases_eq, cases_Bool, cases_order, true≢false, cond_both}
 use Rattle.std.proofs.lemmas.Bool.{or_cases, or_left, or_right, eqb-true, eq-eqb}
@@ -25,7 +25,7 @@ use Rattle.cost.specs.Columns.{lex}
 use Rattle.cost.specs.Weights.{weight}
 use Rattle.pairing.specs.Grid.{Grid, Sane, at, Perfect, PerfectIn, Optimum, total, Upto}
 use Rattle.pairing.specs.Optima.{Before, lists, is_perfect, perfects, is_upto, is_least, optima}
-use Rattle.pairing.specs.Optima.{Paired, Marked, has_pair, is_marked}
+use Rattle.pairing.specs.Optima.{has_pair}
 use Rattle.pairing.proofs.Members.{all_below, all_tells}
 use Rattle.pairing.specs.Theorems.{IsListOf, PerfectsAre, PairsAre, OptimaAre, MarksAre}
 use Rattle.pairing.proofs.Weighing.{total_from}
@@ -408,16 +408,13 @@ module _ (P : List ℕ → Type 0) (ps : List (List ℕ)) (are : (p : List ℕ) 
       filled [] p i = absurd i
       filled (q ∷ qs) p i = lt-ltb 0 (length (q ∷ qs)) (omega arith)
 
-  told_of : (b : Bool) → Decides b ((p : List ℕ) × P p) → ltb 0 (length ps) ≡ b
-  told_of b d = same_from_decides (ltb 0 (length ps)) b some_of d
-
-pub perfects_are : (b : Bool) → PerfectsAre b b
-perfects_are b n stands =
+pub perfects_are : PerfectsAre
+perfects_are n stands =
     let are = in_perfects n stands in
     record {
       list = list_of (Perfect n stands) (perfects n stands) (perfects_ascend n stands) are;
       none = none_of (Perfect n stands) (perfects n stands) are;
-      told = told_of (Perfect n stands) (perfects n stands) are b;
+      some = some_of (Perfect n stands) (perfects n stands) are;
     }
 
 -- ---- where a perfect pairing is, an optimum one is
@@ -462,29 +459,19 @@ module _ (g : Grid) (s : Sane g) where
   optimum_exists p h = let are = in_perfects g.size g.stands in
       some_optimum (perfects g.size g.stands) are p ((are p).1 h)
 
--- some pairing is perfect exactly if some is optimum
-module _ (g : Grid) (s : Sane g) where
-  none_perfect : ((p : List ℕ) → Optimum g p → ⊥) ↔ ((p : List ℕ) → PerfectIn g p → ⊥)
-  none_perfect = (
-    λ no_one p h. let o = optimum_exists g s p h in no_one o.0 o.1,
-    λ no_one p o. no_one p o.perfect,
-  )
-
-  some_perfect : (b : Bool) → Decides b ((p : List ℕ) × PerfectIn g p)
-      → Decides b ((p : List ℕ) × Optimum g p)
-  some_perfect b d = Decides-like b (λ w. optimum_exists g s w.0 w.1) (λ o. (o.0, o.1.perfect)) d
-
-pub optima_are : (b : Bool) → OptimaAre b b
-optima_are b g =
+-- so some pairing is perfect exactly if some is optimum
+pub optima_are : OptimaAre
+optima_are g =
     let are = in_optima g in
     let none = none_of (Optimum g) (optima g) are in
     record {
       list = list_of (Optimum g) (optima g) (optima_ascend g) are;
       none = λ s. (
-        λ e. (none_perfect g s).0 (none.0 e),
-        λ no_one. none.1 ((none_perfect g s).1 no_one),
+        λ e p h. let o = optimum_exists g s p h in none.0 e o.0 o.1,
+        λ no_one. none.1 (λ p o. no_one p o.perfect),
       );
-      told = λ s d. told_of (Optimum g) (optima g) are b (some_perfect g s b d);
+      some = λ s. Decides-like _ (λ o. (o.0, o.1.perfect)) (λ w. optimum_exists g s w.0 w.1)
+          (some_of (Optimum g) (optima g) are);
     }
 
 -- ---- the pairs
@@ -505,8 +492,8 @@ has_tells l r (p ∷ ps) =
       ],
     )
 
-pub marked_tells : (g : Grid) (l r : ℕ) → Decides (is_marked g l r) (Marked g l r)
-marked_tells g l r =
+pub marks_are : MarksAre
+marks_are g l r =
     let h = has_tells l r (optima g) in (
       λ e.
           let b = and_parts (ltb l g.size) (has_pair l r (optima g)) e in
@@ -521,13 +508,9 @@ marked_tells g l r =
           (h.1 (w.pairing, (in_optima g w.pairing).1 w.optimum, w.has)),
     )
 
-pub marks_are : (b : Bool) → MarksAre b b
-marks_are b g l r e = subst (λ x. Decides x (Marked g l r)) e (marked_tells g l r)
-
-pub pairs_are : (b : Bool) → PairsAre b b
-pairs_are b n stands l r i e =
-    let h = has_tells l r (perfects n stands) in
-    subst (λ x. Decides x (Paired n stands l r)) e (
+pub pairs_are : PairsAre
+pairs_are n stands l r i =
+    let h = has_tells l r (perfects n stands) in (
       λ t.
           let w = h.0 t in
           record {

@@ -6,7 +6,7 @@
 -- leaves; a pairing that gives l the block r gives it one of that set, so by counting p does too.
 use Rattle.std.proofs.Common.{◌≡◌, ℕ, suc, ◌<◌, ◌≤◌, Bool, true, false, not, ◌&&◌, ◌||◌, eqb, ltb}
 use Rattle.std.proofs.Common.{◌⊎◌, ◌↔◌, List, sym, refl, ap, ◌∙◌, subst, inl, inr, arith}
-use Rattle.std.proofs.lemmas.Bool.Decides.{nat_tests, Decides-like}
+use Rattle.std.proofs.lemmas.Bool.Decides.{nat_tests}
 use Rattle.std.proofs.lemmas.Bool.{cases_eq, cases_lt, and_parts, and_from, eqb-true, eq-eqb}
 use Rattle.std.proofs.lemmas.Bool.{eqb-false}
 use Rattle.pairing.specs.Grid.{at, Perfect}
@@ -149,9 +149,9 @@ module _ (n k : ℕ) (tight : ℕ → ℕ → Bool) (p : List ℕ) (h : Perfect 
       let pin-p = (pinned_agree n k tight p p (omega arith)).1 (h, λ _ _. refl) in
       let pin-q = (pinned_agree n k tight p w.0 (omega arith)).1 (w.1, w.2) in
       let inside : c.0 (at p l) ≡ true =
-      (given_alike true).closed n (pinned k p tight) p w.0 pin-p pin-q c.0
-      (λ x d a b m e. c.2.closed (at p x) d (h.below x a) b m (steps_from x d a e))
-      l i (ap c.0 w.3 ∙ c.2.has r j (eq-eqb r r refl)) in
+      given_alike.closed n (pinned k p tight) p w.0 pin-p pin-q c.0
+      (λ x d a b m e. c.2.closed (at p x) d (h.below x a) b m (steps_from x d a e)) l i
+      ∙ ap c.0 w.3 ∙ c.2.has r j (eq-eqb r r refl) in
       reached_all n (λ x. eqb x r) steps c.0 c.1 c.2 (Chain n k tight p r)
       (λ y _ e. subst (Chain n k tight p r) (sym (eqb-true y r e)) here)
       (λ x y _ _ v e. chained x y v e) (suc (c.1 (at p l))) (at p l) (h.below l i) (omega arith)
@@ -160,11 +160,10 @@ module _ (n k : ℕ) (tight : ℕ → ℕ → Bool) (p : List ℕ) (h : Perfect 
   pub chain_sends : Chain n k tight p r (at p l) ↔ Sends n k tight p l r
   chain_sends = (λ w. elim (taker (at p l) w) [ inl v ↦ exchanged v | inr v ↦ exchanged v ], led)
 
-pub sends_if_chain_lem : (b : Bool) → SendsIfChain b b
-sends_if_chain_lem b n k tight p h l r from i j =
-    let to : (tight l r ≡ true) × Chain n k tight p r (at p l) → Sends n k tight p l r =
-    λ w. (chain_sends n k tight p h l r from i j w.0).0 w.1 in
-    let back : Sends n k tight p l r → (tight l r ≡ true) × Chain n k tight p r (at p l) = λ w.
-    let t : tight l r ≡ true = subst (λ c. tight l c ≡ true) w.3 (w.1.standing l i) in
-    (t, (chain_sends n k tight p h l r from i j t).1 w) in
-    ((to, back), Decides-like b to back)
+pub sends_if_chain : SendsIfChain
+sends_if_chain n k tight p h l r from i j = (
+  λ w. (chain_sends n k tight p h l r from i j w.0).0 w.1,
+  λ w.
+      let t : tight l r ≡ true = subst (λ c. tight l c ≡ true) w.3 (w.1.standing l i) in
+      (t, (chain_sends n k tight p h l r from i j t).1 w),
+)

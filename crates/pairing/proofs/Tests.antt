@@ -15,7 +15,7 @@ use Rattle.cost.proofs.Order.{lex_same}
 use Rattle.pairing.specs.Grid.{Grid, Sane, at, PerfectIn}
 use Rattle.pairing.specs.Prices.{Value, Valid, Greatest}
 use Rattle.pairing.specs.Optima.{is_upto, Marked, is_marked}
-use Rattle.pairing.proofs.Listing.{upto_tells, marked_tells}
+use Rattle.pairing.proofs.Listing.{upto_tells, marks_are}
 use Rattle.pairing.proofs.Members.{some_below, all_below, some_tells, all_tells}
 use Rattle.pairing.proofs.Attained.{Attained, attained_greatest}
 
@@ -161,12 +161,12 @@ marks_pair g t l r = implies (g.stands l r) (alike (is_marked g l r) (t l r))
 abbrev pub marks : Grid → (ℕ → ℕ → Bool) → Bool
 marks g t = all_below g.size (λ l. all_below g.size (marks_pair g t l))
 
-pub marks_are : (g : Grid) (t : ℕ → ℕ → Bool) → marks g t ≡ true → (l r : ℕ) → l < g.size
+pub marks_tell : (g : Grid) (t : ℕ → ℕ → Bool) → marks g t ≡ true → (l r : ℕ) → l < g.size
     → r < g.size → g.stands l r ≡ true → Decides (t l r) (Marked g l r)
-marks_are g t e l r i j s =
+marks_tell g t e l r i j s =
     subst (λ b. Decides b (Marked g l r))
     (alike_is (is_marked g l r) (t l r)
     (implied (g.stands l r) _
     (passes g.size (marks_pair g t l)
     (passes g.size (λ l. all_below g.size (marks_pair g t l)) e l i) r j) s))
-    (marked_tells g l r)
+    (marks_are g l r)

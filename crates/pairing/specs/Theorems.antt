@@ -2,10 +2,9 @@
 -- of a function.
 use Rattle.std.specs.Prelude.{◌≡◌, ℕ, ◌+◌, ◌-◌, ◌<◌, ◌≤◌, Bool, true, false, ◌&&◌, ◌↔◌, List}
 use Rattle.std.specs.Prelude.{[], ℤ, IsTrue, ◌≢◌, Contains, AllPairs, length, nat_lt}
-use Rattle.std.specs.declared.cmp.Ordering.{Ordering}
-use Rattle.cost.specs.Columns.{minus, lex}
+use Rattle.cost.specs.Columns.{minus}
 use Rattle.pairing.specs.Places.{rights_of}
-use Rattle.pairing.specs.Grid.{Grid, Sane, at, Perfect, PerfectIn, total, Optimum}
+use Rattle.pairing.specs.Grid.{Grid, right_count, Sane, at, Perfect, PerfectIn, total, Optimum}
 use Rattle.pairing.specs.Prices.{Valid, Tight, Greatest}
 use Rattle.blockset.specs.Sets.{members}
 use Rattle.pairing.specs.Largest.{Partial, pairs, Largest, Crowd, CrowdSet, around, shortage}
@@ -16,64 +15,53 @@ use Rattle.pairing.specs.Optima.{Before, perfects, optima, Paired, Marked, has_p
 
 -- ---- Prices (weak duality and complementary slackness)
 
--- prices valid for a perfect pairing make it optimum; its total never compares as `never` with that
--- of a perfect pairing
-abbrev pub ProvesOptimum : Ordering → Type 0
-ProvesOptimum never =
+-- prices valid for a perfect pairing make it optimum
+abbrev pub ProvesOptimum : Type 0
+ProvesOptimum =
     (g : Grid) (left right : ℕ → List ℤ) (p : List ℕ) → Sane g → PerfectIn g p
-    → Valid g left right p
-    → Optimum g p × ((q : List ℕ) → PerfectIn g q → lex (total g p) (total g q) ≢ never)
+    → Valid g left right p → Optimum g p
 
--- under prices valid for some perfect pairing, a perfect pairing is optimum exactly if it is tight:
--- `optimum` tells it from `tight`
-abbrev pub OptimumIfTight : (tight optimum : Bool) → Type 0
-OptimumIfTight tight optimum =
+-- under prices valid for some perfect pairing, a perfect pairing is optimum exactly if it is tight
+abbrev pub OptimumIfTight : Type 0
+OptimumIfTight =
     (g : Grid) (left right : ℕ → List ℤ) (p q : List ℕ) → Sane g → PerfectIn g p
-    → Valid g left right p → PerfectIn g q
-    → (Tight g left right q ↔ Optimum g q)
-    × ((IsTrue tight ↔ Tight g left right q) → (IsTrue optimum ↔ Optimum g q))
+    → Valid g left right p → PerfectIn g q → Tight g left right q ↔ Optimum g q
 
 -- whichever valid prices were taken, for whichever pairing, the same perfect pairings are tight
-abbrev pub TightAlike : (tight tight' : Bool) → Type 0
-TightAlike tight tight' =
+abbrev pub TightAlike : Type 0
+TightAlike =
     (g : Grid) (left right left' right' : ℕ → List ℤ) (p p' q : List ℕ) → Sane g → PerfectIn g p
-    → Valid g left right p
-    → PerfectIn g p' → Valid g left' right' p' → PerfectIn g q
-    → (Tight g left right q ↔ Tight g left' right' q)
-    × ((IsTrue tight ↔ Tight g left right q) → (IsTrue tight' ↔ Tight g left' right' q))
+    → Valid g left right p → PerfectIn g p' → Valid g left' right' p' → PerfectIn g q
+    → Tight g left right q ↔ Tight g left' right' q
 
 -- prices valid for one perfect pairing are valid for just the optimum pairings
-abbrev pub ValidAlike : (optimum valid : Bool) → Type 0
-ValidAlike optimum valid =
+abbrev pub ValidAlike : Type 0
+ValidAlike =
     (g : Grid) (left right : ℕ → List ℤ) (p q : List ℕ) → Sane g → PerfectIn g p
-    → Valid g left right p → PerfectIn g q
-    → (Optimum g q ↔ Valid g left right q)
-    × ((IsTrue optimum ↔ Optimum g q) → (IsTrue valid ↔ Valid g left right q))
+    → Valid g left right p → PerfectIn g q → Optimum g q ↔ Valid g left right q
 
--- two systems of greatest prices, for two perfect pairings even, compare as `order` at each block
--- and are the same; the left prices are what the pairs cost beyond their right prices
-abbrev pub GreatestAlike : Ordering → Type 0
-GreatestAlike order =
+-- two systems of greatest prices, for two perfect pairings even, are the same; the left prices are
+-- what the pairs cost beyond their right prices
+abbrev pub GreatestAlike : Type 0
+GreatestAlike =
     (g : Grid) (left right left' right' : ℕ → List ℤ) (p q : List ℕ) → Sane g → PerfectIn g p
     → PerfectIn g q → Greatest g left right p → Greatest g left' right' q
-    → (k : ℕ) → k < g.size
-    → (lex (right k) (right' k) ≡ order) × (lex (left k) (left' k) ≡ order) × (right k ≡ right' k)
-    × (left k ≡ left' k) × (left k ≡ minus (g.cost k (at p k)) (right (at p k)))
+    → ((r : ℕ) → r < right_count g → right r ≡ right' r)
+    × ((l : ℕ) → l < g.size → (left l ≡ left' l)
+    × (left l ≡ minus (g.cost l (at p l)) (right (at p l))))
 
 -- ---- Counting
 
 -- As many left blocks get a right block of C from one perfect pairing as from another. So if each
--- left block that gets one from p gets one from q too, no other left block gets one from q:
--- `given'`, whether p gives l one, is told from `given`, whether q does. That is so if C is closed,
--- and p and q are both of tight pairs.
-pub record GivenAlike (given given' : Bool) : Type 0 where
+-- left block that gets one from p gets one from q too, no other left block gets one from q. That is
+-- so if C is closed, and p and q are both of tight pairs.
+pub record GivenAlike : Type 0 where
   pub alike : (n : ℕ) (stands stands' : ℕ → ℕ → Bool) (p q : List ℕ) → Perfect n stands p
       → Perfect n stands' q
       → (C : ℕ → Bool) → ((l : ℕ) → l < n → C (at p l) ≡ true → C (at q l) ≡ true) → (l : ℕ) → l < n
-      → C (at q l) ≡ given → C (at p l) ≡ given'
+      → C (at p l) ≡ C (at q l)
   pub closed : (n : ℕ) (tight : ℕ → ℕ → Bool) (p q : List ℕ) → Perfect n tight p → Perfect n tight q
-      → (C : ℕ → Bool) → Closed n tight p C → (l : ℕ) → l < n → C (at q l) ≡ given
-      → C (at p l) ≡ given'
+      → (C : ℕ → Bool) → Closed n tight p C → (l : ℕ) → l < n → C (at p l) ≡ C (at q l)
 
 -- a set of `many` left blocks that stand with no right block outside a set of `few`: every pairing
 -- leaves at least many - few of them out, and so has at most n - (many - few) pairs
@@ -97,48 +85,40 @@ pub record Hall (many few : ℕ) (possible : Bool) : Type 0 where
 
 -- ---- Largest pairings
 
--- there is always a largest pairing, and a pairing is largest exactly if no augmenting path is
--- left: `largest` tells it from `stuck`
-pub record LargestAre (stuck largest : Bool) (n : ℕ) (stands : ℕ → ℕ → Bool) : Type 0 where
-  pub exists : (p : List ℕ) × (out : ℕ → Bool) × Largest n stands p out
-  pub are : (p : List ℕ) (out : ℕ → Bool) → Partial n stands p out → Stuck n stands p out
-      ↔ Largest n stands p out
-  pub told : (p : List ℕ) (out : ℕ → Bool) → Partial n stands p out
-      → (IsTrue stuck ↔ Stuck n stands p out) → (IsTrue largest ↔ Largest n stands p out)
-
-abbrev pub LargestIfStuck : (stuck largest : Bool) → Type 0
-LargestIfStuck stuck largest = (n : ℕ) (stands : ℕ → ℕ → Bool) → LargestAre stuck largest n stands
+-- there is always a largest pairing, and a pairing is largest exactly if no augmenting path is left
+pub record LargestIfStuck : Type 0 where
+  pub exists : (n : ℕ) (stands : ℕ → ℕ → Bool) → (p : List ℕ) × (out : ℕ → Bool)
+      × Largest n stands p out
+  pub are : (n : ℕ) (stands : ℕ → ℕ → Bool) (p : List ℕ) (out : ℕ → Bool) → Partial n stands p out
+      → Stuck n stands p out ↔ Largest n stands p out
 
 -- the crowd set is the set reached from the left blocks that a largest pairing leaves out,
 -- whichever largest pairing that is
-abbrev pub CrowdIfReached : (reached crowd : Bool) → Type 0
-CrowdIfReached reached crowd =
+abbrev pub CrowdIfReached : Type 0
+CrowdIfReached =
     (n : ℕ) (stands : ℕ → ℕ → Bool) (p : List ℕ) (out : ℕ → Bool) → Largest n stands p out → (l : ℕ)
-    → (Reached n stands p out l ↔ Crowd n stands l)
-    × ((IsTrue reached ↔ Reached n stands p out l) → (IsTrue crowd ↔ Crowd n stands l))
+    → Reached n stands p out l ↔ Crowd n stands l
 
 -- the crowd set is short of as many right blocks as a largest pairing leaves left blocks out, and
 -- that is none exactly if a pairing is perfect
-abbrev pub ShortBy : (left_out short : ℕ) → Type 0
-ShortBy left_out short =
+abbrev pub ShortBy : Type 0
+ShortBy =
     (n : ℕ) (stands : ℕ → ℕ → Bool) (p : List ℕ) (out X : ℕ → Bool) → Largest n stands p out
-    → members n out ≡ left_out → CrowdSet n stands X
-    → (shortage n stands X ≡ short)
-    × (members n X ≡ members (rights_of n) (around n stands X) + short)
-    × ((short ≡ 0) ↔ ((q : List ℕ) × Perfect n stands q))
+    → CrowdSet n stands X
+    → (shortage n stands X ≡ members n out)
+    × (members n X ≡ members (rights_of n) (around n stands X) + members n out)
+    × ((members n out ≡ 0) ↔ ((q : List ℕ) × Perfect n stands q))
 
 -- ---- Exchange along a chain
 
 -- over a perfect pairing p of tight pairs, some perfect pairing of tight pairs that keeps what p
 -- gives below k gives l the right block r exactly if l and r are tight and a chain leads from r to
--- the right block that p gives l: `sends` tells it from `chain`
-abbrev pub SendsIfChain : (chain sends : Bool) → Type 0
-SendsIfChain chain sends =
+-- the right block that p gives l
+abbrev pub SendsIfChain : Type 0
+SendsIfChain =
     (n k : ℕ) (tight : ℕ → ℕ → Bool) (p : List ℕ) → Perfect n tight p → (l r : ℕ) → k ≤ l → l < n
     → r < rights_of n
-    → (((tight l r ≡ true) × Chain n k tight p r (at p l)) ↔ Sends n k tight p l r)
-    × ((IsTrue chain ↔ ((tight l r ≡ true) × Chain n k tight p r (at p l)))
-    → (IsTrue sends ↔ Sends n k tight p l r))
+    → ((tight l r ≡ true) × Chain n k tight p r (at p l)) ↔ Sends n k tight p l r
 
 -- ---- The lists of all perfect and of all optimum pairings
 
@@ -151,43 +131,37 @@ pub record IsListOf (P : List ℕ → Type 0) (ps : List (List ℕ)) : Type 0 wh
   pub only : (qs : List (List ℕ)) → AllPairs Before qs → ((p : List ℕ) → Contains qs p ↔ P p)
       → qs ≡ ps
 
--- `perfects` is the list of the perfect pairings; it is empty exactly if no pairing is perfect:
--- `found` tells from `perfect` whether it holds any
-pub record PerfectsHold (perfect found : Bool) (n : ℕ) (stands : ℕ → ℕ → Bool) : Type 0 where
+-- `perfects` is the list of the perfect pairings; it holds one exactly if some pairing is perfect
+pub record PerfectsHold (n : ℕ) (stands : ℕ → ℕ → Bool) : Type 0 where
   pub list : IsListOf (Perfect n stands) (perfects n stands)
   pub none : (perfects n stands ≡ []) ↔ ((p : List ℕ) → Perfect n stands p → ⊥)
-  pub told : (IsTrue perfect ↔ ((p : List ℕ) × Perfect n stands p))
-      → nat_lt 0 (length (perfects n stands)) ≡ found
+  pub some : IsTrue (nat_lt 0 (length (perfects n stands))) ↔ ((p : List ℕ) × Perfect n stands p)
 
-abbrev pub PerfectsAre : (perfect found : Bool) → Type 0
-PerfectsAre perfect found = (n : ℕ) (stands : ℕ → ℕ → Bool) → PerfectsHold perfect found n stands
+abbrev pub PerfectsAre : Type 0
+PerfectsAre = (n : ℕ) (stands : ℕ → ℕ → Bool) → PerfectsHold n stands
 
 -- the test on the list tells whether some perfect pairing has a pair
-abbrev pub PairsAre : (listed paired : Bool) → Type 0
-PairsAre listed paired = (n : ℕ) (stands : ℕ → ℕ → Bool) (l r : ℕ) → l < n
-    → has_pair l r (perfects n stands) ≡ listed → (IsTrue paired ↔ Paired n stands l r)
+abbrev pub PairsAre : Type 0
+PairsAre = (n : ℕ) (stands : ℕ → ℕ → Bool) (l r : ℕ) → l < n
+    → IsTrue (has_pair l r (perfects n stands)) ↔ Paired n stands l r
 
--- `optima` is the list of the optimum pairings; it is empty exactly if no pairing is perfect:
--- `found` tells from `perfect` whether it holds any
-pub record OptimaHold (perfect found : Bool) (g : Grid) : Type 0 where
+-- `optima` is the list of the optimum pairings; it holds one exactly if some pairing is perfect
+pub record OptimaHold (g : Grid) : Type 0 where
   pub list : IsListOf (Optimum g) (optima g)
   pub none : Sane g → (optima g ≡ []) ↔ ((p : List ℕ) → PerfectIn g p → ⊥)
-  pub told : Sane g → (IsTrue perfect ↔ ((p : List ℕ) × PerfectIn g p))
-      → nat_lt 0 (length (optima g)) ≡ found
+  pub some : Sane g → IsTrue (nat_lt 0 (length (optima g))) ↔ ((p : List ℕ) × PerfectIn g p)
 
-abbrev pub OptimaAre : (perfect found : Bool) → Type 0
-OptimaAre perfect found = (g : Grid) → OptimaHold perfect found g
+abbrev pub OptimaAre : Type 0
+OptimaAre = (g : Grid) → OptimaHold g
 
 -- the test on the list tells whether some optimum pairing has a pair
-abbrev pub MarksAre : (listed marked : Bool) → Type 0
-MarksAre listed marked = (g : Grid) (l r : ℕ) → is_marked g l r ≡ listed
-    → (IsTrue marked ↔ Marked g l r)
+abbrev pub MarksAre : Type 0
+MarksAre = (g : Grid) (l r : ℕ) → IsTrue (is_marked g l r) ↔ Marked g l r
 
 -- ---- What a grid says of other pairs never matters
 
--- grids that are the same inside have the same pairings, optimum pairings, prices and crowd sets:
--- `there`, whether a pairing is optimum in h, is told from `here`, whether it is in g
-pub record AlikeInside (here there : Bool) (g h : Grid) : Type 0 where
+-- grids that are the same inside have the same pairings, optimum pairings, prices and crowd sets
+pub record AlikeInside (g h : Grid) : Type 0 where
   pub sane : Sane g ↔ Sane h
   pub perfect : (p : List ℕ) → PerfectIn g p ↔ PerfectIn h p
   pub perfects : perfects g.size g.stands ≡ perfects h.size h.stands
@@ -204,7 +178,6 @@ pub record AlikeInside (here there : Bool) (g h : Grid) : Type 0 where
       → Unpaired g.size g.stands crowd short ↔ Unpaired h.size h.stands crowd short
   pub marked : (l r : ℕ) → Marked g l r ↔ Marked h l r
   pub is_marked : (l r : ℕ) → is_marked g l r ≡ is_marked h l r
-  pub told : (p : List ℕ) → (IsTrue here ↔ Optimum g p) → (IsTrue there ↔ Optimum h p)
 
-abbrev pub InsideMatters : (here there : Bool) → Type 0
-InsideMatters here there = (g h : Grid) → SameInside g h → AlikeInside here there g h
+abbrev pub InsideMatters : Type 0
+InsideMatters = (g h : Grid) → SameInside g h → AlikeInside g h

@@ -1,5 +1,5 @@
 //! The mathematics of pairing: what the words mean stands in specs/, and each theorem is the
-//! contract of a function here. A theorem's function answers the witness that its statement names.
+//! contract of a function here. One without a result does nothing: it is here for its theorem.
 #![tactic(auto)]
 
 ghost use Rattle.pairing.specs.Examples.{Examples};
@@ -9,52 +9,38 @@ ghost use Rattle.pairing.specs.Theorems.{LargestIfStuck, CrowdIfReached, ShortBy
 ghost use Rattle.pairing.specs.Theorems.{PerfectsAre, PairsAre, OptimaAre, MarksAre, InsideMatters};
 
 use cost::{Cost, Free, Plain, TwoStep};
-use std::cmp::Ordering;
 
-/// How the total of a perfect pairing with valid prices never compares with that of any perfect
-/// pairing: so it is optimum.
-pub fn never_under_prices() -> Ordering
-    ensures { ProvesOptimum result }
-{
-    Ordering::Greater
-}
+/// Prices that are valid for a perfect pairing prove it optimum (weak duality).
+pub fn proves_optimum()
+    ensures { ProvesOptimum }
+{}
 
-/// Whether a perfect pairing is optimum, told whether it is tight under valid prices.
-pub fn optimum_if_tight(tight: bool) -> bool
-    ensures { OptimumIfTight tight result }
-{
-    tight
-}
+/// Under valid prices a perfect pairing is optimum exactly if it is tight (complementary
+/// slackness).
+pub fn optimum_if_tight()
+    ensures { OptimumIfTight }
+{}
 
-/// Whether a perfect pairing is tight under valid prices, told whether it is under others.
-pub fn tight_if_elsewhere(elsewhere: bool) -> bool
-    ensures { TightAlike elsewhere result }
-{
-    elsewhere
-}
+/// Whichever valid prices are taken, the same perfect pairings are tight.
+pub fn tight_alike()
+    ensures { TightAlike }
+{}
 
-/// Whether prices that are valid for one perfect pairing are valid for another, told whether that
-/// one is optimum.
-pub fn valid_if_optimum(optimum: bool) -> bool
-    ensures { ValidAlike optimum result }
-{
-    optimum
-}
+/// Prices that are valid for one perfect pairing are valid for just the optimum pairings.
+pub fn valid_alike()
+    ensures { ValidAlike }
+{}
 
-/// How two systems of greatest prices compare at each block: there is only one.
-pub fn greatest_compare() -> Ordering
-    ensures { GreatestAlike result }
-{
-    Ordering::Equal
-}
+/// There is only one system of greatest prices, and the left ones follow from the right ones.
+pub fn greatest_alike()
+    ensures { GreatestAlike }
+{}
 
-/// Whether a perfect pairing gives a left block a right block of a set, told whether another one
-/// does that gives at least the same left blocks one.
-pub fn given_if_by_other(given: bool) -> bool
-    ensures { GivenAlike given result }
-{
-    given
-}
+/// Two perfect pairings give equally many left blocks a right block of a set; where the set is
+/// closed, they give them to the same left blocks.
+pub fn given_alike()
+    ensures { GivenAlike }
+{}
 
 /// How many left blocks every pairing leaves out at least, where `many` left blocks stand with only
 /// `few` right blocks.
@@ -72,71 +58,53 @@ pub fn may_be_perfect(many: usize, few: usize) -> bool
     many <= few
 }
 
-/// Whether a pairing is largest, told whether no augmenting path is left.
-pub fn largest_if_stuck(stuck: bool) -> bool
-    ensures { LargestIfStuck stuck result }
-{
-    stuck
-}
+/// A pairing is largest exactly if no augmenting path is left, and there is always one.
+pub fn largest_if_stuck()
+    ensures { LargestIfStuck }
+{}
 
-/// Whether a left block is in the crowd set, told whether it is reached from the left blocks that
-/// a largest pairing leaves out.
-pub fn crowd_if_reached(reached: bool) -> bool
-    ensures { CrowdIfReached reached result }
-{
-    reached
-}
+/// The crowd set is what is reached from the left blocks that a largest pairing leaves out.
+pub fn crowd_if_reached()
+    ensures { CrowdIfReached }
+{}
 
-/// The shortage of the crowd set, told how many left blocks a largest pairing leaves out.
-pub fn short_by(left_out: usize) -> usize
-    ensures { ShortBy left_out result }
-{
-    left_out
-}
+/// The crowd set is short of as many right blocks as a largest pairing leaves left blocks out (its
+/// deficiency).
+pub fn short_by()
+    ensures { ShortBy }
+{}
 
-/// Whether a left block can be sent to a right block, told whether a chain leads from there to its
-/// own right block.
-pub fn sends_if_chain(chain: bool) -> bool
-    ensures { SendsIfChain chain result }
-{
-    chain
-}
+/// A left block can be sent to a right block exactly if a chain leads from there to its own right
+/// block.
+pub fn sends_if_chain()
+    ensures { SendsIfChain }
+{}
 
-/// Whether the list of all perfect pairings holds any, told whether any pairing is perfect.
-pub fn listed_if_any(any: bool) -> bool
-    ensures { PerfectsAre any result }
-{
-    any
-}
+/// `perfects` is the list of the perfect pairings.
+pub fn perfects_are()
+    ensures { PerfectsAre }
+{}
 
-/// Whether some perfect pairing has a pair, told whether one in the list has it.
-pub fn paired_if_in_list(in_list: bool) -> bool
-    ensures { PairsAre in_list result }
-{
-    in_list
-}
+/// Some perfect pairing has a pair exactly if one in the list has it.
+pub fn pairs_are()
+    ensures { PairsAre }
+{}
 
-/// Whether the list of all optimum pairings holds any, told whether any pairing is perfect.
-pub fn found_if_perfect(perfect: bool) -> bool
-    ensures { OptimaAre perfect result }
-{
-    perfect
-}
+/// `optima` is the list of the optimum pairings.
+pub fn optima_are()
+    ensures { OptimaAre }
+{}
 
-/// Whether some optimum pairing has a pair, told whether one in the list has it.
-pub fn marked_if_listed(listed: bool) -> bool
-    ensures { MarksAre listed result }
-{
-    listed
-}
+/// Some optimum pairing has a pair exactly if one in the list has it.
+pub fn marks_are()
+    ensures { MarksAre }
+{}
 
-/// Whether a pairing is optimum in a grid, told whether it is in another one that is the same
-/// inside: nothing that a grid says of other pairs matters.
-pub fn optimum_if_same_inside(in_other: bool) -> bool
-    ensures { InsideMatters in_other result }
-{
-    in_other
-}
+/// Grids that are the same inside have the same pairings, prices and crowd sets: nothing that a
+/// grid says of other pairs matters.
+pub fn inside_matters()
+    ensures { InsideMatters }
+{}
 
 /// A pair of a left and a right block.
 #[derive(Clone, Copy)]

@@ -7,8 +7,8 @@ use Rattle.cost.specs.contracts.free_kind.FreeCost.TheImpl.{ghosts as free}
 use Rattle.pairing.specs.Grid.{Grid, PerfectIn}
 use Rattle.pairing.specs.Optima.{optima}
 use Rattle.pairing.specs.Examples.{s_grid, corner_grid, cheap_grid}
-use Rattle.pairing.proofs.Listing.{In, in_optima, marked_tells}
-use Rattle.pairing.proofs.Tests.{sane_is, greatest_is, marks_are}
+use Rattle.pairing.proofs.Listing.{In, in_optima, marks_are}
+use Rattle.pairing.proofs.Tests.{sane_is, greatest_is, marks_tell}
 use Rattle.pairing.proofs.Shown.{crowded, bare}
 use Rattle.pairing.proofs.worked_examples.Goals as goal
 
@@ -31,7 +31,7 @@ returns c = record {
       ),
     );
   };
-  s_marked = marks_are (s_grid plain) _ refl;
+  s_marked = marks_tell (s_grid plain) _ refl;
   free_kind = refl;
   two_steps = refl;
   two_step_total = (refl, tt);
@@ -48,7 +48,7 @@ returns c = record {
   };
   corner_stands = refl;
   corner_tight = refl;
-  corner_unmarked = λ w. false≢true ((marked_tells (corner_grid plain) 0 1).1 w);
+  corner_unmarked = λ w. false≢true ((marks_are (corner_grid plain) 0 1).1 w);
   cheap = record {
     all = refl;
     totals = (refl, tt);

@@ -1,6 +1,6 @@
 -- The theorem itself, proved in proofs/Listing.antt.
 use Rattle.pairing.proofs.Listing.{marks_are}
-use Rattle.pairing.proofs.marked_if_listed.Goals as goal
+use Rattle.pairing.proofs.marks_are.Goals as goal
 
 pub returns : goal.returns
-returns c = marks_are c.args.listed
+returns c = marks_are

@@ -1,6 +1,6 @@
 -- The theorem itself, proved in proofs/Listing.antt.
 use Rattle.pairing.proofs.Listing.{perfects_are}
-use Rattle.pairing.proofs.listed_if_any.Goals as goal
+use Rattle.pairing.proofs.perfects_are.Goals as goal
 
 pub returns : goal.returns
-returns c = perfects_are c.args.any
+returns c = perfects_are

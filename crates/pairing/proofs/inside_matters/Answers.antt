@@ -1,6 +1,6 @@
 -- The theorem itself, proved in proofs/Inside.antt.
 use Rattle.pairing.proofs.Inside.{inside_matters}
-use Rattle.pairing.proofs.optimum_if_same_inside.Goals as goal
+use Rattle.pairing.proofs.inside_matters.Goals as goal
 
 pub returns : goal.returns
-returns c = inside_matters c.args.in_other
+returns c = inside_matters

@@ -1,6 +1,6 @@
 -- The theorem itself, proved in proofs/Duality.antt.
 use Rattle.pairing.proofs.Duality.{tight_alike}
-use Rattle.pairing.proofs.tight_if_elsewhere.Goals as goal
+use Rattle.pairing.proofs.tight_alike.Goals as goal
 
 pub returns : goal.returns
-returns c = tight_alike c.args.elsewhere
+returns c = tight_alike
