@@ -84,7 +84,7 @@ module _ {K : Type 0} (kind : Ghosts K) (wide : (x : K) → length (kind.meaning
         → Settled kind (record t { partners = q })
     settled q h =
         let o : Optimum (grid kind t) q =
-        (are q).0 (((perfects_are true (length rows) (holds rows)).list.are q).0
+        (are q).0 (((perfects_are (length rows) (holds rows)).list.are q).0
         (contains_nth (pairings rows) 0 q h)) in
         let p = solved.optimum.perfect in
         let g = solved.prices.greatest in
@@ -92,12 +92,12 @@ module _ {K : Type 0} (kind : Ghosts K) (wide : (x : K) → length (kind.meaning
           first = subst (λ ps. IsNth ps 0 q) listed h;
           prices = record {
             greatest = record {
-              valid = (valid_alike true (grid kind t) (left_price kind t) (right_price kind t)
-                  t.partners q sane p g.valid o.perfect).0.0 o;
+              valid = (valid_alike (grid kind t) (left_price kind t) (right_price kind t)
+                  t.partners q sane p g.valid o.perfect).0 o;
               low = g.low;
               most = λ left' right' v. g.most left' right'
-                  ((valid_alike true (grid kind t) left' right' q t.partners sane o.perfect v
-                  p).0.0 solved.optimum);
+                  ((valid_alike (grid kind t) left' right' q t.partners sane o.perfect v
+                  p).0 solved.optimum);
             };
             left_near = solved.prices.left_near;
             right_near = solved.prices.right_near;

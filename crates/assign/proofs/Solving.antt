@@ -61,9 +61,9 @@ module _ {K : Type 0} (kind : Ghosts K)
       (λ r h. refl) s.topmost.tight in
       record {
         optimum =
-            (proves_optimum g (columns_at kind left) (columns_at kind right)
+            proves_optimum g (columns_at kind left) (columns_at kind right)
             partners
-            sane (perfect_like n (holds rows) g.stands alike partners perfect) top.valid).0;
+            sane (perfect_like n (holds rows) g.stands alike partners perfect) top.valid;
         prices = record {
           greatest = top;
           left_near = s.left_near;

@@ -18,7 +18,7 @@ use Rattle.pairing.specs.Grid.{at}
 use Rattle.pairing.specs.Chains.{Chain, here, step}
 use Rattle.pairing.specs.Optima.{has_pair}
 use Rattle.pairing.proofs.Counting.{onto}
-use Rattle.pairing.proofs.Sending.{sends_if_chain_lem}
+use Rattle.pairing.proofs.Sending.{sends_if_chain}
 use Rattle.pairing.proofs.Listing.{in_perfects, has_tells}
 use Rattle.matching.specs.declared.chains.Bounds.{Bounds}
 use Rattle.pairing.specs.Rows.{holds, Pairs, pairings}
@@ -53,7 +53,7 @@ told : (rows : List BlockSet) (p : List ℕ) (l r : ℕ) → Pairs rows p → l 
     → Decides t (Chain (length rows) 0 (holds rows) p r (at p l))
     → (holds rows l r && t) ≡ has_pair l r (pairings rows)
 told rows p l r h i j t d =
-    let s = (sends_if_chain_lem true (length rows) 0 (holds rows) p h l r (omega arith) i j).0 in
+    let s = sends_if_chain (length rows) 0 (holds rows) p h l r (omega arith) i j in
     let e = has_tells l r (pairings rows) in
     same_from_decides (holds rows l r && t) (has_pair l r (pairings rows)) (
       λ x. (let a = and_parts (holds rows l r) t x in let q = s.0 (a.0, d.0 a.1) in

@@ -16,7 +16,7 @@ use Rattle.blockset.proofs.Members.{members_none, members-within}
 use Rattle.pairing.specs.Grid.{at}
 use Rattle.pairing.specs.Largest.{Partial, Largest, CrowdSet, Unpaired}
 use Rattle.pairing.specs.Chains.{Reached, free, onward, Stuck}
-use Rattle.pairing.proofs.Crowds.{stuck_largest, reached_crowd, reached_inside, short_by_lem}
+use Rattle.pairing.proofs.Crowds.{stuck_largest, reached_crowd, reached_inside, short_by}
 use Rattle.matching.specs.declared.chains.Bounds.{Bounds}
 use Rattle.pairing.specs.Rows.{holds}
 use Rattle.matching.specs.Exchange.{without, Holding, Exchanged}
@@ -132,16 +132,15 @@ module _ (rows : List BlockSet) (p : List ℕ) (few : length rows ≤ 64) (b : B
           Decides-at (bit crowd l) (X l) (bits l) (Decides-like (X l) e.0 e.1 (crowd_reached l)) in
           let number : members (length rows) (has b.roots) ≡ short =
           sym (counted ∙ members-within 64 (length rows) (has b.roots) few inside) in
-          let s = short_by_lem short (length rows) (holds rows) p (has b.roots) (bit crowd) most
-          number crowd_set in
+          let s = short_by (length rows) (holds rows) p (has b.roots) (bit crowd) most crowd_set in
           record {
             none = λ q g.
-                let gone = members_none (length rows) (has b.roots) (number ∙ s.2.1 (q, g)) in
+                let gone = members_none (length rows) (has b.roots) (s.2.1 (q, g)) in
                 some (λ l. elim (cases_Bool (has b.roots l)) [
                   | inl t ↦ absurd (both_ways (has b.roots l) (gone l (inside l t)) t)
                   | inr f ↦
                       f
                 ]);
             crowd_set = crowd_set;
-            shortage_is = s.0;
+            shortage_is = s.0 ∙ number;
           }

@@ -14,7 +14,7 @@ use Rattle.blockset.specs.Has.{has}
 use Rattle.blockset.proofs.Holding.{has_block}
 use Rattle.pairing.specs.Grid.{at, Perfect}
 use Rattle.pairing.specs.Chains.{Agree, Chain, here, step}
-use Rattle.pairing.proofs.Sending.{sends_if_chain_lem}
+use Rattle.pairing.proofs.Sending.{sends_if_chain}
 use Rattle.matching.specs.declared.chains.Bounds.{Bounds}
 use Rattle.pairing.specs.Rows.{holds, Pairs}
 use Rattle.matching.specs.Exchange.{without, Holding, Ways, Exchanged}
@@ -64,7 +64,7 @@ module _ (n l : ℕ) (tight : ℕ → ℕ → Bool) (p : List ℕ) where
       | inl o ↦ o
       | inr f ↦
           let chain =
-          ((sends_if_chain_lem true n l tight p h l (at q l) (omega arith) i (g.below l i)).0.1
+          ((sends_if_chain n l tight p h l (at q l) (omega arith) i (g.below l i)).1
           (q, g, a, refl)).1 in
           absurd (both_ways (live (at p l))
           (stays_shut (at q l) f (at p l) chain l (omega arith) i refl) t.own)

@@ -76,8 +76,8 @@ module _ (order : Order) (r : Result Sheet Fault) (costs : List Plain) (standing
   abbrev loaded : Grid
   loaded = plain_grid order.size costs standing
 
-  pub loaded_alike : AlikeInside true true loaded (grid_stated order)
-  loaded_alike = inside_matters true loaded (grid_stated order) accepted.grid
+  pub loaded_alike : AlikeInside loaded (grid_stated order)
+  loaded_alike = inside_matters loaded (grid_stated order) accepted.grid
 
   pub loaded_optima : optima loaded ≡ optima (grid_stated order)
   loaded_optima = loaded_alike.optima

@@ -12,7 +12,7 @@ use Rattle.pairing.specs.Grid.{at}
 use Rattle.pairing.specs.Largest.{Partial, Crowd, CrowdSet, Unpaired}
 use Rattle.pairing.specs.Chains.{Reached, free, onward, Stuck}
 use Rattle.pairing.specs.Examples.{crowded_grid, bare_grid}
-use Rattle.pairing.proofs.Listing.{in_perfects}
+use Rattle.pairing.proofs.Listing.{perfects_are}
 use Rattle.pairing.proofs.Crowds.{stuck_largest, reached_crowd}
 
 -- what is reached is one of the n left blocks
@@ -90,7 +90,7 @@ module _ (kind : Ghosts Free) where
   pub crowded : Unpaired 2 (crowded_grid kind).stands 3 1
   unfolding bit members
   crowded = record {
-    none = λ p h. (in_perfects 2 (crowded_grid kind).stands p).1 h;
+    none = (perfects_are 2 (crowded_grid kind).stands).none.0 refl;
     crowd_set = crowded_set_lem;
     shortage_is = refl;
   }
@@ -122,7 +122,7 @@ module _ (kind : Ghosts Free) where
   pub bare : Unpaired 1 (bare_grid kind).stands 1 1
   unfolding bit members
   bare = record {
-    none = λ p h. (in_perfects 1 (bare_grid kind).stands p).1 h;
+    none = (perfects_are 1 (bare_grid kind).stands).none.0 refl;
     crowd_set = bare_set;
     shortage_is = refl;
   }

@@ -67,6 +67,6 @@ module _ (t : Lent Plain) (tables : ArePairTables plain_kind t.size t.costs t.st
   pub unsettled : (f ≡ fault NoPerfectPairing 0) × (optima (grid plain_kind t) ≡ [])
   unsettled = (
     unpaired.1,
-    ((optima_are true (grid plain_kind t)).none (tables_sane t tables)).1
+    ((optima_are (grid plain_kind t)).none (tables_sane t tables)).1
         (λ p h. unpaired.0 (p, h)),
   )

@@ -84,7 +84,7 @@ module _ (g : Grid) where
       e ∙ ap (λ x. total_line (total g x) ++ listed (q ∷ qs)) (sym first.1)
 
   pub optima_distinct : AllPairs ◌≢◌ (optima g)
-  optima_distinct = (optima_are true g).list.distinct
+  optima_distinct = (optima_are g).list.distinct
 
   pub listing_first : (p text : List ℕ) → IsNth (optima g) 0 p
       → text ≡ total_line (total g p) ++ listed (optima g) → text ≡ listing_text g
@@ -98,7 +98,7 @@ module _ (g h : Grid) where
   over_same (p ∷ ps) same =
       ap (λ t. total_line t ++ listed (p ∷ ps)) (same p (omega arith, refl))
 
-  pub listing_same : AlikeInside true true g h → listing_text g ≡ listing_text h
+  pub listing_same : AlikeInside g h → listing_text g ≡ listing_text h
   listing_same alike =
       over_same (optima g) (λ p i. alike.totals p (nth_optimum g 0 p i).perfect)
       ∙ ap (listing_over h) alike.optima

@@ -55,8 +55,8 @@ module _ {K : Type 0} (kind : Ghosts K) (n : ℕ) (b : Book K) (costs : List K) 
         ∙ sym (ap (columns_in kind n) (cell_is l r i j stands));
   }
 
-  pub alike : AlikeInside true true (grid_of kind n costs standing) (grid_in kind n b)
-  alike = inside_matters true (grid_of kind n costs standing) (grid_in kind n b) same_inside
+  pub alike : AlikeInside (grid_of kind n costs standing) (grid_in kind n b)
+  alike = inside_matters (grid_of kind n costs standing) (grid_in kind n b) same_inside
 
 -- what a cell says, written at the place of its pair
 written : {K X : Type 0} (says : Option K → X) (other : X) (n : ℕ) (cells : ℕ → ℕ → Option K)

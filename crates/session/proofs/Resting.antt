@@ -43,8 +43,8 @@ pub same_place : (g : Grid) (i j : ℕ) (p : List ℕ) → IsNth (optima g) i p 
     → i ≡ j
 same_place g i j p a b = ⊎_elim (λ e. e)
     (λ differ. absurd (⊎_elim
-    (λ less. (optima_are true g).list.distinct i j [] less b.0 (a.1 ∙ sym b.1))
-    (λ more. (optima_are true g).list.distinct j i [] more a.0 (b.1 ∙ sym a.1)) differ))
+    (λ less. (optima_are g).list.distinct i j [] less b.0 (a.1 ∙ sym b.1))
+    (λ more. (optima_are g).list.distinct j i [] more a.0 (b.1 ∙ sym a.1)) differ))
     (cases_order i j)
 
 module _ {K : Type 0} (kind : Ghosts K) (sheet : Sheet) (swaps : Bool) (phase : Phase)

@@ -12,7 +12,7 @@ use Rattle.pairing.specs.Grid.{Grid, PerfectIn}
 use Rattle.pairing.specs.Largest.{Unpaired}
 use Rattle.pairing.specs.Optima.{perfects, optima}
 use Rattle.pairing.specs.Theorems.{AlikeInside}
-use Rattle.pairing.proofs.Listing.{In, in_perfects}
+use Rattle.pairing.proofs.Listing.{perfects_are}
 use Rattle.matching.specs.Answers.{IsNth}
 use Rattle.matching.specs.declared.augmenting.Shortfall.{Shortfall}
 use Rattle.tables.specs.Lent.{grid, HasLengths, IsOrderly}
@@ -40,23 +40,9 @@ use Rattle.session.proofs.Judging.{refused_next, accepted_next}
 use Rattle.session.proofs.Needs.{Mirror, refuses, passes, without}
 
 -- some pairing is perfect exactly if the list of them has one
-filled : (ps : List (List ℕ)) (p : List ℕ) → In p ps → 0 < length ps
-filled [] p i = absurd i
-filled (q ∷ ps) p i = omega arith
-
-first_of_filled : (ps : List (List ℕ)) → 0 < length ps → (p : List ℕ) × In p ps
-first_of_filled [] h = absurd (omega arith)
-first_of_filled (p ∷ ps) h = (p, inl refl)
-
 pub perfect_decided : (g : Grid)
     → Decides (has_perfect g.size g.stands) ((p : List ℕ) × PerfectIn g p)
-perfect_decided g = let all = perfects g.size g.stands in
-    Decides-like (has_perfect g.size g.stands)
-    (λ (long : 0 < length all). let some = first_of_filled all long in
-    (some.0, (in_perfects g.size g.stands some.0).0 some.1))
-    (λ (h : (p : List ℕ) × PerfectIn g p).
-    filled all h.0 ((in_perfects g.size g.stands h.0).1 h.1))
-    (Decides-ltb 0 (length all))
+perfect_decided g = (perfects_are g.size g.stands).some
 
 module _ {K : Type 0} (kind : Ghosts K) (sheet : Sheet) (swaps : Bool) (b : Book K) (s : Settling K)
     (own x x' own' : Tables K) (held : Held kind (size_of sheet) b s (state_at opened sheet) own)
@@ -82,7 +68,7 @@ module _ {K : Type 0} (kind : Ghosts K) (sheet : Sheet) (swaps : Bool) (b : Book
       (subst (λ xs. Shows kind n b.cells own.costs xs)
       (sym (hands.standing.handed refl h.room.standing_long)) held.shows)
 
-  same : HasLengths (lending n x) → AlikeInside true true old book
+  same : HasLengths (lending n x) → AlikeInside old book
   same h = alike kind n b x.costs x.standing (shown h)
 
   orderly : HasLengths (lending n x) → IsOrderly kind (lending n x)
@@ -112,7 +98,7 @@ module _ {K : Type 0} (kind : Ghosts K) (sheet : Sheet) (swaps : Bool) (b : Book
     new_shown = subst (λ xs. Shows kind n b.cells xs x'.standing) (sym costs_stay)
         (subst (λ xs. Shows kind n b.cells x.costs xs) (sym standing_stays) (shown long))
 
-    new_same : AlikeInside true true (grid kind (lending n x')) book
+    new_same : AlikeInside (grid kind (lending n x')) book
     new_same = alike kind n b x'.costs x'.standing new_shown
 
     first : IsNth (optima book) 0 x'.partners

@@ -3,7 +3,7 @@
 -- by a test that passes, and crowd sets as the worked grids of the mathematics have them.
 use Rattle.std.proofs.Common.{◌≡◌, ◌≢◌, ℕ, zero, suc, ◌<◌, true, false, List, [], ◌∷◌, ◌++◌, length}
 use Rattle.std.proofs.Common.{ℤ, pos, negsuc, Option, Some, None, cond, refl, sym, ◌∙◌, inl, ap}
-use Rattle.std.proofs.Common.{arith}
+use Rattle.std.proofs.Common.{Contains, arith}
 use Rattle.std.proofs.lemmas.Bool.{false≢true}
 use Rattle.cost.specs.Columns.{Within}
 use Rattle.cost.specs.declared.Cost.{Ghosts}
@@ -16,7 +16,7 @@ use Rattle.pairing.specs.Largest.{Unpaired}
 use Rattle.pairing.specs.Optima.{optima, has_pair}
 use Rattle.pairing.specs.Places.{place_of}
 use Rattle.pairing.proofs.Alike.{unpaired_like}
-use Rattle.pairing.proofs.Listing.{In, in_optima}
+use Rattle.pairing.proofs.Listing.{optima_are}
 use Rattle.pairing.proofs.Shown.{crowded as crowded_is, bare as bare_is}
 use Rattle.pairing.proofs.Tests.{sane_is, greatest_is}
 use Rattle.matching.specs.Answers.{MarksOf}
@@ -39,8 +39,8 @@ use Rattle.session.proofs.Judging.{length_not_six, block_not_six, absent_not_six
 use Rattle.session.proofs.Judging.{block_not, absent_not, perfect_not}
 
 -- what is in the list is perfect
-perfect : (g : Grid) (p : List ℕ) → In p (optima g) → PerfectIn g p
-perfect g p i = ((in_optima g p).0 i).perfect
+perfect : (g : Grid) (p : List ℕ) → Contains (optima g) p → PerfectIn g p
+perfect g p i = (((optima_are g).list.are p).0 i).perfect
 
 -- what holds of the numbers below three
 pub below_three : (P : ℕ → Type 0) → P 0 → P 1 → P 2 → (k : ℕ) → k < 3 → P k
@@ -92,7 +92,7 @@ settled_first = record {
   first = (omega (arith, ap length (let e : optima grid ≡ first ∷ second ∷ [] = refl in e)), refl);
   partners_long = refl;
   greatest = greatest_is grid _ _ _ (0 ∷ 1 ∷ 0 ∷ []) (sane_is grid refl)
-      (perfect grid first (inl refl)) refl;
+      (perfect grid first (0, omega arith, refl)) refl;
   left_long = refl;
   right_long = refl;
   left_near = left_near;
@@ -104,7 +104,7 @@ settled_second = record {
   first = (omega (arith, ap length (let e : optima struck_grid ≡ second ∷ [] = refl in e)), refl);
   partners_long = refl;
   greatest = greatest_is struck_grid _ _ _ (0 ∷ 1 ∷ 0 ∷ []) (sane_is struck_grid refl)
-      (perfect struck_grid second (inl refl)) refl;
+      (perfect struck_grid second (0, omega arith, refl)) refl;
   left_long = refl;
   right_long = refl;
   left_near = left_near;

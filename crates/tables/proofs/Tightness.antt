@@ -16,7 +16,7 @@ use Rattle.blockset.specs.declared.BlockSet.{BlockSet}
 use Rattle.pairing.specs.Grid.{Grid, Sane, at, Perfect, PerfectIn, Optimum}
 use Rattle.pairing.specs.Prices.{TightPair, Tight, Valid}
 use Rattle.pairing.specs.Optima.{optima}
-use Rattle.pairing.proofs.Duality.{optimum_if_tight_lem}
+use Rattle.pairing.proofs.Duality.{optimum_if_tight}
 use Rattle.pairing.proofs.Listing.{perfects_are, optima_are}
 use Rattle.pairing.specs.Rows.{holds, Pairs, pairings}
 use Rattle.tables.specs.PairRows.{adds_up, TightRows}
@@ -126,18 +126,18 @@ module _ (g : Grid) (left right : ℕ → List ℤ) (rows : List BlockSet) where
     pub pairs_optimum : (p q : List ℕ) → PerfectIn g p → Valid g left right p → Pairs rows q
         ↔ Optimum g q
     pairs_optimum p q h v = (
-      λ k. let w = (pairs_tight q).0 k in (optimum_if_tight_lem true g left right p q s h v w.0).0.0
-          w.1,
+      λ k. let w = (pairs_tight q).0 k in
+          (optimum_if_tight g left right p q s h v w.0).0 w.1,
       λ o. (pairs_tight q).1
-          (o.perfect, (optimum_if_tight_lem true g left right p q s h v o.perfect).0.1 o),
+          (o.perfect, (optimum_if_tight g left right p q s h v o.perfect).1 o),
     )
 
     -- and their list is the list of these
     pub pairings_are_optima : (p : List ℕ) → PerfectIn g p → Valid g left right p
         → pairings rows ≡ optima g
     pairings_are_optima p h v =
-        let listed = (perfects_are true (length rows) (holds rows)).list in
-        (optima_are true g).list.only (pairings rows) listed.ascend
+        let listed = (perfects_are (length rows) (holds rows)).list in
+        (optima_are g).list.only (pairings rows) listed.ascend
         (λ q. (
           λ i. (pairs_optimum p q h v).0 ((listed.are q).0 i),
           λ o. (listed.are q).1 ((pairs_optimum p q h v).1 o),

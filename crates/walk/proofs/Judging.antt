@@ -153,8 +153,8 @@ module _ {K : Type 0} (kind : Ghosts K) (wide : (x : K) → length (kind.meaning
   pub optimum_over : (rows : List BlockSet) → Certified kind t rows → (q : List ℕ) → Pairs rows q
       ↔ Optimum (grid kind t) q
   optimum_over rows c q =
-      let listed = (perfects_are true (length rows) (holds rows)).list.are q in
-      let known = (optima_are_lem true (grid kind t)).list.are q in (
+      let listed = (perfects_are (length rows) (holds rows)).list.are q in
+      let known = (optima_are_lem (grid kind t)).list.are q in (
         λ p. known.0 (subst (λ ps. Contains ps q) c.optima_are (listed.1 p)),
         λ o. listed.0 (subst (λ ps. Contains ps q) (sym c.optima_are) (known.1 o)),
       )
