@@ -5,10 +5,10 @@
 -- the order. Of finitely many totals one is least, so that the second filter keeps something where
 -- the first one does. An ascending list begins with its least member, so it is known by its
 -- members.
-use Rattle.std.proofs.Common.{◌≡◌, ℕ, zero, suc, ◌+◌, ◌-◌, ◌<◌, ◌≤◌, Bool, true, not, ◌&&◌, eqb, ltb}
-use Rattle.std.proofs.Common.{◌⊎◌, ◌↔◌, List, [], ◌∷◌, ◌++◌, map, filter, length, get_or, ℤ, ◌≤ℤ◌}
-use Rattle.std.proofs.Common.{Decides, Ordering, Less, Equal, Greater, sym, refl, ap, ◌∙◌, subst}
-use Rattle.std.proofs.Common.{ap₂, inl, inr, arith}
+use Rattle.std.proofs.Common.{◌≡◌, ℕ, zero, suc, ◌+◌, ◌-◌, ◌<◌, ◌≤◌, Bool, true, not, ◌&&◌, eqb}
+use Rattle.std.proofs.Common.{ltb, ◌⊎◌, ◌↔◌, List, [], ◌∷◌, ◌++◌, map, filter, length, get_or, ℤ}
+use Rattle.std.proofs.Common.{◌≤ℤ◌, Decides, Ordering, Less, Equal, Greater, sym, refl, ap, ◌∙◌}
+use Rattle.std.proofs.Common.{subst, ap₂, inl, inr, arith}
 use lib.Signed.{le_z}
 use Rattle.std.specs.Prelude.{◌≢◌}
 use Rattle.std.specs.List.{range_with_len, flat_map, All, AllPairs, Contains}

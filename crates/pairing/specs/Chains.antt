@@ -1,13 +1,13 @@
--- Alternating chains: steps from a block to another by a standing pair, and on by a pair of the
--- pairing. Exchanging the two kinds of pairs along a chain makes another pairing.
+-- Chains (alternating paths): steps from a block to another by a standing pair, and on by a pair of
+-- the pairing. Exchanging the two kinds of pairs along a chain makes another pairing.
 use Rattle.std.specs.Prelude.{◌≡◌, ℕ, ◌<◌, ◌≤◌, Bool, true, false, List}
 use Rattle.pairing.specs.Places.{rights_of}
 use Rattle.pairing.specs.Grid.{at, Perfect}
 
 -- ---- From the left blocks that a pairing leaves out
 
--- a left block is reached if it is left out, or if a reached left block stands with the right block
--- that p gives it
+-- a left block is reached (by an alternating path from one that is left out) if it is left out, or
+-- if a reached left block stands with the right block that p gives it
 pub data Reached (n : ℕ) (stands : ℕ → ℕ → Bool) (p : List ℕ) (out : ℕ → Bool) : ℕ → Type 0 where
   free : (l : ℕ) → l < n → out l ≡ true → Reached n stands p out l
   onward : (l m : ℕ) → Reached n stands p out l → m < n → out m ≡ false → stands l (at p m) ≡ true
@@ -17,8 +17,8 @@ pub data Reached (n : ℕ) (stands : ℕ → ℕ → Bool) (p : List ℕ) (out :
 abbrev pub Held : (n : ℕ) (p : List ℕ) (out : ℕ → Bool) → ℕ → Type 0
 Held n p out r = (l : ℕ) × (l < n) × (out l ≡ false) × (at p l ≡ r)
 
--- no chain from a left block that is left out ends at a right block that is free: there is no
--- augmenting path
+-- no chain from a left block that is left out ends at a right block that is free (there is no
+-- augmenting path)
 abbrev pub Stuck : (n : ℕ) (stands : ℕ → ℕ → Bool) (p : List ℕ) (out : ℕ → Bool) → Type 0
 Stuck n stands p out = (l r : ℕ) → Reached n stands p out l → r < rights_of n → stands l r ≡ true
     → Held n p out r
@@ -29,8 +29,8 @@ Stuck n stands p out = (l r : ℕ) → Reached n stands p out l → r < rights_o
 abbrev pub Agree : ℕ → List ℕ → List ℕ → Type 0
 Agree k p q = (l : ℕ) → l < k → at q l ≡ at p l
 
--- a chain leads from right block r to another, over left blocks from k on: the left block that has
--- a right block of the chain is tight with the next one
+-- a chain (an alternating path of tight pairs) leads from right block r to another, over left
+-- blocks from k on: the left block that has a right block of the chain is tight with the next one
 pub data Chain (n k : ℕ) (tight : ℕ → ℕ → Bool) (p : List ℕ) (r : ℕ) : ℕ → Type 0 where
   here : Chain n k tight p r r
   step : (l c : ℕ) → k ≤ l → l < n → Chain n k tight p r (at p l) → tight l c ≡ true
@@ -46,7 +46,7 @@ abbrev pub Closed : (n : ℕ) (tight : ℕ → ℕ → Bool) (p : List ℕ) → 
 Closed n tight p C = (l r : ℕ) → l < n → r < rights_of n → C (at p l) ≡ true → tight l r ≡ true
     → C r ≡ true
 
--- a set Y that has each right block that stands with any left block of X
+-- a set Y that has each right block that stands with any left block of X: N(X) lies in Y
 abbrev pub Shut : (n : ℕ) (stands : ℕ → ℕ → Bool) → (X Y : ℕ → Bool) → Type 0
 Shut n stands X Y = (l r : ℕ) → l < n → r < rights_of n → X l ≡ true → stands l r ≡ true
     → Y r ≡ true

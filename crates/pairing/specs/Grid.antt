@@ -8,8 +8,8 @@ use Rattle.cost.specs.Columns.{Within, zeros, plus, lex}
 use Rattle.pairing.specs.Places.{rights_of}
 
 -- `size` left blocks and as many right blocks, both numbered from 0: which pairs of a left and a
--- right block stand, how many columns a cost has, and the columns of the cost of each standing
--- pair. What `cost` says of any other pair means nothing.
+-- right block stand (the edges of the graph), how many columns a cost has, and the columns of the
+-- cost of each standing pair. What `cost` says of any other pair means nothing.
 pub record Grid : Type 0 where
   pub size : ℕ
   pub columns : ℕ
@@ -38,7 +38,8 @@ numbers n = range_with_len 0 n
 abbrev pub at : List ℕ → ℕ → ℕ
 at p l = slice_index p l
 
--- each of n left blocks has a right block that it stands with, and no right block comes twice
+-- a perfect pairing (perfect matching): each of n left blocks has a right block that it stands
+-- with, and no right block comes twice
 pub record Perfect (n : ℕ) (stands : ℕ → ℕ → Bool) (p : List ℕ) : Type 0 where
   pub len : length p ≡ n
   pub below : (l : ℕ) → l < n → at p l < rights_of n
@@ -61,7 +62,8 @@ total g p = total_of g p g.size
 abbrev pub Upto : List ℤ → List ℤ → Type 0
 Upto xs ys = lex xs ys ≡ Greater → ⊥
 
--- a perfect pairing such that every perfect pairing costs at least as much
+-- a perfect pairing such that every perfect pairing costs at least as much (a perfect matching of
+-- least cost, an optimum assignment)
 pub record Optimum (g : Grid) (p : List ℕ) : Type 0 where
   pub perfect : PerfectIn g p
   pub least : (q : List ℕ) → PerfectIn g q → Upto (total g p) (total g q)

@@ -1,4 +1,4 @@
--- Pairings that leave blocks out, the largest of them, the crowd set and its shortage.
+-- Pairings that leave blocks out (matchings), the largest of them, the crowd set and its shortage.
 use Rattle.std.specs.Prelude.{◌≡◌, ℕ, ◌-◌, ◌<◌, ◌≤◌, Bool, true, false, not, ◌&&◌, List, length}
 use Rattle.std.specs.Prelude.{IsTrue, ◌↔◌}
 use Rattle.std.specs.List.{list_any}
@@ -6,8 +6,8 @@ use Rattle.blockset.specs.Sets.{members, bit}
 use Rattle.pairing.specs.Places.{rights_of}
 use Rattle.pairing.specs.Grid.{numbers, at, Perfect}
 
--- a set of standing pairs in which no block comes twice: p gives each left block that is not in
--- `out` its right block
+-- a set of standing pairs in which no block comes twice (a matching): p gives each left block that
+-- is not in `out` its right block
 pub record Partial (n : ℕ) (stands : ℕ → ℕ → Bool) (p : List ℕ) (out : ℕ → Bool) : Type 0 where
   pub len : length p ≡ n
   pub below : (l : ℕ) → l < n → out l ≡ false → at p l < rights_of n
@@ -18,7 +18,7 @@ pub record Partial (n : ℕ) (stands : ℕ → ℕ → Bool) (p : List ℕ) (out
 abbrev pub pairs : ℕ → (ℕ → Bool) → ℕ
 pairs n out = members n (λ l. not (out l))
 
--- such a set with at least as many pairs as every other
+-- such a set with at least as many pairs as every other (a maximum matching)
 pub record Largest (n : ℕ) (stands : ℕ → ℕ → Bool) (p : List ℕ) (out : ℕ → Bool) : Type 0 where
   pub part : Partial n stands p out
   pub most : (q : List ℕ) (out' : ℕ → Bool) → Partial n stands q out' → pairs n out' ≤ pairs n out
@@ -35,11 +35,12 @@ pub record Crowd (n : ℕ) (stands : ℕ → ℕ → Bool) (l : ℕ) : Type 0 wh
 abbrev pub CrowdSet : (n : ℕ) → (ℕ → ℕ → Bool) → (ℕ → Bool) → Type 0
 CrowdSet n stands X = (l : ℕ) → (IsTrue (X l) ↔ Crowd n stands l)
 
--- the right blocks that stand with any left block of a set
+-- the right blocks that stand with any left block of a set X (its neighbourhood N(X))
 abbrev pub around : ℕ → (ℕ → ℕ → Bool) → (ℕ → Bool) → ℕ → Bool
 around n stands X r = list_any (λ l. X l && stands l r) (numbers n)
 
--- how many more left blocks a set has than right blocks stand with any of them
+-- how many more left blocks a set X has than right blocks stand with any of them (its deficiency
+-- |X| - |N(X)|, after Hall and König)
 abbrev pub shortage : ℕ → (ℕ → ℕ → Bool) → (ℕ → Bool) → ℕ
 shortage n stands X = members n X - members (rights_of n) (around n stands X)
 

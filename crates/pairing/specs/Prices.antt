@@ -1,4 +1,4 @@
--- Prices of the blocks: they prove a pairing optimum, and show which other pairings are.
+-- Prices of the blocks (dual prices): they prove a pairing optimum, and show which others are.
 use Rattle.std.specs.Prelude.{◌≡◌, ℕ, ◌<◌, true, List, length, ℤ}
 use Rattle.cost.specs.declared.TheConstants.{RAIL}
 use Rattle.cost.specs.Columns.{Within, zeros, plus}
@@ -9,16 +9,16 @@ pub record Value (columns : ℕ) (xs : List ℤ) : Type 0 where
   pub sized : length xs ≡ columns
   pub on_rail : Within RAIL xs
 
--- the pair costs its two prices, neither more nor less: it is tight
+-- the pair costs its two prices, neither more nor less: it is tight (its reduced cost is 0)
 abbrev pub TightPair : Grid → (left right : ℕ → List ℤ) → ℕ → ℕ → Type 0
 TightPair g left right l r = plus (left l) (right r) ≡ g.cost l r
 
--- each pair of the pairing is tight
+-- each pair of the pairing is tight (complementary slackness)
 abbrev pub Tight : Grid → (left right : ℕ → List ℤ) → List ℕ → Type 0
 Tight g left right p = (l : ℕ) → l < g.size → TightPair g left right l (at p l)
 
--- no standing pair costs less than its two prices, and the pairs of p cost just them (dual prices:
--- feasible, and tight at p)
+-- no standing pair costs less than its two prices (dual feasible: no reduced cost is below 0), and
+-- the pairs of p cost just them
 pub record Valid (g : Grid) (left right : ℕ → List ℤ) (p : List ℕ) : Type 0 where
   pub lefts : (l : ℕ) → l < g.size → Value g.columns (left l)
   pub rights : (r : ℕ) → r < right_count g → Value g.columns (right r)

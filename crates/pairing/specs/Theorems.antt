@@ -13,15 +13,16 @@ use Rattle.pairing.specs.Inside.{SameInside}
 use Rattle.pairing.specs.Chains.{Reached, Stuck, Chain, Sends, Closed, Shut}
 use Rattle.pairing.specs.Optima.{Before, perfects, optima, Paired, Marked, has_pair, is_marked}
 
--- ---- Prices (weak duality and complementary slackness)
+-- ---- Prices
 
--- prices valid for a perfect pairing make it optimum
+-- prices valid for a perfect pairing make it optimum (weak duality)
 abbrev pub ProvesOptimum : Type 0
 ProvesOptimum =
     (g : Grid) (left right : ℕ → List ℤ) (p : List ℕ) → Sane g → PerfectIn g p
     → Valid g left right p → Optimum g p
 
 -- under prices valid for some perfect pairing, a perfect pairing is optimum exactly if it is tight
+-- (complementary slackness)
 abbrev pub OptimumIfTight : Type 0
 OptimumIfTight =
     (g : Grid) (left right : ℕ → List ℤ) (p q : List ℕ) → Sane g → PerfectIn g p
@@ -73,7 +74,8 @@ pub record LeavesOut (many few least : ℕ) : Type 0 where
       → (least ≤ members n (λ l. X l && out l)) × (pairs n out + least ≤ n)
 
 -- Hall's condition, that such a set has no more left blocks than right blocks: where `possible` is
--- false of one set no pairing is perfect, and where every set meets it some pairing is
+-- false of one set no pairing is perfect, and where every set meets it, |X| ≤ |N(X)|, some pairing
+-- is
 pub record Hall (many few : ℕ) (possible : Bool) : Type 0 where
   pub is : IsTrue possible ↔ (many ≤ few)
   pub needed : (n : ℕ) (stands : ℕ → ℕ → Bool) (X Y : ℕ → Bool) → Shut n stands X Y
@@ -86,6 +88,7 @@ pub record Hall (many few : ℕ) (possible : Bool) : Type 0 where
 -- ---- Largest pairings
 
 -- there is always a largest pairing, and a pairing is largest exactly if no augmenting path is left
+-- (Berge)
 pub record LargestIfStuck : Type 0 where
   pub exists : (n : ℕ) (stands : ℕ → ℕ → Bool) → (p : List ℕ) × (out : ℕ → Bool)
       × Largest n stands p out
@@ -99,8 +102,8 @@ CrowdIfReached =
     (n : ℕ) (stands : ℕ → ℕ → Bool) (p : List ℕ) (out : ℕ → Bool) → Largest n stands p out → (l : ℕ)
     → Reached n stands p out l ↔ Crowd n stands l
 
--- the crowd set is short of as many right blocks as a largest pairing leaves left blocks out, and
--- that is none exactly if a pairing is perfect
+-- the crowd set is short of as many right blocks as a largest pairing leaves left blocks out (the
+-- deficiency, by König), and that is none exactly if a pairing is perfect
 abbrev pub ShortBy : Type 0
 ShortBy =
     (n : ℕ) (stands : ℕ → ℕ → Bool) (p : List ℕ) (out X : ℕ → Bool) → Largest n stands p out
