@@ -15,8 +15,9 @@ use Rattle.pairing.specs.Rows.{holds, Pairs, pairings}
 use Rattle.matching.specs.Answers.{IsNth}
 use Rattle.matching.proofs.Order.{Next}
 
-in_at : (xs : List (List ℕ)) (q : List ℕ) → Contains xs q → (j : ℕ) × IsNth xs j q
-in_at xs q h = (h.0, (h.1, get_or_default xs h.0 [] q h.1 ∙ h.2))
+in_at : (xs : List (List ℕ)) (q : List ℕ) → Contains xs q → (j : ℕ) × (j < length xs)
+    × (get_or xs j [] ≡ q)
+in_at xs q h = (h.0, h.1, get_or_default xs h.0 [] q h.1 ∙ h.2)
 
 -- what stands before in order stands before in place
 order_at : (xs : List (List ℕ)) (i j : ℕ) → AllPairs Before xs → i < length xs → j < length xs
@@ -47,7 +48,7 @@ module _ (rows : List BlockSet) where
 
   -- a pairing stands somewhere
   pub placed : (p : List ℕ) → Pairs rows p → (i : ℕ) × IsNth (pairings rows) i p
-  placed p h = in_at (pairings rows) p (listed p h)
+  placed p h = let w = in_at (pairings rows) p (listed p h) in (w.0, (w.1, w.2))
 
   pub first_place : (p : List ℕ) → Pairs rows p
       → ((q : List ℕ) → Pairs rows q → (q ≡ p) ⊎ Before p q) → IsNth (pairings rows) 0 p
