@@ -5,7 +5,7 @@ use Rattle.blockset.specs.declared.TheConstants.{SET_WIDTH}
 use Rattle.blockset.specs.Has.{has, IsEmpty}
 
 -- the least block was taken out of a set, which kept the others
-pub record TakenLeast (before : BlockSet) (block : ℕ) (after : BlockSet) : Type 0 where
+pub record IsLeastTaken (before : BlockSet) (block : ℕ) (after : BlockSet) : Type 0 where
   pub is_block : block < SET_WIDTH
   pub member : has before block ≡ true
   pub least : (j : ℕ) → j < block → has before j ≡ false
@@ -13,4 +13,5 @@ pub record TakenLeast (before : BlockSet) (block : ℕ) (after : BlockSet) : Typ
 
 -- the same of a call that gives no block where the set has none
 abbrev pub TakesLeast : BlockSet → Option ℕ → BlockSet → Type 0
-TakesLeast before block after = MatchOption block (IsEmpty before) (λ b. TakenLeast before b after)
+TakesLeast before block after =
+    MatchOption block (IsEmpty before) (λ b. IsLeastTaken before b after)

@@ -8,7 +8,7 @@ use Rattle.std.proofs.lemmas.Int.{ints}
 use Rattle.std.proofs.lemmas.Bool.{leb-true, le-leb, cases_lt}
 use Rattle.std.proofs.ByRecursion.{Decides-by_and}
 use Rattle.cost.specs.Columns.{rail_of, Within, within, columnwise, zeros, plus, minus}
-use Rattle.cost.specs.Laws.{Exact}
+use Rattle.cost.specs.Laws.{IsExact}
 
 pub rail_of_same : (z : ℤ) → nat_abs z ≤ 1000000000000000 → rail_of z ≡ z
 rail_of_same (pos n) h = ap pos (omega arith)
@@ -56,7 +56,7 @@ pub minus-within : (a b : ℕ) (xs ys : List ℤ) → Within a xs → Within b y
     → Within (a + b) (minus xs ys)
 minus-within = columnwise-within ◌-ℤ◌ abs_minus
 
-pub exact : Exact 1000000000000000
+pub exact : IsExact 1000000000000000
 exact a b xs ys l h k = (
   columnwise_exact ◌+ℤ◌ abs_plus a b xs ys l h k,
   columnwise_exact ◌-ℤ◌ abs_minus a b xs ys l h
@@ -64,7 +64,7 @@ exact a b xs ys l h k = (
 )
 
 -- beyond that the rail stops a sum: one column at its end, and 1 more
-too_far : Exact 1000000000000001 → ⊥
+too_far : IsExact 1000000000000001 → ⊥
 too_far h =
     let stopped : ◌≡◌ {A = List ℤ} (pos 1000000000000000 ∷ []) (pos 1000000000000001 ∷ []) =
     (h 1000000000000000 1 (pos 1000000000000000 ∷ []) (pos 1 ∷ []) (omega arith)
@@ -73,7 +73,7 @@ too_far h =
     sum_by nat_abs (pos 1000000000000001 ∷ []) = ap (sum_by nat_abs) stopped in
     omega arith
 
-pub most : (reach : ℕ) → Exact reach → reach ≤ 1000000000000000
+pub most : (reach : ℕ) → IsExact reach → reach ≤ 1000000000000000
 most reach h =
     elim (cases_lt 1000000000000000 reach) [
       | inl l ↦ absurd (too_far (λ a b xs ys fits. h a b xs ys (omega arith)))

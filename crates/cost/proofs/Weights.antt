@@ -10,7 +10,7 @@ use Rattle.std.proofs.lemmas.Cmp.{by_ranked}
 use Rattle.std.specs.Cmp.{int_cmp_is}
 use Rattle.std.specs.Ordering.{MatchOrdering}
 use Rattle.cost.specs.Columns.{columnwise, zeros, lex}
-use Rattle.cost.specs.Weights.{weight_from, weight, Light, WeightsCompare, SumsWeigh}
+use Rattle.cost.specs.Weights.{weight_from, weight, IsLight, WeightsCompare, SumsWeigh}
 use Rattle.cost.specs.Weights.{DifferencesWeigh}
 use Rattle.cost.proofs.Order.{head}
 use Rattle.cost.proofs.Order.Head.{below, same, above}
@@ -20,7 +20,7 @@ abbrev base : ℤ
 base = pos (2 ^ 64)
 
 -- a difference so far outweighs what follows
-less_from : (a b : ℤ) (xs ys : List ℤ) → length xs ≡ length ys → Light xs → Light ys → a <ℤ b
+less_from : (a b : ℤ) (xs ys : List ℤ) → length xs ≡ length ys → IsLight xs → IsLight ys → a <ℤ b
     → weight_from a xs <ℤ weight_from b ys
 less_from a b [] [] e h k l = l
 less_from a b [] (y ∷ ys) e h k l = absurd (omega arith)
@@ -35,7 +35,7 @@ ranked_map Less x p q r = p x
 ranked_map Equal x p q r = q x
 ranked_map Greater x p q r = r x
 
-ranked_from : (a : ℤ) (xs ys : List ℤ) → length xs ≡ length ys → Light xs → Light ys
+ranked_from : (a : ℤ) (xs ys : List ℤ) → length xs ≡ length ys → IsLight xs → IsLight ys
     → MatchOrdering (lex xs ys) (weight_from a xs <ℤ weight_from a ys) (xs ≡ ys)
     (weight_from a ys <ℤ weight_from a xs)
 ranked_from a [] [] e h k = refl
@@ -57,7 +57,7 @@ ranked_from a (x ∷ xs) (y ∷ ys) e h k =
     ]
 
 -- the order of two lists by their weights
-module _ (xs ys : List ℤ) (e : length xs ≡ length ys) (h : Light xs) (k : Light ys) where
+module _ (xs ys : List ℤ) (e : length xs ≡ length ys) (h : IsLight xs) (k : IsLight ys) where
   ranked : MatchOrdering (lex xs ys) (weight xs <ℤ weight ys) (xs ≡ ys) (weight ys <ℤ weight xs)
   ranked = ranked_from (pos 0) xs ys e h k
 

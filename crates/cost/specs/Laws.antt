@@ -6,8 +6,8 @@ use Rattle.std.specs.Ordering.{ordering_reverse}
 use Rattle.cost.specs.Columns.{Within, sums, differences, plus, minus, lex}
 
 -- where bounds add up to at most `reach`, the rail stops nothing
-abbrev pub Exact : ℕ → Type 0
-Exact reach = (a b : ℕ) (xs ys : List ℤ) → a + b ≤ reach → Within a xs → Within b ys
+abbrev pub IsExact : ℕ → Type 0
+IsExact reach = (a b : ℕ) (xs ys : List ℤ) → a + b ≤ reach → Within a xs → Within b ys
     → (sums xs ys ≡ plus xs ys) × (differences xs ys ≡ minus xs ys)
 
 -- the other way round, columns compare in reverse

@@ -15,12 +15,12 @@ abbrev pub weight : List ℤ → ℤ
 weight xs = weight_from (pos 0) xs
 
 -- columns that weights tell apart: far wider than the rail, so that sums of values still fit
-abbrev pub Light : List ℤ → Type 0
-Light xs = Within (4000 * RAIL) xs
+abbrev pub IsLight : List ℤ → Type 0
+IsLight xs = Within (4000 * RAIL) xs
 
 -- the weights of light columns compare as the columns do
 abbrev pub WeightsCompare : Type 0
-WeightsCompare = (xs ys : List ℤ) → length xs ≡ length ys → Light xs → Light ys
+WeightsCompare = (xs ys : List ℤ) → length xs ≡ length ys → IsLight xs → IsLight ys
     → int_cmp (weight xs) (weight ys) ≡ lex xs ys
 
 -- a sum of columns weighs what both weigh together

@@ -2,7 +2,7 @@
 //! nothing: it is here for the law that it states.
 
 ghost use Rattle.std.specs.Prelude.{ℕ, ◌≤◌};
-ghost use Rattle.cost.specs.Laws.{Exact, OrderMirrors, EqualIsSame, OrderChains, OrderShifts};
+ghost use Rattle.cost.specs.Laws.{IsExact, OrderMirrors, EqualIsSame, OrderChains, OrderShifts};
 ghost use Rattle.cost.specs.Weights.{WeightsCompare, SumsWeigh, DifferencesWeigh};
 
 use crate::RAIL;
@@ -10,8 +10,8 @@ use crate::RAIL;
 /// How far sums and differences stay exact: where the bounds of two values add up to at most this
 /// number, nothing is stopped at an end of the rail. No greater number would do.
 pub fn exact_reach() -> u64
-    ensures exact { Exact result }
-    ensures most { (reach : ℕ) → Exact reach → reach ≤ result }
+    ensures exact { IsExact result }
+    ensures most { (reach : ℕ) → IsExact reach → reach ≤ result }
 {
     RAIL
 }

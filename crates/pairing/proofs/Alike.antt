@@ -9,7 +9,7 @@ use Rattle.std.proofs.lemmas.Bool.Decides.{Decides-like}
 use Rattle.blockset.specs.Sets.{members, bit}
 use Rattle.blockset.proofs.Members.{members_like}
 use Rattle.pairing.specs.Grid.{at, Perfect}
-use Rattle.pairing.specs.Largest.{Partial, Largest, Crowd, around, shortage, Unpaired}
+use Rattle.pairing.specs.Largest.{Partial, Largest, IsInCrowd, around, shortage, Unpaired}
 use Rattle.pairing.specs.Inside.{Alike}
 
 pub alike_back : (n : ℕ) (s t : ℕ → ℕ → Bool) → Alike n s t → Alike n t s
@@ -53,7 +53,7 @@ module _ (n : ℕ) (s t : ℕ → ℕ → Bool) (e : Alike n s t) where
     most = λ q out' k. h.most q out' (partial_like n t s (alike_back n s t e) q out' k);
   }
 
-  pub crowd_like : (l : ℕ) → Crowd n s l → Crowd n t l
+  pub crowd_like : (l : ℕ) → IsInCrowd n s l → IsInCrowd n t l
   crowd_like l h = record {
     pairing = h.pairing;
     out = h.out;

@@ -19,7 +19,7 @@ use Rattle.blockset.specs.Sets.{members}
 use Rattle.blockset.proofs.Members.{members_like, members_with, members_without, members_split}
 use Rattle.blockset.proofs.Members.{members_none, members_no, inject_le}
 use Rattle.pairing.specs.Grid.{at, Perfect}
-use Rattle.pairing.specs.Largest.{Partial, Largest, Crowd, CrowdSet, around}
+use Rattle.pairing.specs.Largest.{Partial, Largest, IsInCrowd, CrowdSet, around}
 use Rattle.pairing.specs.Chains.{Reached, free, onward, Held, Stuck, Shut}
 use Rattle.pairing.specs.Theorems.{LeavesOut, Hall, LargestIfStuck, ShortBy}
 use Rattle.pairing.proofs.Members.{some_below, some_tells, pairs_and_out}
@@ -448,13 +448,13 @@ module _ (n : ℕ) (stands : ℕ → ℕ → Bool) where
       (omega arith)
 
   module _ (p : List ℕ) (out : ℕ → Bool) (h : Largest n stands p out) where
-    crowd_in : (l : ℕ) → Crowd n stands l → D p out h.part l ≡ true
+    crowd_in : (l : ℕ) → IsInCrowd n stands l → D p out h.part l ≡ true
     crowd_in l w =
         only_reached n stands p out h.part (D p out h.part) (rank p out h.part) (is p out h.part)
         (largest_held p out h.part h) w.pairing w.out w.largest.part
         (fewest w.pairing w.out w.largest p out h.part) l w.inside w.left_out
 
-    in_crowd : (l : ℕ) → l < n → D p out h.part l ≡ true → Crowd n stands l
+    in_crowd : (l : ℕ) → l < n → D p out h.part l ≡ true → IsInCrowd n stands l
     in_crowd l i d =
         let w = loosen n stands p out h.part (D p out h.part) (rank p out h.part) (is p out h.part)
         l i d in
@@ -468,7 +468,7 @@ module _ (n : ℕ) (stands : ℕ → ℕ → Bool) where
           left_out = w.4;
         }
 
-    pub reached_crowd : (l : ℕ) → Reached n stands p out l ↔ Crowd n stands l
+    pub reached_crowd : (l : ℕ) → Reached n stands p out l ↔ IsInCrowd n stands l
     reached_crowd l = (
       λ w. in_crowd l (reached_inside n stands p out l w)
           (reached_in n stands p out h.part (D p out h.part) (rank p out h.part) (is p out h.part) l

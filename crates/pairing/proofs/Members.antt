@@ -10,7 +10,7 @@ use Rattle.std.proofs.lemmas.List.Sums.{AllPass-from_list_all, list_all-from_All
 use Rattle.blockset.specs.Sets.{members}
 use Rattle.blockset.proofs.Members.{members_all, members_split}
 use Rattle.pairing.specs.Grid.{numbers}
-use Rattle.pairing.specs.Largest.{pairs}
+use Rattle.pairing.specs.Largest.{pair_count}
 
 -- the test passes at some number below n, and at each
 abbrev pub some_below : ℕ → (ℕ → Bool) → Bool
@@ -46,5 +46,5 @@ all_tells n t P each =
     )
 
 -- the pairs and the left blocks that are left out are n together
-pub pairs_and_out : (n : ℕ) (out : ℕ → Bool) → pairs n out + members n out ≡ n
+pub pairs_and_out : (n : ℕ) (out : ℕ → Bool) → pair_count n out + members n out ≡ n
 pairs_and_out n out = omega (arith, members_all n, members_split n (λ _. true) out)

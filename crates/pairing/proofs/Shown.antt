@@ -9,7 +9,7 @@ use Rattle.blockset.proofs.Bits.{bit-zero}
 use Rattle.cost.specs.declared.Cost.{Ghosts}
 use Rattle.cost.specs.declared.free_kind.Free.{Free}
 use Rattle.pairing.specs.Grid.{at}
-use Rattle.pairing.specs.Largest.{Partial, Crowd, CrowdSet, Unpaired}
+use Rattle.pairing.specs.Largest.{Partial, IsInCrowd, CrowdSet, Unpaired}
 use Rattle.pairing.specs.Chains.{Reached, free, onward, Stuck}
 use Rattle.pairing.specs.Examples.{crowded_grid, bare_grid}
 use Rattle.pairing.proofs.Listing.{perfects_are}
@@ -26,7 +26,7 @@ reached_inside (onward l m w i f t) = i
 module _ (n : ℕ) (stands : ℕ → ℕ → Bool) (p : List ℕ) (out : ℕ → Bool)
     (part : Partial n stands p out) (stuck : Stuck n stands p out) where
   tells_crowd : (b : Bool) (l : ℕ) → (b ≡ true → Reached n stands p out l) → (b ≡ false → l < n → ⊥)
-      → Decides b (Crowd n stands l)
+      → Decides b (IsInCrowd n stands l)
   tells_crowd true l reached past = (
     λ e. (reached_crowd n stands p out (stuck_largest n stands p out part stuck) l).0
         (reached e),

@@ -9,13 +9,13 @@ use Rattle.std.proofs.lemmas.Int.{ints}
 use Rattle.std.proofs.lemmas.List.{length-replicate}
 use Rattle.cost.specs.Columns.{Within, zeros, plus}
 use Rattle.cost.proofs.Exact.{plus-within, zeros_within, within_more, length-columnwise}
-use Rattle.cost.specs.Weights.{weight, Light}
+use Rattle.cost.specs.Weights.{weight, IsLight}
 use Rattle.cost.proofs.Weights.{upto_is, upto_from, same_from, weight_plus, weight_zeros}
 use Rattle.pairing.specs.Grid.{Grid, Sane, at, PerfectIn, total_of, total, Upto}
 use Rattle.pairing.specs.Prices.{Value, TightPair}
 use Rattle.pairing.proofs.Sums.{sum_z}
 
-pub value_light : (columns : ℕ) (xs : List ℤ) → Value columns xs → Light xs
+pub value_light : (columns : ℕ) (xs : List ℤ) → Value columns xs → IsLight xs
 value_light columns xs v = within_more 1000000000000000 4000000000000000000 xs (omega arith)
     v.on_rail
 
@@ -42,7 +42,7 @@ module _ (columns : ℕ) (xs ys : List ℤ) (v : Value columns xs) (w : Value co
   plus_sized : length (plus xs ys) ≡ columns
   plus_sized = length-columnwise ◌+ℤ◌ xs ys (v.sized ∙ sym w.sized) ∙ v.sized
 
-  plus_light : Light (plus xs ys)
+  plus_light : IsLight (plus xs ys)
   plus_light = within_more 2000000000000000 4000000000000000000 (plus xs ys) (omega arith)
       (plus-within 1000000000000000 1000000000000000 xs ys v.on_rail w.on_rail)
 

@@ -42,8 +42,8 @@ abbrev pub Sends : (n k : ℕ) (tight : ℕ → ℕ → Bool) (p : List ℕ) →
 Sends n k tight p l r = (q : List ℕ) × Perfect n tight q × Agree k p q × (at q l ≡ r)
 
 -- a set of right blocks that no step leaves
-abbrev pub Closed : (n : ℕ) (tight : ℕ → ℕ → Bool) (p : List ℕ) → (ℕ → Bool) → Type 0
-Closed n tight p C = (l r : ℕ) → l < n → r < rights_of n → C (at p l) ≡ true → tight l r ≡ true
+abbrev pub IsClosed : (n : ℕ) (tight : ℕ → ℕ → Bool) (p : List ℕ) → (ℕ → Bool) → Type 0
+IsClosed n tight p C = (l r : ℕ) → l < n → r < rights_of n → C (at p l) ≡ true → tight l r ≡ true
     → C r ≡ true
 
 -- a set Y that has each right block that stands with any left block of X: N(X) lies in Y

@@ -15,16 +15,17 @@ pub record Partial (n : ℕ) (stands : ℕ → ℕ → Bool) (p : List ℕ) (out
   pub once : (l m : ℕ) → l < n → m < n → out l ≡ false → out m ≡ false → at p l ≡ at p m → l ≡ m
 
 -- how many pairs it has
-abbrev pub pairs : ℕ → (ℕ → Bool) → ℕ
-pairs n out = members n (λ l. not (out l))
+abbrev pub pair_count : ℕ → (ℕ → Bool) → ℕ
+pair_count n out = members n (λ l. not (out l))
 
 -- such a set with at least as many pairs as every other (a maximum matching)
 pub record Largest (n : ℕ) (stands : ℕ → ℕ → Bool) (p : List ℕ) (out : ℕ → Bool) : Type 0 where
   pub part : Partial n stands p out
-  pub most : (q : List ℕ) (out' : ℕ → Bool) → Partial n stands q out' → pairs n out' ≤ pairs n out
+  pub most : (q : List ℕ) (out' : ℕ → Bool) → Partial n stands q out'
+      → pair_count n out' ≤ pair_count n out
 
 -- left block l is in the crowd set: some largest pairing leaves it out
-pub record Crowd (n : ℕ) (stands : ℕ → ℕ → Bool) (l : ℕ) : Type 0 where
+pub record IsInCrowd (n : ℕ) (stands : ℕ → ℕ → Bool) (l : ℕ) : Type 0 where
   pub pairing : List ℕ
   pub out : ℕ → Bool
   pub largest : Largest n stands pairing out
@@ -33,7 +34,7 @@ pub record Crowd (n : ℕ) (stands : ℕ → ℕ → Bool) (l : ℕ) : Type 0 wh
 
 -- the test tells the crowd set
 abbrev pub CrowdSet : (n : ℕ) → (ℕ → ℕ → Bool) → (ℕ → Bool) → Type 0
-CrowdSet n stands X = (l : ℕ) → (IsTrue (X l) ↔ Crowd n stands l)
+CrowdSet n stands X = (l : ℕ) → (IsTrue (X l) ↔ IsInCrowd n stands l)
 
 -- the right blocks that stand with any left block of a set X (its neighbourhood N(X))
 abbrev pub around : ℕ → (ℕ → ℕ → Bool) → (ℕ → Bool) → ℕ → Bool

@@ -47,7 +47,7 @@ optima g = let ps = perfects g.size g.stands in filter (λ p. is_least g (total 
 -- ---- The pairs
 
 -- some perfect pairing has the pair of l and r (the edge is allowed)
-pub record Paired (n : ℕ) (stands : ℕ → ℕ → Bool) (l r : ℕ) : Type 0 where
+pub record IsInPerfect (n : ℕ) (stands : ℕ → ℕ → Bool) (l r : ℕ) : Type 0 where
   pub inside : l < n
   pub pairing : List ℕ
   pub perfect : Perfect n stands pairing

@@ -7,11 +7,11 @@ use Rattle.pairing.specs.Places.{rights_of}
 use Rattle.pairing.specs.Grid.{Grid, right_count, Sane, at, Perfect, PerfectIn, total, Optimum}
 use Rattle.pairing.specs.Prices.{Valid, Tight, Greatest}
 use Rattle.blockset.specs.Sets.{members}
-use Rattle.pairing.specs.Largest.{Partial, pairs, Largest, Crowd, CrowdSet, around, shortage}
-use Rattle.pairing.specs.Largest.{Unpaired}
+use Rattle.pairing.specs.Largest.{Partial, pair_count, Largest, IsInCrowd, CrowdSet, around}
+use Rattle.pairing.specs.Largest.{shortage, Unpaired}
 use Rattle.pairing.specs.Inside.{SameInside}
-use Rattle.pairing.specs.Chains.{Reached, Stuck, Chain, Sends, Closed, Shut}
-use Rattle.pairing.specs.Optima.{Before, perfects, optima, Paired, Marked, has_pair, is_marked}
+use Rattle.pairing.specs.Chains.{Reached, Stuck, Chain, Sends, IsClosed, Shut}
+use Rattle.pairing.specs.Optima.{Before, perfects, optima, IsInPerfect, Marked, has_pair, is_marked}
 
 -- ---- Prices
 
@@ -62,7 +62,7 @@ pub record GivenAlike : Type 0 where
       → (C : ℕ → Bool) → ((l : ℕ) → l < n → C (at p l) ≡ true → C (at q l) ≡ true) → (l : ℕ) → l < n
       → C (at p l) ≡ C (at q l)
   pub closed : (n : ℕ) (tight : ℕ → ℕ → Bool) (p q : List ℕ) → Perfect n tight p → Perfect n tight q
-      → (C : ℕ → Bool) → Closed n tight p C → (l : ℕ) → l < n → C (at p l) ≡ C (at q l)
+      → (C : ℕ → Bool) → IsClosed n tight p C → (l : ℕ) → l < n → C (at p l) ≡ C (at q l)
 
 -- a set of `many` left blocks that stand with no right block outside a set of `few`: every pairing
 -- leaves at least many - few of them out, and so has at most n - (many - few) pairs
@@ -71,7 +71,7 @@ pub record LeavesOut (many few least : ℕ) : Type 0 where
   pub bound : (n : ℕ) (stands : ℕ → ℕ → Bool) (X Y : ℕ → Bool) → Shut n stands X Y
       → members n X ≡ many → members (rights_of n) Y ≡ few
       → (p : List ℕ) (out : ℕ → Bool) → Partial n stands p out
-      → (least ≤ members n (λ l. X l && out l)) × (pairs n out + least ≤ n)
+      → (least ≤ members n (λ l. X l && out l)) × (pair_count n out + least ≤ n)
 
 -- Hall's condition, that such a set has no more left blocks than right blocks: where `possible` is
 -- false of one set no pairing is perfect, and where every set meets it, |X| ≤ |N(X)|, some pairing
@@ -100,7 +100,7 @@ pub record LargestIfStuck : Type 0 where
 abbrev pub CrowdIfReached : Type 0
 CrowdIfReached =
     (n : ℕ) (stands : ℕ → ℕ → Bool) (p : List ℕ) (out : ℕ → Bool) → Largest n stands p out → (l : ℕ)
-    → Reached n stands p out l ↔ Crowd n stands l
+    → Reached n stands p out l ↔ IsInCrowd n stands l
 
 -- the crowd set is short of as many right blocks as a largest pairing leaves left blocks out (the
 -- deficiency, by König), and that is none exactly if a pairing is perfect
@@ -146,7 +146,7 @@ PerfectsAre = (n : ℕ) (stands : ℕ → ℕ → Bool) → PerfectsHold n stand
 -- the test on the list tells whether some perfect pairing has a pair
 abbrev pub PairsAre : Type 0
 PairsAre = (n : ℕ) (stands : ℕ → ℕ → Bool) (l r : ℕ) → l < n
-    → IsTrue (has_pair l r (perfects n stands)) ↔ Paired n stands l r
+    → IsTrue (has_pair l r (perfects n stands)) ↔ IsInPerfect n stands l r
 
 -- `optima` is the list of the optimum pairings; it holds one exactly if some pairing is perfect
 pub record OptimaHold (g : Grid) : Type 0 where
