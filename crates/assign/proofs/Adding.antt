@@ -19,6 +19,7 @@ use Rattle.pairing.specs.Grid.{at, Perfect}
 use Rattle.pairing.specs.Chains.{Shut}
 use Rattle.pairing.proofs.Crowds.{left_out_le, perfect_partial}
 use Rattle.matching.specs.declared.chains.Holders.{Holders}
+use Rattle.matching.specs.declared.chains.Reach.{Reach}
 use Rattle.matching.specs.Exchange.{without, GivesDistinct, Holding, Ways, Exchanged}
 use Rattle.matching.proofs.Exchanging.{without_from}
 use Rattle.assign.specs.Search.{stage, from_row, Kept, Grown}
@@ -38,7 +39,16 @@ distinct_of n stands cost out p o v kept = record {
 module _ (n k : ℕ) (stands : ℕ → ℕ → Bool) (cost : ℕ → ℕ → ℤ) (out : ℕ → Bool) (p : List ℕ)
     (o : Holders) (v : ℕ → ℤ) (kept : Kept n stands cost out p o v) (room : k < n)
     (unpaired : out k ≡ true)
-    (d : ℕ → ℤ) (taken seen : ℕ → Bool) (from rank : List ℕ) where
+    (d : ℕ → ℤ) (reach : Reach) (seen : ℕ → Bool) where
+  abbrev taken : ℕ → Bool
+  taken = has reach.reached
+
+  abbrev from : List ℕ
+  from = reach.from
+
+  abbrev rank : List ℕ
+  rank = reach.rank
+
   abbrev at_stage : ℕ → ℕ
   at_stage = stage taken seen rank
 
@@ -46,10 +56,11 @@ module _ (n k : ℕ) (stands : ℕ → ℕ → Bool) (cost : ℕ → ℕ → ℤ
       (g : Grown n stands cost out (from_row stands cost k) p o v d at_stage (at from) t f)
       (inside : (c : ℕ) → taken c ≡ true → c < n) where
     -- the chains back from the taken right blocks
-    pub ways_of : Ways n p out taken from rank
+    pub ways_of : Ways p out reach
     ways_of = record {
-      inside = inside;
-      taker = λ c m. ⊎_elim (λ s. omega (arith, s.0, room)) (λ s. s.0)
+      inside = λ c m. omega (arith, inside c m, kept.pairs.len);
+      taker = λ c m. ⊎_elim (λ s. omega (arith, s.0, room, kept.pairs.len))
+          (λ s. omega (arith, s.0, kept.pairs.len))
           (g.source c (inside c m) (omega (arith, stage_taken taken seen rank c m)));
       back = λ c m u. ⊎_elim
           (λ s. absurd (both_ways (out k) (subst (λ (z : ℕ). out z ≡ false) s.0 u) unpaired))
@@ -66,7 +77,7 @@ module _ (n k : ℕ) (stands : ℕ → ℕ → Bool) (cost : ℕ → ℕ → ℤ
     }
 
     -- they lead to the root of the search
-    pub root_is : (r : ℕ) (p' : List ℕ) → Exchanged n p p' out taken from r → r ≡ k
+    pub root_is : (r : ℕ) (p' : List ℕ) → Exchanged p p' out reach r → r ≡ k
     root_is r p' x =
         ⊎_elim
         (λ s. absurd (s.0 refl))
@@ -79,7 +90,8 @@ module _ (n k : ℕ) (stands : ℕ → ℕ → Bool) (cost : ℕ → ℕ → ℤ
     -- no left block has the free right block
     pub goal_free : has o.held f ≡ false → (l : ℕ) → l < n → out l ≡ false → at p l ≡ f → ⊥
     goal_free free l h u e = both_ways (has o.held f) free
-        (subst (λ (z : ℕ). has o.held z ≡ true) e (kept.holding.all l (omega arith) h u))
+        (subst (λ (z : ℕ). has o.held z ≡ true) e
+        (kept.holding.all l (omega arith) (omega (arith, kept.pairs.len)) u))
 
     -- a right block that is free is not taken, but for that one
     pub untaken : (c : ℕ) → c < n → has o.held c ≡ false → (c ≡ f → ⊥) → taken c ≡ false
@@ -91,8 +103,8 @@ module _ (n k : ℕ) (stands : ℕ → ℕ → Bool) (cost : ℕ → ℕ → ℤ
     module _ (hf : f < n) (mf : 2 ≤ at_stage f) (free : has o.held f ≡ false)
         (v' : ℕ → ℤ) (fallen : (c : ℕ) → taken c ≡ true → v' c +ℤ d f ≡ d c +ℤ v f)
         (same : (c : ℕ) → taken c ≡ false → v' c ≡ v c) (p' : List ℕ) (o' : Holders)
-        (x : Exchanged n p p' out taken from k)
-        (told : Holding 0 n p' (without out k) (has o'.held) o'.row) where
+        (x : Exchanged p p' out reach k)
+        (told : Holding 0 p' (without out k) o') where
       fallen_at : (c : ℕ) → 2 ≤ at_stage c → v' c +ℤ d f ≡ d c +ℤ v f
       fallen_at c m = fallen c (taken_is taken seen rank c m)
 
@@ -167,6 +179,9 @@ module _ (n k : ℕ) (stands : ℕ → ℕ → Bool) (cost : ℕ → ℕ → ℤ
           ))
           (g.source r hr (omega (arith, stage_taken taken seen rank r m))))
 
+      whole : GivesDistinct n p' (without out k)
+      whole = subst (λ z. GivesDistinct z p' (without out k)) kept.pairs.len x.distinct
+
       every : (l : ℕ) → l < n → without out k l ≡ false → (stands l (at p' l) ≡ true)
           × ((c : ℕ) → c < n → stands l c ≡ true
           → (v' c +ℤ cost l (at p' l)) ≤ℤ (v' (at p' l) +ℤ cost l c))
@@ -176,16 +191,16 @@ module _ (n k : ℕ) (stands : ℕ → ℕ → Bool) (cost : ℕ → ℕ → ℤ
           subst (λ (z : ℕ). (stands l z ≡ true)
           × ((c : ℕ) → c < n → stands l c ≡ true → (v' c +ℤ cost l z) ≤ℤ (v' z +ℤ cost l c)))
           (sym s.1) (kept.pairs.standing l h old, λ c. fair_old l c h old))
-          (λ s. chained l (at p' l) (x.distinct.below l h u) s.0 s.1)
-          (x.came l h)
+          (λ s. chained l (at p' l) (whole.below l h u) s.0 s.1)
+          (x.came l (omega (arith, kept.pairs.len)))
 
       pub added : Kept n stands cost (without out k) p' o' v'
       added = record {
         pairs = record {
-          len = x.distinct.len;
-          below = x.distinct.below;
+          len = whole.len;
+          below = whole.below;
           standing = λ l h u. (every l h u).0;
-          once = x.distinct.once;
+          once = whole.once;
         };
         holding = told;
         fair = λ l c h u. (every l h u).1 c;
@@ -225,7 +240,7 @@ module _ (n k : ℕ) (stands : ℕ → ℕ → Bool) (cost : ℕ → ℕ → ℤ
     unfolding looked_at
     enough = inject_le n n taken looked_at (λ c _. at o.row c)
         (λ c m h. let w = had c h m in (
-          kept.holding.high c w,
+          omega (arith, kept.holding.high c w, kept.pairs.len),
           and_from (not (out (at o.row c))) (taken (at p (at o.row c)))
               (not_from_false (out (at o.row c)) (kept.holding.inside c w))
               (subst (λ (z : ℕ). taken z ≡ true) (sym (kept.holding.owner c w)) m),

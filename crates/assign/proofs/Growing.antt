@@ -16,8 +16,9 @@ pub own_row : (n : ℕ) (stands : ℕ → ℕ → Bool) (cost : ℕ → ℕ → 
     (o : Holders) (v : ℕ → ℤ) → Kept n stands cost out p o v → (l : ℕ) → l < n → out l ≡ false
     → at o.row (at p l) ≡ l
 own_row n stands cost out p o v kept l h u =
-    let t = kept.holding.all l (omega arith) h u in
-    kept.pairs.once (at o.row (at p l)) l (kept.holding.high (at p l) t) h
+    let t = kept.holding.all l (omega arith) (omega (arith, kept.pairs.len)) u in
+    kept.pairs.once (at o.row (at p l)) l
+    (omega (arith, kept.holding.high (at p l) t, kept.pairs.len)) h
     (kept.holding.inside (at p l) t) u (kept.holding.owner (at p l) t)
 
 -- what the left block l, of the taken right block a, does to the right block c
@@ -145,7 +146,8 @@ module _ (n : ℕ) (stands : ℕ → ℕ → Bool) (cost : ℕ → ℕ → ℤ) 
         omega (
           arith,
           ints,
-          kept.fair (at o.row a) c (kept.holding.high a oa) (kept.holding.inside a oa) h s,
+          kept.fair (at o.row a) c (omega (arith, kept.holding.high a oa, kept.pairs.len))
+              (kept.holding.inside a oa) h s,
         )
 
     pub looked : Grown n stands cost out start p o v d' stage' via' t n
@@ -222,7 +224,7 @@ module _ (n : ℕ) (stands : ℕ → ℕ → Bool) (cost : ℕ → ℕ → ℤ) 
           × (stands (at o.row a) c ≡ true)
           × (d' c +ℤ cost (at o.row a) z ≡ d' z +ℤ cost (at o.row a) c)
           × (2 ≤ stage' c → stage' z < stage' c)) (sym own) (
-            kept.holding.high a oa,
+            omega (arith, kept.holding.high a oa, kept.pairs.len),
             kept.holding.inside a oa,
             omega (arith, ta.1),
             s.0,

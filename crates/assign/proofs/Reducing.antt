@@ -30,7 +30,7 @@ module _ (n : ℕ) (stands : ℕ → ℕ → Bool) (cost : ℕ → ℕ → ℤ) 
     (o : Holders) (v : ℕ → ℤ) (kept : Kept n stands cost out p o v) (l j : ℕ) (below : j < n)
     (w : ℤ) (bid : BestBid (stands l) (has o.held) v (cost l) j w) (out' : ℕ → Bool) (p' : List ℕ)
     (seated : Seated n out p l j out' p') (o' : Holders)
-    (told : Holding 0 n p' out' (has o'.held) o'.row) (v' : ℕ → ℤ) (new : v' j ≡ w)
+    (told : Holding 0 p' out' o') (v' : ℕ → ℤ) (new : v' j ≡ w)
     (same : (c : ℕ) → (c ≡ j → ⊥) → v' c ≡ v c) where
   falls : (c : ℕ) → v' c ≤ℤ v c
   falls = price_falls (stands l) (has o.held) v (cost l) j w bid v' new same

@@ -2,11 +2,13 @@
 -- Idea: a right block has one left block at most. So only that one is left out now, no other left
 -- block has the right block, and the new left block, which was left out, had none.
 use Rattle.std.proofs.Common.{◌≡◌, ℕ, ◌<◌, Bool, true, false, not, ◌&&◌, ◌||◌, eqb, ◌⊎◌, List}
-use Rattle.std.proofs.Common.{sym, refl, ap, ◌∙◌, subst, inl, inr, ⊎_elim, arith}
+use Rattle.std.proofs.Common.{length, sym, refl, ap, ◌∙◌, subst, inl, inr, ⊎_elim, arith}
 use Rattle.std.proofs.lemmas.Bool.{cases_eq, cases_Bool, both_ways, or_cases}
 use Rattle.std.proofs.lemmas.Bool.{eqb-true, and_from, not_from_false, ne_eqb}
+use Rattle.blockset.specs.Has.{has}
 use Rattle.pairing.specs.Grid.{at}
 use Rattle.blockset.proofs.Removing.{still_in}
+use Rattle.matching.specs.declared.chains.Holders.{Holders}
 use Rattle.matching.specs.Exchange.{GivesDistinct, Holding}
 use Rattle.matching.proofs.Inserting.{new_in, old_in, old_from}
 
@@ -30,12 +32,19 @@ module _ (out held : ℕ → Bool) (row : List ℕ) (l c : ℕ) (out₁ : ℕ �
     oust = λ _. new_in out₁ out' (at row c) inserted;
   }
 
-module _ (n : ℕ) (out held : ℕ → Bool) (p row : List ℕ) (l c : ℕ) (room : l < n)
+module _ (out : ℕ → Bool) (p : List ℕ) (o : Holders) (l c : ℕ) (room : l < length p)
     (left_out : out l ≡ true)
-    (distinct : GivesDistinct n p out) (told : Holding 0 n p out held row)
-    (out' : ℕ → Bool) (ousts : Ousts out held row l c out') (p' : List ℕ)
+    (distinct : GivesDistinct (length p) p out) (told : Holding 0 p out o)
+    (out' : ℕ → Bool) (ousts : Ousts out (has o.held) o.row l c out') (p' : List ℕ)
+    (long : length p' ≡ length p)
     (gets : at p' l ≡ c) (others : (m : ℕ) → (m ≡ l → ⊥) → at p' m ≡ at p m) where
-  own : (m : ℕ) → m < n → out m ≡ false → at row (at p m) ≡ m
+  abbrev held : ℕ → Bool
+  held = has o.held
+
+  abbrev row : List ℕ
+  row = o.row
+
+  own : (m : ℕ) → m < length p → out m ≡ false → at row (at p m) ≡ m
   own m h u =
       let t = told.all m (omega arith) h u in
       distinct.once (at row (at p m)) m (told.high (at p m) t) h (told.inside (at p m) t) u
@@ -54,7 +63,7 @@ module _ (n : ℕ) (out held : ℕ → Bool) (p row : List ℕ) (l c : ℕ) (roo
       (λ w. ne (ap (at p) w.1 ∙ told.owner c w.0)) (ousts.back m t)))
       (λ f. f) (cases_Bool (out' m))
 
-  was : (m : ℕ) → m < n → (m ≡ l → ⊥) → out' m ≡ false → (out m ≡ false) × (at p m ≡ c → ⊥)
+  was : (m : ℕ) → m < length p → (m ≡ l → ⊥) → out' m ≡ false → (out m ≡ false) × (at p m ≡ c → ⊥)
   was m h ne f =
       let u : out m ≡ false = ⊎_elim
       (λ (t : out m ≡ true). absurd (both_ways (out' m) f (ousts.keep m t ne)))
@@ -65,27 +74,36 @@ module _ (n : ℕ) (out held : ℕ → Bool) (p row : List ℕ) (l c : ℕ) (roo
             (ousts.oust (subst (λ (z : ℕ). held z ≡ true) e (told.all m (omega arith) h u)))),
       )
 
-  module _ (held' : ℕ → Bool) (inserted : (j : ℕ) → held' j ≡ (eqb j c || held j)) (row' : List ℕ)
-      (new : at row' c ≡ l) (rest : (j : ℕ) → (j ≡ c → ⊥) → at row' j ≡ at row j) where
+  module _ (o' : Holders) (inserted : (j : ℕ) → has o'.held j ≡ (eqb j c || held j))
+      (new : at o'.row c ≡ l) (rest : (j : ℕ) → (j ≡ c → ⊥) → at o'.row j ≡ at row j) where
+    abbrev held' : ℕ → Bool
+    held' = has o'.held
+
+    abbrev row' : List ℕ
+    row' = o'.row
+
     apart : (j : ℕ) → held j ≡ true → at row j ≡ l → ⊥
     apart j h e = both_ways (out l) (subst (λ (z : ℕ). out z ≡ false) e (told.inside j h)) left_out
 
     old : (j : ℕ) → held' j ≡ true → (j ≡ c → ⊥) → held j ≡ true
     old = old_from held held' c inserted
 
-    pub seated_told : Holding 0 n p' out' held' row'
+    inside : (m : ℕ) → m < length p' → m < length p
+    inside m h = omega (arith, long)
+
+    pub seated_told : Holding 0 p' out' o'
     seated_told = record {
       all = λ m _ h f. ⊎_elim
           (λ (e : m ≡ l). subst (λ (z : ℕ). held' z ≡ true) (sym (ap (at p') e ∙ gets))
           (new_in held held' c inserted))
           (λ (ne : m ≡ l → ⊥). subst (λ (z : ℕ). held' z ≡ true) (sym (others m ne))
-          (old_in held held' c inserted (at p m) (told.all m (omega arith) h (was m h ne f).0)))
+          (old_in held held' c inserted (at p m)
+          (told.all m (omega arith) (inside m h) (was m (inside m h) ne f).0)))
           (cases_eq m l);
       low = λ j _. omega arith;
       high = λ j t. ⊎_elim
-          (λ (e : j ≡ c). subst (λ (z : ℕ). z < n) (sym (ap (at row') e ∙ new)) room)
-          (λ (ne : j ≡ c → ⊥). subst (λ (z : ℕ). z < n) (sym (rest j ne))
-          (told.high j (old j t ne)))
+          (λ (e : j ≡ c). omega (arith, ap (at row') e, new, room, long))
+          (λ (ne : j ≡ c → ⊥). omega (arith, rest j ne, told.high j (old j t ne), long))
           (cases_eq j c);
       inside = λ j t. ⊎_elim
           (λ (e : j ≡ c). subst (λ (z : ℕ). out' z ≡ false) (sym (ap (at row') e ∙ new)) paired)

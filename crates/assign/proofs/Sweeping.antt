@@ -30,11 +30,13 @@ module _ (n : ℕ) (stands : ℕ → ℕ → Bool) (cost : ℕ → ℕ → ℤ) 
   all_held c h =
       let w = onto n stands p (perfect_of n stands cost p o v (λ _. false) kept (λ _ _. refl)) c h
       in
-      subst (λ (z : ℕ). has o.held z ≡ true) w.2 (kept.holding.all w.0 (omega arith) w.1 refl)
+      subst (λ (z : ℕ). has o.held z ≡ true) w.2
+      (kept.holding.all w.0 (omega arith) (omega (arith, w.1, kept.pairs.len)) refl)
 
   pub owner_stands : (c : ℕ) → has o.held c ≡ true → stands (at o.row c) c ≡ true
   owner_stands c t = subst (λ (z : ℕ). stands (at o.row c) z ≡ true) (kept.holding.owner c t)
-      (kept.pairs.standing (at o.row c) (kept.holding.high c t) (kept.holding.inside c t))
+      (kept.pairs.standing (at o.row c) (omega (arith, kept.holding.high c t, kept.pairs.len))
+      (kept.holding.inside c t))
 
   -- at first all right blocks are reached, and none is taken
   sweep_start : n ≤ 64 → (reached : ℕ → Bool) → ((c : ℕ) → reached c ≡ (ltb c 64 && ltb c n))

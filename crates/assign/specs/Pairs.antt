@@ -34,7 +34,7 @@ pub record Chosen (n : ℕ) (priced : ℕ → Bool) (row : ℕ → ℕ) (out : �
   pub left_out : (l : ℕ) → l < n → (out l ≡ true) ↔ ((c : ℕ) → priced c ≡ true → row c ≢ l)
   pub cheap : (l : ℕ) → l < n → out l ≡ false → (priced (at p l) ≡ true) × (row (at p l) ≡ l)
   pub first : (l : ℕ) → l < n → out l ≡ false → (c : ℕ) → priced c ≡ true → row c ≡ l → at p l ≤ c
-  pub holding : Holding 0 n p out (has o.held) o.row
+  pub holding : Holding 0 p out o
 
 -- a pairing with prices that go with it; the price of a right block that was never taken is still a
 -- cost, and no price is far

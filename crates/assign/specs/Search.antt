@@ -20,7 +20,7 @@ stage taken seen turn c = if taken c then at turn c + 2 else (if seen c then 1 e
 pub record Kept (n : ℕ) (stands : ℕ → ℕ → Bool) (cost : ℕ → ℕ → ℤ) (out : ℕ → Bool) (p : List ℕ)
     (o : Holders) (v : ℕ → ℤ) : Type 0 where
   pub pairs : Partial n stands p out
-  pub holding : Holding 0 n p out (has o.held) o.row
+  pub holding : Holding 0 p out o
   pub fair : (l c : ℕ) → l < n → out l ≡ false → c < n → stands l c ≡ true
       → (v c +ℤ cost l (at p l)) ≤ℤ (v (at p l) +ℤ cost l c)
 

@@ -111,12 +111,10 @@ fn seat(l: usize, c: usize, out: &mut BlockSet, partners: &mut [u16], holders: &
     requires left_out { has out.old l ≡ true }
     requires inside { (m : ℕ) → has out.old m ≡ true → m < length partners.old }
     requires distinct { GivesDistinct (length partners.old) partners.old (has out.old) }
-    requires told { Holding 0 (length partners.old) partners.old (has out.old)
-        (has holders.old.held) holders.old.row }
+    requires told { Holding 0 partners.old (has out.old) holders.old }
     ensures seated { Seated (length partners.old) (has out.old) partners.old l c (has out.new)
         partners.new }
-    ensures told { Holding 0 (length partners.old) partners.new (has out.new)
-        (has holders.new.held) holders.new.row }
+    ensures told { Holding 0 partners.new (has out.new) holders.new }
     ensures held { (j : ℕ) → has holders.new.held j ≡ (j == c || has holders.old.held j) }
 {
     let was_held = holders.held.contains(c);

@@ -5,12 +5,15 @@
 -- later is still as it was. The holders tell of every right block but the free one.
 use Rattle.std.proofs.Common.{◌≡◌, ℕ, suc, ◌<◌, ◌≤◌, Bool, true, false, cond, ◌||◌, ◌⊎◌, List}
 use Rattle.std.proofs.Common.{length, set, sym, refl, ap, ◌∙◌, subst, inl, inr, arith}
-use Rattle.std.proofs.lemmas.List.{get_or-set_same, get_or-set_other}
+use Rattle.std.proofs.lemmas.List.{get_or-set_same, get_or-set_other, length-set}
 use Rattle.std.proofs.lemmas.Bool.Decides.{nat_tests}
 use Rattle.std.proofs.lemmas.Bool.{cases_eq, cases_Bool, or_left, or_right, both_ways, cond-true}
 use Rattle.std.proofs.lemmas.Bool.{cond-false}
+use Rattle.blockset.specs.Has.{has}
 use Rattle.pairing.specs.Grid.{at}
 use Rattle.pairing.proofs.Filling.{Hole, took, next}
+use Rattle.matching.specs.declared.chains.Holders.{Holders}
+use Rattle.matching.specs.declared.chains.Reach.{Reach}
 use Rattle.matching.specs.Exchange.{without, Holding, Ways, Exchanged}
 
 -- a left block that is out of the set without another one is out of the set
@@ -24,222 +27,160 @@ without_itself out l = grind (arith, nat_tests)
 pub without_other : (out : ℕ → Bool) (l x : ℕ) → out x ≡ false → without out l x ≡ false
 without_other out l x f = grind arith
 
-module _ (n : ℕ) (p : List ℕ) (out reached : ℕ → Bool) (from rank : List ℕ) (goal : ℕ) where
+module _ (p : List ℕ) (out : ℕ → Bool) (x : Reach) where
   -- the left blocks that a chain passes, and their ranks
   abbrev pub passed : ℕ → Bool
-  passed l = out l || reached (at p l)
+  passed l = out l || has x.reached (at p l)
 
   abbrev pub height : ℕ → ℕ
-  height l = cond (out l) 0 (suc (at rank (at p l)))
+  height l = cond (out l) 0 (suc (at x.rank (at p l)))
 
-  abbrev pub top : ℕ
-  top = suc (suc (at rank goal))
+  -- the pairing q with a hole at `block`, and what has changed in it since `goal` was reached
+  pub record Exchanging (goal : ℕ) (q : List ℕ) (block : ℕ) : Type 0 where
+    pub hole : Hole (length p) (λ _ _. true) p out out passed height (suc (suc (at x.rank goal))) q
+        block (at x.from block)
+    pub member : has x.reached block ≡ true
+    pub came : (l : ℕ) → l < length p → (at q l ≡ at p l)
+        ⊎ ((has x.reached (at q l) ≡ true) × (at x.from (at q l) ≡ l))
 
-  -- the pairing q with a hole at `block`, and what has changed in it
-  pub record Exchanging (q : List ℕ) (block : ℕ) : Type 0 where
-    pub hole : Hole n (λ _ _. true) p out out passed height top q block (at from block)
-    pub member : reached block ≡ true
-    pub came : (l : ℕ) → l < n → (at q l ≡ at p l)
-        ⊎ ((reached (at q l) ≡ true) × (at from (at q l) ≡ l))
+  -- right block c is a left block's from k on that is not in `out`
+  abbrev pub Owned : (k : ℕ) (out : ℕ → Bool) (q : List ℕ) (h : Holders) (c : ℕ) → Type 0
+  Owned k out q h c = (k ≤ at h.row c) × (at h.row c < length p) × (out (at h.row c) ≡ false)
+      × (at q (at h.row c) ≡ c)
 
   -- the holders tell of the left blocks of q from k on, but for the hole
-  pub record Telling (k : ℕ) (q row : List ℕ) (held : ℕ → Bool) (block : ℕ) : Type 0 where
-    pub taken : held block ≡ true
-    pub had : (l : ℕ) → k ≤ l → l < n → out l ≡ false → held (at q l) ≡ true
-    pub whose : (l : ℕ) → k ≤ l → l < n → out l ≡ false → at row (at q l) ≡ l
-    pub owner : (c : ℕ) → held c ≡ true → (c ≡ block → ⊥)
-        → (k ≤ at row c) × (at row c < n) × (out (at row c) ≡ false) × (at q (at row c) ≡ c)
+  pub record Telling (k : ℕ) (q : List ℕ) (h : Holders) (block : ℕ) : Type 0 where
+    pub taken : has h.held block ≡ true
+    pub had : (l : ℕ) → k ≤ l → l < length p → out l ≡ false → has h.held (at q l) ≡ true
+    pub owner : (c : ℕ) → has h.held c ≡ true → (c ≡ block → ⊥) → Owned k out q h c
 
-  height_out : (l : ℕ) → out l ≡ true → height l ≡ 0
-  height_out l t = cond-true (out l) 0 (suc (at rank (at p l))) t
+module _ {p : List ℕ} {out : ℕ → Bool} {x : Reach} {goal block : ℕ} {q : List ℕ}
+    (w : Ways p out x) (s : Exchanging p out x goal q block) where
+  -- the left block that takes the right block, and the pairing then
+  abbrev taker : ℕ
+  taker = at x.from block
 
-  height_in : (l : ℕ) → out l ≡ false → height l ≡ suc (at rank (at p l))
-  height_in l f = cond-false (out l) 0 (suc (at rank (at p l))) f
+  abbrev given : List ℕ
+  given = set q taker block
 
-  module _ (w : Ways n p out reached from rank) where
-    -- the left block that a right block is reached from
-    passes : (c : ℕ) → reached c ≡ true
-        → (passed (at from c) ≡ true) × (height (at from c) < suc (suc (at rank c)))
-    passes c t = elim (cases_Bool (out (at from c))) [
-      | inl r ↦ (or_left (out (at from c)) _ r, omega (arith, height_out (at from c) r))
-      | inr f ↦
-          let v = w.back c t f in
-          (or_right (out (at from c)) _ v.0, omega (arith, height_in (at from c) f, v.1))
+  height_out : (l : ℕ) → out l ≡ true → height p out x l ≡ 0
+  height_out l t = cond-true (out l) 0 (suc (at x.rank (at p l))) t
+
+  height_in : (l : ℕ) → out l ≡ false → height p out x l ≡ suc (at x.rank (at p l))
+  height_in l f = cond-false (out l) 0 (suc (at x.rank (at p l))) f
+
+  at_taker : (m : ℕ) → m ≡ taker → at given m ≡ block
+  at_taker m e = ap (at given) e
+      ∙ get_or-set_same q taker block 0 (omega (arith, s.hole.part.len, s.hole.taker))
+
+  at_other : (m : ℕ) → (m ≡ taker → ⊥) → at given m ≡ at q m
+  at_other m ne = get_or-set_other q taker m block 0 ne
+
+  came : (m : ℕ) → m ≡ taker → (has x.reached (at given m) ≡ true) × (at x.from (at given m) ≡ m)
+  came m e = (ap (has x.reached) (at_taker m e) ∙ s.member, ap (at x.from) (at_taker m e) ∙ sym e)
+
+  -- ---- the chain goes on
+
+  module _ (f : out taker ≡ false) where
+    same : at q taker ≡ at p taker
+    same = s.hole.ahead taker s.hole.taker (omega arith)
+
+    onward : (has x.reached (at p taker) ≡ true) × (at x.rank (at p taker) < at x.rank block)
+    onward = w.back block s.member f
+
+    -- the next left block of it
+    passes : (passed p out x (at x.from (at p taker)) ≡ true)
+        × (height p out x (at x.from (at p taker)) < height p out x taker)
+    passes = let m = at x.from (at p taker) in elim (cases_Bool (out m)) [
+      | inl r ↦ (or_left (out m) _ r, omega (arith, height_out m r, height_in taker f))
+      | inr g ↦
+          let v = w.back (at p taker) onward.0 g in
+          (or_right (out m) _ v.0, omega (arith, height_in m g, height_in taker f, v.1))
     ]
 
-    module _ (q : List ℕ) (block : ℕ) (x : Exchanging q block) where
-      at_l : at (set q (at from block) block) (at from block) ≡ block
-      at_l = get_or-set_same q (at from block) block 0
-          (omega (arith, x.hole.part.len, x.hole.taker))
+    pub exchange_more : Exchanging p out x goal given (at q taker)
+    exchange_more = record {
+      hole = subst
+          (λ m. Hole (length p) (λ _ _. true) p out out (passed p out x) (height p out x)
+          (suc (suc (at x.rank goal))) given (at q taker) m) (ap (at x.from) (sym same))
+          (next (length p) (λ _ _. true) p out out (passed p out x) (height p out x)
+          (suc (suc (at x.rank goal))) q block taker s.hole f
+          (at x.from (at p taker)) (w.taker (at p taker) onward.0) passes.0 refl passes.1);
+      member = ap (has x.reached) same ∙ onward.0;
+      came = λ m i. elim (cases_eq m taker)
+          [ inl e ↦ inr (came m e) | inr ne ↦ rw (at_other m ne) (s.came m i) ];
+    }
 
-      at_other : (m : ℕ) → (m ≡ at from block → ⊥) → at (set q (at from block) block) m ≡ at q m
-      at_other m ne = get_or-set_other q (at from block) m block 0 ne
+  -- ---- the chain ends
 
-      -- the left block that takes the right block, and the others
-      taken : (m : ℕ) → m ≡ at from block → (reached (at (set q (at from block) block) m) ≡ true)
-          × (at from (at (set q (at from block) block) m) ≡ m)
-      taken m e =
-          let is : at (set q (at from block) block) m ≡ block =
-          ap (at (set q (at from block) block)) e ∙ at_l in
-          (ap reached is ∙ x.member, ap (at from) is ∙ sym e)
+  pub exchange_done : out taker ≡ true → Exchanged p given out x taker
+  exchange_done t = record {
+    inside = s.hole.taker;
+    was_out = t;
+    distinct = took (length p) (λ _ _. true) p out out (passed p out x) (height p out x)
+        (suc (suc (at x.rank goal))) q block taker s.hole (without out taker)
+        (without_from out taker);
+    came = λ m i. elim (cases_eq m taker) [
+      | inl e ↦ inr (came m e)
+      | inr ne ↦ rw (at_other m ne)
+          (elim (s.came m i) [ inl e ↦ inl (ne, e) | inr v ↦ inr v ])
+    ];
+    kept = λ m i o ne. at_other m ne ∙ s.hole.ahead m i (omega (arith, height_out m o));
+  }
 
-      changed : (m : ℕ) → m < n → (at (set q (at from block) block) m ≡ at p m)
-          ⊎ ((reached (at (set q (at from block) block) m) ≡ true)
-          × (at from (at (set q (at from block) block) m) ≡ m))
-      changed m i = elim (cases_eq m (at from block)) [
-        | inl e ↦ inr (taken m e)
-        | inr ne ↦
-            rw (at_other m ne) (x.came m i)
+  -- ---- the holders
+
+  module _ {k : ℕ} {h : Holders} (t : Telling p out x k q h block)
+      (high : (c : ℕ) → has x.reached c ≡ true → k ≤ at x.from c) (wide : length p ≤ length h.row)
+    where
+      abbrev told : Holders
+      told = record { held = h.held; row = set h.row block taker }
+
+      row_here : (c : ℕ) → c ≡ block → at told.row c ≡ taker
+      row_here c e = ap (at told.row) e
+          ∙ get_or-set_same h.row block taker 0 (omega (arith, s.hole.inside))
+
+      has_it : (m : ℕ) → k ≤ m → m < length p → ((m ≡ taker → ⊥) → out m ≡ false)
+          → has h.held (at given m) ≡ true
+      has_it m le i f = elim (cases_eq m taker) [
+        | inl e ↦ ap (has h.held) (at_taker m e) ∙ t.taken
+        | inr ne ↦ ap (has h.held) (at_other m ne) ∙ t.had m le i (f ne)
       ]
 
-      -- the chain goes on
-      module _ (f : out (at from block) ≡ false) where
-        same : at q (at from block) ≡ at p (at from block)
-        same = x.hole.ahead (at from block) x.hole.taker (omega arith)
+      -- whose each right block is, told by those that are left out then
+      owner : (rest : ℕ → Bool) → rest taker ≡ false → ((m : ℕ) → out m ≡ false → rest m ≡ false)
+          → (c : ℕ) → has h.held c ≡ true → ((c ≡ block → ⊥) → at h.row c ≡ taker → ⊥)
+          → Owned p out x k rest given told c
+      owner rest here others c held apart = elim (cases_eq c block) [
+        | inl e ↦ rw (row_here c e)
+            (high block s.member, s.hole.taker, here, at_taker taker refl ∙ sym e)
+        | inr ne ↦
+            let v = t.owner c held ne in
+            rw (get_or-set_other h.row block c taker 0 ne)
+            (v.0, v.1, others (at h.row c) v.2, at_other (at h.row c) (apart ne) ∙ v.3)
+      ]
 
-        onward : (reached (at p (at from block)) ≡ true)
-            × (at rank (at p (at from block)) < at rank block)
-        onward = w.back block x.member f
-
-        pub exchange_more : Exchanging (set q (at from block) block) (at q (at from block))
-        exchange_more =
-            let c = at p (at from block) in
-            let t : reached (at p (at from block)) ≡ true = onward.0 in
-            let v = passes c t in
-            let less : height (at from (at p (at from block))) < height (at from block) =
-            elim (cases_Bool (out (at from c))) [
-              | inl r ↦ omega (arith, height_out (at from c) r, height_in (at from block) f)
-              | inr g ↦ omega (
-                arith,
-                height_in (at from c) g,
-                height_in (at from block) f,
-                (w.back c t g).1,
-              )
-            ] in
-            record {
-              hole = subst
-                  (λ m. Hole n (λ _ _. true) p out out passed height top
-                  (set q (at from block) block)
-                  (at q (at from block)) m) (ap (at from) (sym same))
-                  (next n (λ _ _. true) p out out passed height top q block (at from block) x.hole f
-                  (at from c) (w.taker c t) v.0 refl less);
-              member = ap reached same ∙ t;
-              came = changed;
-            }
-
-      -- the chain ends
-      pub exchange_done : out (at from block) ≡ true → Exchanged n p (set q (at from block) block)
-          out reached from (at from block)
-      exchange_done t = record {
-        inside = x.hole.taker;
-        was_out = t;
-        distinct = took n (λ _ _. true) p out out passed height top q block (at from block)
-            x.hole (without out (at from block)) (without_from out (at from block));
-        came = λ m i. elim (cases_eq m (at from block)) [
-          | inl e ↦ inr (taken m e)
-          | inr ne ↦ elim (x.came m i) [
-            | inl e ↦ inl (ne, at_other m ne ∙ e)
-            | inr v ↦
-                inr (ap reached (at_other m ne) ∙ v.0, ap (at from) (at_other m ne) ∙ v.1)
-          ]
-        ];
-        kept = λ m i o ne. at_other m ne ∙ x.hole.ahead m i (omega (arith, height_out m o));
+      pub telling_more : out taker ≡ false → Telling p out x k given told (at q taker)
+      telling_more f = record {
+        taken = t.had taker (high block s.member) s.hole.taker f;
+        had = λ m le i g. has_it m le i (λ _. g);
+        owner = λ c held ne. owner out f (λ m g. g) c held
+            (λ a e. ne (sym (t.owner c held a).3 ∙ ap (at q) e));
       }
 
-      -- ---- the holders
+      pub telling_done : out taker ≡ true → Holding k given (without out taker) told
+      telling_done o = record {
+        all = λ m le i g. has_it m le (omega (arith, long)) (without_from out taker m g);
+        low = λ c held. (whose c held).0;
+        high = λ c held. omega (arith, long, (whose c held).1);
+        inside = λ c held. (whose c held).2;
+        owner = λ c held. (whose c held).3;
+      }
+        where
+          long : length given ≡ length p
+          long = length-set q taker block ∙ s.hole.part.len
 
-      module _ (k : ℕ) (high : (c : ℕ) → reached c ≡ true → k ≤ at from c) (row : List ℕ)
-          (held : ℕ → Bool) (t : Telling k q row held block) (fits : n ≤ length row) where
-        row_l : at (set row block (at from block)) block ≡ at from block
-        row_l = get_or-set_same row block (at from block) 0 (omega (arith, x.hole.inside))
-
-        row_other : (c : ℕ) → (c ≡ block → ⊥) → at (set row block (at from block)) c ≡ at row c
-        row_other c ne = get_or-set_other row block c (at from block) 0 ne
-
-        -- whose right block another left block has
-        stays : (m : ℕ) → k ≤ m → m < n → out m ≡ false → (m ≡ at from block → ⊥)
-            → at (set row block (at from block)) (at (set q (at from block) block) m) ≡ m
-        stays m le i f ne =
-            ap (at (set row block (at from block))) (at_other m ne)
-            ∙ row_other (at q m) (x.hole.free m i f) ∙ t.whose m le i f
-
-        takes : (m : ℕ) → m ≡ at from block
-            → at (set row block (at from block)) (at (set q (at from block) block) m) ≡ m
-        takes m e =
-            ap (at (set row block (at from block))) (ap (at (set q (at from block) block)) e ∙ at_l)
-            ∙ row_l ∙ sym e
-
-        has_one : (m : ℕ) → k ≤ m → m < n → out m ≡ false → (m ≡ at from block → ⊥)
-            → held (at (set q (at from block) block) m) ≡ true
-        has_one m le i f ne = ap held (at_other m ne) ∙ t.had m le i f
-
-        has_this : (m : ℕ) → m ≡ at from block → held (at (set q (at from block) block) m) ≡ true
-        has_this m e = ap held (ap (at (set q (at from block) block)) e ∙ at_l) ∙ t.taken
-
-        pub telling_more : out (at from block) ≡ false → Telling k (set q (at from block) block)
-            (set row block (at from block)) held (at q (at from block))
-        telling_more f = record {
-          taken = t.had (at from block) (high block x.member) x.hole.taker f;
-          had = λ m le i g. elim (cases_eq m (at from block))
-              [ inl e ↦ has_this m e | inr ne ↦ has_one m le i g ne ];
-          whose = λ m le i g. elim (cases_eq m (at from block))
-              [ inl e ↦ takes m e | inr ne ↦ stays m le i g ne ];
-          owner = λ c h ne. elim (cases_eq c block) [
-            | inl e ↦
-                let is : at (set row block (at from block)) c ≡ at from block =
-                ap (at (set row block (at from block))) e ∙ row_l in (
-                  subst (λ m. k ≤ m) (sym is) (high block x.member),
-                  subst (λ m. m < n) (sym is) x.hole.taker,
-                  ap out is ∙ f,
-                  ap (at (set q (at from block) block)) is ∙ at_l ∙ sym e,
-                )
-            | inr a ↦
-                let v = t.owner c h a in
-                let is = row_other c a in (
-                  subst (λ m. k ≤ m) (sym is) v.0,
-                  subst (λ m. m < n) (sym is) v.1,
-                  ap out is ∙ v.2,
-                  ap (at (set q (at from block) block)) is
-                      ∙ at_other (at row c) (λ e. ne (sym v.3 ∙ ap (at q) e)) ∙ v.3,
-                )
-          ];
-        }
-
-        pub telling_done : out (at from block) ≡ true → Holding k n (set q (at from block) block)
-            (without out (at from block)) held (set row block (at from block))
-        telling_done o = record {
-          all = λ m le i g. elim (cases_eq m (at from block)) [
-            | inl e ↦ has_this m e
-            | inr ne ↦ has_one m le i (without_from out (at from block) m g ne) ne
-          ];
-          low = λ c h. (owner c h).0;
-          high = λ c h. (owner c h).1;
-          inside = λ c h. (owner c h).2;
-          owner = λ c h. (owner c h).3;
-        }
-          where
-            owner : (c : ℕ) → held c ≡ true → (k ≤ at (set row block (at from block)) c)
-                × (at (set row block (at from block)) c < n)
-                × (without out (at from block) (at (set row block (at from block)) c) ≡ false)
-                × (at (set q (at from block) block) (at (set row block (at from block)) c) ≡ c)
-            owner c h = elim (cases_eq c block) [
-              | inl e ↦
-                  let is : at (set row block (at from block)) c ≡ at from block =
-                  ap (at (set row block (at from block))) e ∙ row_l in (
-                    subst (λ m. k ≤ m) (sym is) (high block x.member),
-                    subst (λ m. m < n) (sym is) x.hole.taker,
-                    ap (without out (at from block)) is ∙ without_itself out (at from block),
-                    ap (at (set q (at from block) block)) is ∙ at_l ∙ sym e,
-                  )
-              | inr a ↦
-                  let v = t.owner c h a in
-                  let is = row_other c a in
-                  let ne : at row c ≡ at from block → ⊥ =
-                  λ e. both_ways (out (at row c)) v.2 (ap out e ∙ o) in (
-                    subst (λ m. k ≤ m) (sym is) v.0,
-                    subst (λ m. m < n) (sym is) v.1,
-                    ap (without out (at from block)) is
-                        ∙ without_other out (at from block) (at row c) v.2,
-                    ap (at (set q (at from block) block)) is ∙ at_other (at row c) ne ∙ v.3,
-                  )
-            ]
+          whose : (c : ℕ) → has h.held c ≡ true → Owned p out x k (without out taker) given told c
+          whose c held = owner (without out taker) (without_itself out taker)
+              (without_other out taker) c held
+              (λ ne e. both_ways (out taker) (ap out (sym e) ∙ (t.owner c held ne).2) o)

@@ -1,81 +1,27 @@
--- Where a search goes that may use all right blocks, and which pairs occur.
+-- Which pairs occur.
 -- Idea: a pair occurs if exchanging along a chain brings it about: from its right block back to the
 -- one that its left block has. That is a theorem on chains, and the table of leads tells the
 -- chains. Since the step from the right block of a left block to any one of its row is a chain too,
--- these are just the right blocks of its row that are in one class with its own.
-use Rattle.std.proofs.Common.{◌≡◌, ℕ, ◌+◌, ◌<◌, ◌≤◌, Bool, true, false, cond, ◌&&◌, ◌⊎◌, ltb}
+-- these are just the right blocks of its row that are in one class with its own: strongly connected
+-- with it.
+use Rattle.std.proofs.Common.{◌≡◌, ℕ, ◌+◌, ◌<◌, ◌≤◌, Bool, true, false, cond, ◌&&◌, ◌⊎◌, rules}
 use Rattle.std.proofs.Common.{List, length, Decides, sym, refl, ap, ◌∙◌, subst, inl, inr, arith}
-use Rattle.std.proofs.Common.{rules}
 use Rattle.std.proofs.Math.Bool.{and-false}
 use borrow.Rule.Slice.PartMut.{put_mid}
 use Rattle.std.proofs.lemmas.List.{places}
 use Rattle.std.proofs.lemmas.Bool.Decides.{same_from_decides}
 use Rattle.std.proofs.lemmas.Bool.{cases_Bool, both_ways, and_parts, and_from, cond-true}
-use Rattle.std.proofs.lemmas.Bool.{cond-false, lt-ltb}
+use Rattle.std.proofs.lemmas.Bool.{cond-false}
 use Rattle.blockset.specs.declared.BlockSet.{BlockSet}
-use Rattle.blockset.specs.Has.{has}
 use Rattle.pairing.specs.Grid.{at}
 use Rattle.pairing.specs.Chains.{Chain, here, step}
 use Rattle.pairing.specs.Optima.{has_pair}
+use Rattle.pairing.specs.Rows.{holds, Pairs, pairings}
 use Rattle.pairing.proofs.Counting.{onto}
 use Rattle.pairing.proofs.Sending.{sends_if_chain}
 use Rattle.pairing.proofs.Listing.{in_perfects, has_tells}
-use Rattle.matching.specs.declared.chains.Bounds.{Bounds}
-use Rattle.pairing.specs.Rows.{holds, Pairs, pairings}
+use Rattle.matching.specs.Search.{AreLeads}
 use Rattle.matching.proofs.Closing.{joined}
-use Rattle.matching.specs.Search.{along, Led}
-
--- all right blocks below n are offered, and all are live
-pub record Wide (n : ℕ) (b : Bounds) : Type 0 where
-  pub offer : (j : ℕ) → has b.offer j ≡ (ltb j 64 && ltb j n)
-  pub live : (j : ℕ) → has b.live j ≡ (ltb j 64 && ltb j n)
-
--- then a search goes along every pair to a right block below n
-module _ (rows : List BlockSet) (b : Bounds) (few : length rows ≤ 64)
-    (wide : Wide (length rows) b) where
-  pub wide_along : (l c : ℕ) → c < length rows → holds rows l c ≡ true → along rows b l c ≡ true
-  wide_along l c i x =
-      let in_both : (ltb c 64 && ltb c (length rows)) ≡ true =
-      and_from _ _ (lt-ltb c 64 (omega arith)) (lt-ltb c (length rows) i) in
-      and_from (holds rows l c) _ x (elim (cases_Bool (has b.roots l)) [
-        | inl t ↦ cond-true _ _ _ t ∙ wide.offer c ∙ in_both
-        | inr f ↦ cond-false _ _ _ f ∙ wide.live c ∙ in_both
-      ])
-
-pub along-holds : (rows : List BlockSet) (b : Bounds) (l c : ℕ) → along rows b l c ≡ true
-    → holds rows l c ≡ true
-along-holds rows b l c a = (and_parts (holds rows l c) _ a).0
-
--- the pair of l and r occurs exactly if r is in l's row and a chain leads from r to the right block
--- that l has
-told : (rows : List BlockSet) (p : List ℕ) (l r : ℕ) → Pairs rows p → l < length rows
-    → r < length rows → (t : Bool)
-    → Decides t (Chain (length rows) 0 (holds rows) p r (at p l))
-    → (holds rows l r && t) ≡ has_pair l r (pairings rows)
-told rows p l r h i j t d =
-    let s = sends_if_chain (length rows) 0 (holds rows) p h l r (omega arith) i j in
-    let e = has_tells l r (pairings rows) in
-    same_from_decides (holds rows l r && t) (has_pair l r (pairings rows)) (
-      λ x. (let a = and_parts (holds rows l r) t x in let q = s.0 (a.0, d.0 a.1) in
-          (q.0, (in_perfects (length rows) (holds rows) q.0).1 q.1, q.3)),
-      λ x. (let q =
-          s.1 (
-            x.0,
-            (in_perfects (length rows) (holds rows) x.0).0 x.1,
-            (λ k z. absurd (omega arith)),
-            x.2,
-          ) in and_from _ _ q.0 (d.1 q.1)),
-    )
-    e
-
-pub pair_occurs : (rows : List BlockSet) (p : List ℕ) (led : List BlockSet) (l r : ℕ) → Pairs rows p
-    → Led (length rows) rows p led → l < length rows → r < length rows
-    → (holds rows l r && holds led r (at p l)) ≡ has_pair l r (pairings rows)
-pair_occurs rows p led l r h leads i j =
-    let o = onto (length rows) (holds rows) p h r j in
-    told rows p l r h i j (holds led r (at p l))
-    (subst (λ x. Decides (holds led x (at p l)) (Chain (length rows) 0 (holds rows) p x (at p l)))
-    o.2 (leads o.0 (at p l) o.1 (h.below l i)))
 
 -- ---- the class of a right block
 
@@ -85,16 +31,16 @@ IsClass n led class = (i j : ℕ) → i < n → j < n → class i ≡ true
     → class j ≡ (holds led i j && holds led j i)
 
 -- what is noted at a right block below n is its class, or nothing
-abbrev pub Classes : ℕ → List BlockSet → List BlockSet → Type 0
-Classes n led classes = (i : ℕ) → i < n
+abbrev pub AreClasses : ℕ → List BlockSet → List BlockSet → Type 0
+AreClasses n led classes = (i : ℕ) → i < n
     → ((a : ℕ) → holds classes i a ≡ false)
     ⊎ ((j : ℕ) → j < n → holds classes i j ≡ (holds led i j && holds led j i))
 
 -- a class is noted
 pub classes_more : (n : ℕ) (led before after : List BlockSet) (class : ℕ → Bool)
-    → IsClass n led class → Classes n led before
+    → IsClass n led class → AreClasses n led before
     → ((i j : ℕ) → holds after i j ≡ cond (class i) (class j) (holds before i j))
-    → Classes n led after
+    → AreClasses n led after
 classes_more n led before after class c old is i a = elim (cases_Bool (class i)) [
   | inl t ↦ inr (λ j b. is i j ∙ cond-true (class i) _ _ t ∙ c i j a b t)
   | inr f ↦
@@ -103,19 +49,20 @@ classes_more n led before after class c old is i a = elim (cases_Bool (class i))
       elim (old i a) [ inl e ↦ inl (λ j. stays j ∙ e j) | inr e ↦ inr (λ j b. stays j ∙ e j b) ]
 ]
 
-module _ (rows : List BlockSet) (p : List ℕ) (led : List BlockSet) (h : Pairs rows p)
-    (leads : Led (length rows) rows p led) where
-  tells : (i j : ℕ) → i < length rows → j < length rows
-      → Decides (holds led i j) (Chain (length rows) 0 (holds rows) p i j)
+module _ (rows : List BlockSet) {p : List ℕ} (h : Pairs rows p) (led : List BlockSet)
+    (leads : AreLeads rows p led) where
+  abbrev Leads : ℕ → ℕ → Type 0
+  Leads i j = Chain (length rows) 0 (holds rows) p i j
+
+  tells : (i j : ℕ) → i < length rows → j < length rows → Decides (holds led i j) (Leads i j)
   tells i j a b =
       let o = onto (length rows) (holds rows) p h i a in
-      subst (λ x. Decides (holds led x j) (Chain (length rows) 0 (holds rows) p x j)) o.2
-      (leads o.0 j o.1 b)
+      subst (λ x. Decides (holds led x j) (Leads x j)) o.2 (leads o.0 j o.1 b)
 
   lead_on : (i m j : ℕ) → i < length rows → m < length rows → j < length rows
       → holds led i m ≡ true → holds led m j ≡ true → holds led i j ≡ true
-  lead_on i m j a b c t u = (tells i j a c).1
-      (joined (length rows) 0 (holds rows) p i m j ((tells i m a b).0 t) ((tells m j b c).0 u))
+  lead_on i m j a b c t u =
+      (tells i j a c).1 (joined ((tells i m a b).0 t) ((tells m j b c).0 u))
 
   -- that of one right block is a class, and has it
   module _ (own : ℕ) (low : own < length rows) (class : ℕ → Bool)
@@ -138,6 +85,28 @@ module _ (rows : List BlockSet) (p : List ℕ) (led : List BlockSet) (h : Pairs 
     pub in_class : class own ≡ true
     in_class = let t = (tells own own low low).1 here in is own ∙ and_from _ _ t t
 
+  -- the pair of l and r occurs exactly if r is in l's row and a chain leads from r to the right
+  -- block that l has
+  pair_occurs : (l r : ℕ) → l < length rows → r < length rows
+      → (holds rows l r && holds led r (at p l)) ≡ has_pair l r (pairings rows)
+  pair_occurs l r i j =
+      let d = tells r (at p l) j (h.below l i) in
+      let s = sends_if_chain (length rows) 0 (holds rows) p h l r (omega arith) i j in
+      same_from_decides (holds rows l r && holds led r (at p l)) (has_pair l r (pairings rows)) (
+        λ x.
+            let a = and_parts (holds rows l r) (holds led r (at p l)) x in
+            let q = s.0 (a.0, d.0 a.1) in
+            (q.0, (in_perfects (length rows) (holds rows) q.0).1 q.1, q.3),
+        λ x.
+            let q =
+            s.1 (
+              x.0,
+              (in_perfects (length rows) (holds rows) x.0).0 x.1,
+              (λ k z. absurd (omega arith)),
+              x.2,
+            ) in and_from _ _ q.0 (d.1 q.1),
+      ) (has_tells l r (pairings rows))
+
   -- what a left block has in turn is what its row has of the class of its right block
   pub class_occurs : (l r : ℕ) → l < length rows → r < length rows → (class : ℕ → Bool)
       → ((j : ℕ) → j < length rows → class j ≡ (holds led (at p l) j && holds led j (at p l)))
@@ -146,7 +115,7 @@ module _ (rows : List BlockSet) (p : List ℕ) (led : List BlockSet) (h : Pairs 
       within (holds rows l r) (class r) (holds led (at p l) r) (holds led r (at p l))
       (c r j)
       (λ u. (leads l r i j).1 (step l r (omega arith) i here u))
-      ∙ pair_occurs rows p led l r h leads i j
+      ∙ pair_occurs l r i j
     where
       within : (t d x y : Bool) → d ≡ (x && y) → (t ≡ true → x ≡ true) → (t && d) ≡ (t && y)
       within true d x y e f = e ∙ ap (λ b. b && y) (f refl)

@@ -1,11 +1,12 @@
 pub mod Inserting
 pub mod Searching
 pub mod Exchanging
-pub mod Trying
+pub mod Alone
 pub mod Held
+pub mod Trying
 pub mod Order
-pub mod Places
-pub mod Leading
-pub mod Closing
-pub mod Most
 pub mod Nth
+pub mod Places
+pub mod Closing
+pub mod Leading
+pub mod Most

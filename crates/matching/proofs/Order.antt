@@ -15,19 +15,19 @@ use Rattle.pairing.specs.Optima.{Before}
 use Rattle.pairing.specs.Chains.{Agree}
 use Rattle.pairing.specs.Rows.{holds, Pairs}
 use Rattle.pairing.proofs.Counting.{onto}
-use Rattle.matching.specs.Improving.{Improved, Unimproved, IsFirstFrom, WantedFrom}
+use Rattle.matching.specs.Improving.{IsImproved, IsUnimproved, IsFirstFrom, HasWantedFrom}
 
 -- `after` is the pairing that comes next after `before`
-pub record Next (rows : List BlockSet) (before after : List ℕ) : Type 0 where
+pub record IsNext (rows : List BlockSet) (before after : List ℕ) : Type 0 where
   pub pairs : Pairs rows after
   pub later : Before before after
   pub first : (q : List ℕ) → Pairs rows q → Before before q → (q ≡ after) ⊎ Before after q
 
 -- p is less than q at the first left block where they differ, one below l
-abbrev pub Less : ℕ → List ℕ → List ℕ → Type 0
-Less l p q = (k : ℕ) × (k < l) × Agree k p q × (at p k < at q k)
+abbrev pub IsLess : ℕ → List ℕ → List ℕ → Type 0
+IsLess l p q = (k : ℕ) × (k < l) × Agree k p q × (at p k < at q k)
 
-pub less_before : (n : ℕ) (p q : List ℕ) → length p ≡ n → length q ≡ n → Less n p q → Before p q
+less_before : (n : ℕ) (p q : List ℕ) → length p ≡ n → length q ≡ n → IsLess n p q → Before p q
 less_before zero p q e f w = absurd (omega (arith, w.1))
 less_before (suc n) [] q e f w = absurd (omega arith)
 less_before (suc n) (x ∷ p) [] e f w = absurd (omega arith)
@@ -39,7 +39,7 @@ less_before (suc n) (x ∷ p) (y ∷ q) e f (suc k, b, a, h) =
           (k, omega arith, λ i j. a (suc i) (omega arith), h),
     )
 
-pub before_less : (n : ℕ) (p q : List ℕ) → length p ≡ n → length q ≡ n → Before p q → Less n p q
+before_less : (n : ℕ) (p q : List ℕ) → length p ≡ n → length q ≡ n → Before p q → IsLess n p q
 before_less n [] [] e f w = absurd w
 before_less n [] (y ∷ q) e f w = absurd (omega arith)
 before_less n (x ∷ p) [] e f w = absurd w
@@ -53,72 +53,72 @@ before_less (suc n) (x ∷ p) (y ∷ q) e f (inr h) =
     agree_cons k a zero j = sym h.0
     agree_cons k a (suc i) j = a i (omega arith)
 
-pub agree_same : (n : ℕ) (p q : List ℕ) → length p ≡ n → length q ≡ n → Agree n p q → q ≡ p
-agree_same n p q e f a = ext_get_or 0 q p (f ∙ sym e) (λ i h. a i (omega arith))
-
-pub agree_more : (l : ℕ) (p q : List ℕ) → Agree l p q → at q l ≡ at p l → Agree (l + 1) p q
+agree_more : (l : ℕ) (p q : List ℕ) → Agree l p q → at q l ≡ at p l → Agree (l + 1) p q
 agree_more l p q a e i h = elim (cases_eq i l) [ inl s ↦ rw s e | inr ne ↦ a i (omega arith) ]
 
 -- no pairing that agrees with p below l comes after it
-abbrev pub Exhausted : (rows : List BlockSet) (l : ℕ) (p : List ℕ) → Type 0
-Exhausted rows l p = (q : List ℕ) → Pairs rows q → Agree l p q → Before p q → ⊥
+abbrev pub IsExhausted : (rows : List BlockSet) (l : ℕ) (p : List ℕ) → Type 0
+IsExhausted rows l p = (q : List ℕ) → Pairs rows q → Agree l p q → Before p q → ⊥
 
-module _ (rows : List BlockSet) where
-  -- of the pairings that agree with start below low, each agrees with p below l or comes later
-  abbrev pub Settling : (low l : ℕ) (start p : List ℕ) → Type 0
-  Settling low l start p = Pairs rows p × Agree low start p
-      × ((q : List ℕ) → Pairs rows q → Agree low start q → Agree l p q ⊎ Less l p q)
+-- of the pairings that agree with start below low, each agrees with p below l or comes later
+pub record Settling (rows : List BlockSet) (low l : ℕ) (start p : List ℕ) : Type 0 where
+  pub pairs : Pairs rows p
+  pub kept : Agree low start p
+  pub first : (q : List ℕ) → Pairs rows q → Agree low start q → Agree l p q ⊎ IsLess l p q
 
-  module _ (low l : ℕ) (start p p' : List ℕ) (s : Settling low l start p) (le : low ≤ l)
-      (inside : l < length rows) where
-    pub settle_more : Improved rows l 0 p p' → Settling low (l + 1) start p'
-    settle_more w = (
-      w.pairs,
-      λ i h. w.kept i (omega arith) ∙ s.1 i h,
-      λ q g a.
-          elim (s.2 q g a) [
-            | inr v ↦
-                inr (
-                  v.0,
-                  omega (arith, v.1),
-                  λ i h. v.2 i h ∙ sym (w.kept i (omega (arith, v.1))),
-                  omega (arith, v.3, w.kept v.0 v.1),
-                )
-            | inl b ↦
-                let c : Agree l p' q = λ i h. b i h ∙ sym (w.kept i h) in
-                let no_more = w.least q g b (omega arith) in
-                elim (cases_eq (at q l) (at p' l)) [
-                  | inl e ↦ inl (agree_more l p' q c e)
-                  | inr ne ↦
-                      inr (l, omega arith, c, omega arith)
-                ]
-          ],
-    )
+module _ {rows : List BlockSet} {low l : ℕ} {start p : List ℕ} (s : Settling rows low l start p)
+  where
+    pub settle_more : {p' : List ℕ} → low ≤ l → l < length rows → IsImproved rows l 0 p p'
+        → Settling rows low (l + 1) start p'
+    settle_more {p' = p'} le inside w = record {
+      pairs = w.pairs;
+      kept = λ i h. w.kept i (omega arith) ∙ s.kept i h;
+      first = λ q g a. elim (s.first q g a) [
+        | inr v ↦ inr (
+          v.0,
+          omega (arith, v.1),
+          λ i h. v.2 i h ∙ sym (w.kept i (omega (arith, v.1))),
+          omega (arith, v.3, w.kept v.0 v.1),
+        )
+        | inl b ↦
+            let c : Agree l p' q = λ i h. b i h ∙ sym (w.kept i h) in
+            let no_more = w.least q g b (omega arith) in
+            elim (cases_eq (at q l) (at p' l)) [
+              | inl e ↦ inl (agree_more l p' q c e)
+              | inr ne ↦ inr (l, omega arith, c, omega arith)
+            ]
+      ];
+    }
 
-    pub settle_never : Unimproved rows l 0 p p' → ⊥
-    settle_never w = omega (arith, w.none p s.0 (λ i h. refl))
+    pub settle_never : {p' : List ℕ} → IsUnimproved rows l 0 p p' → ⊥
+    settle_never w = omega (arith, w.none p s.pairs (λ i h. refl))
 
-  pub settled : (low : ℕ) (start p : List ℕ) → Settling low (length rows) start p
-      → IsFirstFrom rows low start p
-  settled low start p s = record {
-    pairs = s.0;
-    kept = s.1;
-    first = λ q g a. elim (s.2 q g a) [
-      | inl b ↦ inl (agree_same (length rows) p q s.0.len g.len b)
-      | inr v ↦ inr (less_before (length rows) p q s.0.len g.len v)
-    ];
-  }
+    pub settled : l ≡ length rows → IsFirstFrom rows low start p
+    settled e = record {
+      pairs = s.pairs;
+      kept = s.kept;
+      first = λ q g a. elim (s.first q g a) [
+        | inl b ↦ inl (ext_get_or 0 q p (g.len ∙ sym s.pairs.len)
+            (λ i h. b i (omega (arith, g.len))))
+        | inr v ↦
+            inr (less_before (length rows) p q s.pairs.len g.len
+            (v.0, omega (arith, v.1), v.2, v.3))
+      ];
+    }
 
-  pub exhausted_start : (p : List ℕ) → Pairs rows p → Exhausted rows (length rows) p
-  exhausted_start p h q g a b = let w = before_less (length rows) p q h.len g.len b in
-      omega (arith, w.3, a w.0 w.1)
+module _ (rows : List BlockSet) (p : List ℕ) (h : Pairs rows p) where
+  less : (q : List ℕ) → Pairs rows q → Before p q → IsLess (length rows) p q
+  less q g b = before_less (length rows) p q h.len g.len b
 
-  module _ (l : ℕ) (p : List ℕ) (h : Pairs rows p) (inside : l < length rows)
-      (e : Exhausted rows (l + 1) p) where
-    pub exhausted_more : (p' : List ℕ) → Unimproved rows l (at p l + 1) p p' → Exhausted rows l p
-    exhausted_more p' w q g a b =
+  pub exhausted_start : IsExhausted rows (length rows) p
+  exhausted_start q g a b = let w = less q g b in omega (arith, w.3, a w.0 w.1)
+
+  module _ (l : ℕ) (inside : l < length rows) where
+    pub exhausted_more : {p' : List ℕ} → IsExhausted rows (l + 1) p
+        → IsUnimproved rows l (at p l + 1) p p' → IsExhausted rows l p
+    exhausted_more e w q g a b =
         let top = w.none q g a in
-        let v = before_less (length rows) p q h.len g.len b in
+        let v = less q g b in
         elim (cases_eq (at q l) (at p l)) [
           | inl s ↦ e q g (agree_more l p q a s) b
           | inr ne ↦ elim (cases_order v.0 l) [
@@ -127,70 +127,69 @@ module _ (rows : List BlockSet) where
           ]
         ]
 
-    pub next_is : (p₁ p₂ : List ℕ) → Improved rows l (at p l + 1) p p₁
-        → IsFirstFrom rows (l + 1) p₁ p₂
-        → Next rows p p₂
-    next_is p₁ p₂ w s =
-        let same : Agree l p p₂ = λ i j. s.kept i (omega arith) ∙ w.kept i j in
-        let top : at p₂ l ≡ at p₁ l = s.kept l (omega arith) in
-        let n = length rows in
-        record {
-          pairs = s.pairs;
-          later = less_before n p p₂ h.len s.pairs.len (l, inside, same, omega (arith, w.above));
-          first = λ q g b.
-              let v = before_less n p q h.len g.len b in
-              elim (cases_order v.0 l) [
-                | inl z ↦
-                    let a : Agree l p q = λ i j. v.2 i (omega arith) in
-                    let up : at p l < at q l = omega (arith, v.3, ap (at p) z, ap (at q) z) in
-                    let most = w.least q g a (omega arith) in
-                    elim (cases_eq (at q l) (at p₁ l)) [
-                      | inl s₁ ↦
-                          s.first q g (agree_more l p₁ q (λ i j. a i j ∙ sym (w.kept i j)) s₁)
-                      | inr ne ↦
-                          inr (less_before n p₂ q s.pairs.len g.len
-                          (l, inside, λ i j. a i j ∙ sym (same i j), omega arith))
-                    ]
-                | inr o ↦ elim o [
-                  | inl lt ↦
-                      inr (less_before n p₂ q s.pairs.len g.len (
-                        v.0,
-                        v.1,
-                        λ i j. v.2 i j ∙ sym (same i (omega arith)),
-                        omega (arith, v.3, same v.0 lt),
-                      ))
-                  | inr gt ↦ absurd (e q g (λ i j. v.2 i (omega arith)) b)
+    pub next_is : {p₁ p₂ : List ℕ} → IsExhausted rows (l + 1) p
+        → IsImproved rows l (at p l + 1) p p₁
+        → IsFirstFrom rows (l + 1) p₁ p₂ → IsNext rows p p₂
+    next_is {p₁ = p₁} {p₂ = p₂} e w s = record {
+      pairs = s.pairs;
+      later = less_before (length rows) p p₂ h.len s.pairs.len
+          (l, inside, same, omega (arith, w.above, top));
+      first = λ q g b.
+          let v = less q g b in
+          elim (cases_order v.0 l) [
+            | inl z ↦
+                let a : Agree l p q = λ i j. v.2 i (omega arith) in
+                let up : at p l < at q l = omega (arith, v.3, ap (at p) z, ap (at q) z) in
+                let most = w.least q g a (omega arith) in
+                elim (cases_eq (at q l) (at p₁ l)) [
+                  | inl s₁ ↦ s.first q g (agree_more l p₁ q (λ i j. a i j ∙ sym (w.kept i j)) s₁)
+                  | inr ne ↦ inr (less_before (length rows) p₂ q s.pairs.len g.len
+                      (l, inside, λ i j. a i j ∙ sym (same i j), omega (arith, top)))
                 ]
-              ];
-        }
+            | inr o ↦ elim o [
+              | inl lt ↦ inr (less_before (length rows) p₂ q s.pairs.len g.len (
+                v.0,
+                v.1,
+                λ i j. v.2 i j ∙ sym (same i (omega arith)),
+                omega (arith, v.3, same v.0 lt),
+              ))
+              | inr gt ↦ absurd (e q g (λ i j. v.2 i (omega arith)) b)
+            ]
+          ];
+    }
+      where
+        same : Agree l p p₂
+        same i j = s.kept i (omega arith) ∙ w.kept i j
 
--- Where no later left block may have the right block of left block l, every pairing that agrees
--- with p before l gives it to l, since no other left block can have it; so l cannot have a greater
--- one.
-pub unwanted : (rows : List BlockSet) (p : List ℕ) (l : ℕ) (wanted : ℕ → Bool) → Pairs rows p
-    → l < length rows → WantedFrom (l + 1) rows wanted → wanted (at p l) ≡ false
-    → Unimproved rows l (at p l + 1) p p
-unwanted rows p l wanted h i w free =
-    record { same = refl; none = λ q g a. omega (arith, keeps q g a) }
-  where
-    keeps : (q : List ℕ) → Pairs rows q → Agree l p q → at q l ≡ at p l
-    keeps q g a =
-        let o = onto (length rows) (holds rows) q g (at p l) (h.below l i) in
-        elim (cases_order o.0 l) [
-          | inl same ↦ ap (at q) (sym same) ∙ o.2
-          | inr other ↦ elim other [
-            | inl less ↦
-                (let e = h.once o.0 l o.1 i (sym (a o.0 less) ∙ o.2) in absurd (omega arith))
-            | inr more ↦
-                (let held = ap (holds rows o.0) (sym o.2) ∙ g.standing o.0 o.1 in
-                absurd (both_ways (wanted (at p l)) free (w o.0 (at p l) (omega arith) o.1 held)))
-          ]
-        ]
+        top : at p₂ l ≡ at p₁ l
+        top = s.kept l (omega arith)
+
+    -- Where no later left block may have the right block of left block l, every pairing that agrees
+    -- with p before l gives it to l, since no other left block can have it; so l cannot have a
+    -- greater one.
+    pub unwanted : (wanted : ℕ → Bool) → HasWantedFrom (l + 1) rows wanted
+        → wanted (at p l) ≡ false → IsUnimproved rows l (at p l + 1) p p
+    unwanted wanted w free =
+        record { same = refl; none = λ q g a. omega (arith, keeps q g a) }
+      where
+        keeps : (q : List ℕ) → Pairs rows q → Agree l p q → at q l ≡ at p l
+        keeps q g a =
+            let o = onto (length rows) (holds rows) q g (at p l) (h.below l inside) in
+            elim (cases_order o.0 l) [
+              | inl same ↦ ap (at q) (sym same) ∙ o.2
+              | inr other ↦ elim other [
+                | inl earlier ↦ (let e = h.once o.0 l o.1 inside (sym (a o.0 earlier) ∙ o.2) in
+                    absurd (omega arith))
+                | inr more ↦ (let held = ap (holds rows o.0) (sym o.2) ∙ g.standing o.0 o.1 in
+                    absurd (both_ways (wanted (at p l)) free
+                    (w o.0 (at p l) (omega arith) o.1 held)))
+              ]
+            ]
 
 -- what one left block more may be paired with is wanted too
 pub wanted_more : (rows : List BlockSet) (l : ℕ) (wanted new : ℕ → Bool)
-    → WantedFrom (l + 1) rows wanted → ((c : ℕ) → new c ≡ (wanted c || holds rows l c))
-    → WantedFrom l rows new
+    → HasWantedFrom (l + 1) rows wanted → ((c : ℕ) → new c ≡ (wanted c || holds rows l c))
+    → HasWantedFrom l rows new
 wanted_more rows l wanted new w is m c i j h = elim (cases_eq m l) [
   | inl same ↦ is c ∙ or_right (wanted c) (holds rows l c) (ap (λ k. holds rows k c) (sym same) ∙ h)
   | inr other ↦ is c ∙ ap (λ b. b || holds rows l c) (w m c (omega arith) j h)

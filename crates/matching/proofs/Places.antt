@@ -2,97 +2,79 @@
 -- Idea: the list holds just the pairings and ascends, so what comes later in order stands later.
 -- The first pairing has none before it, so it stands at place 0; between the places of a pairing
 -- and of the next one nothing can stand; and behind the last one nothing stands.
-use Rattle.std.proofs.Common.{◌≡◌, ℕ, ◌+◌, ◌<◌, ◌⊎◌, List, [], length, get_or, Contains, sym, ◌∙◌}
+use Rattle.std.proofs.Common.{◌≡◌, ℕ, ◌+◌, ◌<◌, ◌⊎◌, List, [], length, get_or, sym, refl, ◌∙◌}
 use Rattle.std.proofs.Common.{subst, inl, inr, arith}
-use Rattle.std.specs.List.{AllPairs}
 use Rattle.std.proofs.lemmas.List.{get_or_default}
-use Rattle.std.proofs.lemmas.List.Elements.{Contains-get_or}
 use Rattle.std.proofs.lemmas.Bool.{cases_lt, cases_order}
 use Rattle.blockset.specs.declared.BlockSet.{BlockSet}
 use Rattle.pairing.specs.Optima.{Before}
-use Rattle.pairing.proofs.Listing.{in_perfects, perfects_ascend, before_irrefl, before_asym}
 use Rattle.pairing.specs.Rows.{holds, Pairs, pairings}
+use Rattle.pairing.proofs.Listing.{in_perfects, perfects_ascend, before_irrefl, before_asym}
 use Rattle.matching.specs.Answers.{IsNth}
-use Rattle.matching.proofs.Order.{Next}
-
-in_at : (xs : List (List ℕ)) (q : List ℕ) → Contains xs q → (j : ℕ) × (j < length xs)
-    × (get_or xs j [] ≡ q)
-in_at xs q h = (h.0, h.1, get_or_default xs h.0 [] q h.1 ∙ h.2)
-
--- what stands before in order stands before in place
-order_at : (xs : List (List ℕ)) (i j : ℕ) → AllPairs Before xs → i < length xs → j < length xs
-    → Before (get_or xs i []) (get_or xs j []) → i < j
-order_at xs i j a h k b = elim (cases_order i j) [
-  | inl e ↦
-      absurd (before_irrefl (get_or xs i []) (subst (λ m. Before (get_or xs i []) (get_or xs m []))
-      (sym e) b))
-  | inr o ↦
-      elim o [
-        | inl lt ↦ lt
-        | inr gt ↦
-            absurd (before_asym (get_or xs i []) (get_or xs j []) b
-            (a j i [] gt h))
-      ]
-]
+use Rattle.matching.proofs.Nth.{contains_nth}
+use Rattle.matching.proofs.Order.{IsNext}
 
 module _ (rows : List BlockSet) where
-  listed : (p : List ℕ) → Pairs rows p → Contains (pairings rows) p
-  listed p h = (in_perfects (length rows) (holds rows) p).1 h
+  abbrev there : ℕ → List ℕ
+  there i = get_or (pairings rows) i []
 
-  pairs-at : (i : ℕ) → i < length (pairings rows) → Pairs rows (get_or (pairings rows) i [])
-  pairs-at i h = (in_perfects (length rows) (holds rows) (get_or (pairings rows) i [])).0
-      (Contains-get_or (pairings rows) i [] h)
+  pairs_at : (i : ℕ) → i < length (pairings rows) → Pairs rows (there i)
+  pairs_at i h =
+      (in_perfects (length rows) (holds rows) (there i)).0
+      (contains_nth (pairings rows) i _ (h, refl))
 
-  ascend : AllPairs Before (pairings rows)
-  ascend = perfects_ascend (length rows) (holds rows)
+  later_at : (i j : ℕ) → i < j → j < length (pairings rows) → Before (there i) (there j)
+  later_at i j lt h = perfects_ascend (length rows) (holds rows) i j [] lt h
+
+  -- what stands before in order stands before in place
+  order_at : {i j : ℕ} {p q : List ℕ} → IsNth (pairings rows) i p → IsNth (pairings rows) j q
+      → Before p q → i < j
+  order_at {i = i} {j = j} h k b =
+      let before : Before (there i) (there j) =
+      subst (λ x. Before x (there j)) (sym h.1) (subst (Before _) (sym k.1) b) in
+      elim (cases_order i j) [
+        | inl e ↦
+            absurd (before_irrefl (there i)
+            (subst (λ m. Before (there i) (there m)) (sym e) before))
+        | inr o ↦ elim o [
+          | inl lt ↦ lt
+          | inr gt ↦ absurd (before_asym (there i) (there j) before (later_at j i gt h.0))
+        ]
+      ]
 
   -- a pairing stands somewhere
   pub placed : (p : List ℕ) → Pairs rows p → (i : ℕ) × IsNth (pairings rows) i p
-  placed p h = let w = in_at (pairings rows) p (listed p h) in (w.0, (w.1, w.2))
+  placed p h =
+      let w = (in_perfects (length rows) (holds rows) p).1 h in
+      (w.0, (w.1, get_or_default (pairings rows) w.0 [] p w.1 ∙ w.2))
 
   pub first_place : (p : List ℕ) → Pairs rows p
       → ((q : List ℕ) → Pairs rows q → (q ≡ p) ⊎ Before p q) → IsNth (pairings rows) 0 p
   first_place p h first =
-      let xs = pairings rows in
-      let w = in_at xs p (listed p h) in
-      let some : 0 < length xs = omega (arith, w.1) in
-      elim (first (get_or xs 0 []) (pairs-at 0 some)) [
+      let w = placed p h in
+      let some : 0 < length (pairings rows) = omega (arith, w.1.0) in
+      elim (first (there 0) (pairs_at 0 some)) [
         | inl e ↦ (some, e)
-        | inr b ↦
-            absurd (omega (
-              arith,
-              order_at xs w.0 0 ascend w.1 some
-                  (subst (λ x. Before x (get_or xs 0 [])) (sym w.2) b),
-            ))
+        | inr b ↦ absurd (omega (arith, order_at w.1 (some, refl) b))
       ]
 
   module _ (i : ℕ) (p : List ℕ) (at_i : IsNth (pairings rows) i p) where
-    pub next_place : (p' : List ℕ) → Next rows p p' → IsNth (pairings rows) (i + 1) p'
+    after_it : i + 1 < length (pairings rows) → Before p (there (i + 1))
+    after_it some = subst (λ x. Before x (there (i + 1))) at_i.1
+        (later_at i (i + 1) (omega arith) some)
+
+    pub next_place : (p' : List ℕ) → IsNext rows p p' → IsNth (pairings rows) (i + 1) p'
     next_place p' f =
-        let xs = pairings rows in
-        let w = in_at xs p' (listed p' f.pairs) in
-        let up = order_at xs i w.0 ascend at_i.0 w.1
-        (subst (λ x. Before x (get_or xs w.0 [])) (sym at_i.1)
-        (subst (Before p) (sym w.2) f.later)) in
-        let some : i + 1 < length xs = omega (arith, w.1) in
-        let b : Before p (get_or xs (i + 1) []) = subst (λ x. Before x (get_or xs (i + 1) []))
-        at_i.1 (ascend i (i + 1) [] (omega arith) some) in
-        elim (f.first (get_or xs (i + 1) []) (pairs-at (i + 1) some) b) [
+        let w = placed p' f.pairs in
+        let up = order_at at_i w.1 f.later in
+        let some : i + 1 < length (pairings rows) = omega (arith, w.1.0) in
+        elim (f.first (there (i + 1)) (pairs_at (i + 1) some) (after_it some)) [
           | inl e ↦ (some, e)
-          | inr c ↦
-              absurd (omega (
-                arith,
-                order_at xs w.0 (i + 1) ascend w.1 some
-                    (subst (λ x. Before x (get_or xs (i + 1) [])) (sym w.2) c),
-              ))
+          | inr c ↦ absurd (omega (arith, order_at w.1 (some, refl) c))
         ]
 
     pub last_place : ((q : List ℕ) → Pairs rows q → Before p q → ⊥) → i + 1 ≡ length (pairings rows)
-    last_place none =
-        let xs = pairings rows in
-        elim (cases_lt (i + 1) (length xs)) [
-          | inl some ↦ absurd (none (get_or xs (i + 1) []) (pairs-at (i + 1) some)
-              (subst (λ x. Before x (get_or xs (i + 1) [])) at_i.1
-              (ascend i (i + 1) [] (omega arith) some)))
-          | inr h ↦ omega (arith, at_i.0)
-        ]
+    last_place none = elim (cases_lt (i + 1) (length (pairings rows))) [
+      | inl some ↦ absurd (none (there (i + 1)) (pairs_at (i + 1) some) (after_it some))
+      | inr h ↦ omega (arith, at_i.0)
+    ]

@@ -3,217 +3,231 @@
 -- a left block that has a reached right block leads to a reached one already, unless that left
 -- block is pending; so when none is pending the search is complete. A right block that is reached
 -- gets the number of those before it as its rank, which is above the ranks of all of them.
-use Rattle.std.proofs.Common.{◌≡◌, ℕ, suc, ◌<◌, ◌≤◌, Bool, true, false, not, ◌&&◌, ◌||◌, eqb, ◌⊎◌}
-use Rattle.std.proofs.Common.{List, length, set, sym, ap, ◌∙◌, subst, inl, inr, arith}
+use Rattle.std.proofs.Common.{◌≡◌, ℕ, suc, ◌<◌, ◌≤◌, true, false, not, ◌&&◌, ◌||◌, eqb, ltb}
+use Rattle.std.proofs.Common.{◌⊎◌, Option, List, length, set, sym, ap, ◌∙◌, subst, inl, inr, arith}
 use Rattle.std.proofs.lemmas.List.{get_or-set_same, get_or-set_other, length-set}
 use Rattle.std.proofs.lemmas.Bool.{cases_eq, both_ways, and_from, and_parts, not_from_false, ne_eqb}
+use Rattle.blockset.specs.declared.BlockSet.{BlockSet}
+use Rattle.blockset.specs.Has.{has, IsLeast}
 use Rattle.blockset.specs.Sets.{members}
 use Rattle.blockset.proofs.Members.{members_with, members-le, members-within}
 use Rattle.pairing.specs.Grid.{at}
-use Rattle.matching.specs.Search.{ReachedBy}
-use Rattle.matching.proofs.Inserting.{new_in, old_in, old_from}
+use Rattle.matching.specs.declared.chains.Bounds.{Bounds}
+use Rattle.matching.specs.declared.chains.Holders.{Holders}
+use Rattle.matching.specs.declared.chains.Reach.{Reach}
+use Rattle.matching.specs.Search.{along, IsReach}
+use Rattle.matching.proofs.Inserting.{inserted, new_in, old_in, old_from}
 
-module _ (n : ℕ) (along : ℕ → ℕ → Bool) (roots held goals : ℕ → Bool) (row : List ℕ) where
-  pub record Searching (pending reached : ℕ → Bool) (from rank : List ℕ) : Type 0 where
-    pub ways : ReachedBy n along roots held row reached from rank
-    pub sized_from : length from ≡ 64
-    pub sized_rank : length rank ≡ 64
-    pub inside : (l : ℕ) → pending l ≡ true → l < n
-    pub waiting : (l : ℕ) → pending l ≡ true → (roots l ≡ true)
-        ⊎ ((d : ℕ) × (reached d ≡ true) × (held d ≡ true) × (at row d ≡ l))
-    pub rooted : (l c : ℕ) → roots l ≡ true → along l c ≡ true → (reached c ≡ true)
-        ⊎ (pending l ≡ true)
-    pub onward : (d c : ℕ) → reached d ≡ true → held d ≡ true → along (at row d) c ≡ true
-        → (reached c ≡ true) ⊎ (pending (at row d) ≡ true)
-    pub no_goal : (c : ℕ) → reached c ≡ true → goals c ≡ false
+-- where the search stands: what it has reached, and the left blocks that are still to be looked at
+pub record Searching (rows : List BlockSet) (b : Bounds) (h : Holders) (x : Reach)
+    (pending : BlockSet) : Type 0 where
+  pub ways : IsReach rows b h x
+  pub sized_from : length x.from ≡ 64
+  pub sized_rank : length x.rank ≡ 64
+  pub inside : (l : ℕ) → has pending l ≡ true → l < length rows
+  pub waiting : (l : ℕ) → has pending l ≡ true → (has b.roots l ≡ true)
+      ⊎ ((d : ℕ) × (has x.reached d ≡ true) × (has h.held d ≡ true) × (at h.row d ≡ l))
+  pub rooted : (l c : ℕ) → has b.roots l ≡ true → along rows b l c ≡ true
+      → (has x.reached c ≡ true) ⊎ (has pending l ≡ true)
+  pub onward : (d c : ℕ) → has x.reached d ≡ true → has h.held d ≡ true
+      → along rows b (at h.row d) c ≡ true
+      → (has x.reached c ≡ true) ⊎ (has pending (at h.row d) ≡ true)
+  pub no_goal : (c : ℕ) → has x.reached c ≡ true → has b.goals c ≡ false
 
-  module _ (pending reached : ℕ → Bool) (from rank : List ℕ)
-      (s : Searching pending reached from rank) where
-    -- left block l leads to nothing new
-    pub search_retired : (l : ℕ) (pending' : ℕ → Bool)
-        → ((c : ℕ) → along l c ≡ true → reached c ≡ true)
-        → ((j : ℕ) → pending' j ≡ (pending j && not (eqb j l)))
-        → Searching pending' reached from rank
-    search_retired l pending' closed is =
-        let was : (j : ℕ) → pending' j ≡ true → pending j ≡ true =
-        λ j t. (and_parts (pending j) (not (eqb j l)) (sym (is j) ∙ t)).0 in
-        let stays : (j : ℕ) → pending j ≡ true → (j ≡ l → ⊥) → pending' j ≡ true = λ j t ne. is j
-        ∙ and_from (pending j) (not (eqb j l)) t (not_from_false _ (ne_eqb j l ne)) in
-        record {
-          ways = s.ways;
-          sized_from = s.sized_from;
-          sized_rank = s.sized_rank;
-          inside = λ j t. s.inside j (was j t);
-          waiting = λ j t. s.waiting j (was j t);
-          rooted = λ j c t a. elim (cases_eq j l) [
-            | inl e ↦ inl (closed c (subst (λ x. along x c ≡ true) e a))
-            | inr ne ↦ elim (s.rooted j c t a) [ inl e ↦ inl e | inr e ↦ inr (stays j e ne) ]
-          ];
-          onward = λ d c t h a. elim (cases_eq (at row d) l) [
-            | inl e ↦ inl (closed c (subst (λ x. along x c ≡ true) e a))
-            | inr ne ↦
-                elim (s.onward d c t h a) [ inl e ↦ inl e | inr e ↦ inr (stays (at row d) e ne) ]
-          ];
-          no_goal = s.no_goal;
-        }
+-- the left block l that is looked at leads to the right block c, which is reached next
+pub record Reaching (rows : List BlockSet) (b : Bounds) (x : Reach) (pending : BlockSet) (l c : ℕ)
+    (reached : BlockSet) : Type 0 where
+  pub few : length rows ≤ 64
+  pub waits : has pending l ≡ true
+  pub inside : c < length rows
+  pub leads : along rows b l c ≡ true
+  pub new : has x.reached c ≡ false
+  pub is : (j : ℕ) → has reached j ≡ (eqb j c || has x.reached j)
 
-    module _ (l c : ℕ) (p : pending l ≡ true) (few : n ≤ 64) (low : c < n) (a : along l c ≡ true)
-        (out : reached c ≡ false) (reached' : ℕ → Bool)
-        (is : (j : ℕ) → reached' j ≡ (eqb j c || reached j)) where
-      more : (j : ℕ) → reached j ≡ true → reached' j ≡ true
-      more = old_in reached reached' c is
+pub reaching : {rows : List BlockSet} {b : Bounds} {x : Reach} {pending : BlockSet} {l c : ℕ}
+    {reached : BlockSet} → length rows ≤ 64
+    → ((m d : ℕ) → along rows b m d ≡ true → d < length rows) → IsLeast pending l
+    → (c < 64) × (along rows b l c ≡ true) × (has x.reached c ≡ false)
+    → ((j : ℕ) → has reached j ≡ ((ltb j 64 && eqb j c) || has x.reached j))
+    → Reaching rows b x pending l c reached
+reaching {x = x} {l = l} {c = c} {reached = reached} few inside least found put = record {
+  few = few;
+  waits = least.1;
+  inside = inside l c found.1;
+  leads = found.1;
+  new = found.2;
+  is = inserted (has x.reached) (has reached) c found.0 put;
+}
 
-      old : (j : ℕ) → reached' j ≡ true → (j ≡ c → ⊥) → reached j ≡ true
-      old = old_from reached reached' c is
+-- what is reached then
+abbrev pub reached_next : Reach → (l c : ℕ) → BlockSet → Reach
+reached_next x l c reached = record {
+  reached = reached;
+  from = set x.from c l;
+  rank = set x.rank c (members 64 (has x.reached));
+  goal = x.goal;
+}
 
-      apart : (j : ℕ) → reached j ≡ true → j ≡ c → ⊥
-      apart j t e = both_ways (reached j) (ap reached e ∙ out) t
+module _ {rows : List BlockSet} {b : Bounds} {h : Holders} {x : Reach} {pending : BlockSet}
+    (s : Searching rows b h x pending) where
+  -- left block l leads to nothing new
+  pub search_retired : (l : ℕ) (pending' : BlockSet)
+      → ((c : ℕ) → along rows b l c ≡ true → has x.reached c ≡ true)
+      → ((j : ℕ) → has pending' j ≡ (has pending j && not (eqb j l)))
+      → Searching rows b h x pending'
+  search_retired l pending' closed is = record {
+    ways = s.ways;
+    sized_from = s.sized_from;
+    sized_rank = s.sized_rank;
+    inside = λ j t. s.inside j (was j t);
+    waiting = λ j t. s.waiting j (was j t);
+    rooted = λ j c t a. leads j c a (s.rooted j c t a);
+    onward = λ d c t o a. leads (at h.row d) c a (s.onward d c t o a);
+    no_goal = s.no_goal;
+  }
+    where
+      was : (j : ℕ) → has pending' j ≡ true → has pending j ≡ true
+      was j t = (and_parts (has pending j) (not (eqb j l)) (sym (is j) ∙ t)).0
 
-      pub search_grown : members 64 reached' ≡ suc (members 64 reached)
-      search_grown = members_with 64 reached reached' c (omega arith) out is
-
-      from_here : at (set from c l) c ≡ l
-      from_here = get_or-set_same from c l 0 (omega (arith, s.sized_from))
-
-      from_old : (j : ℕ) → (j ≡ c → ⊥) → at (set from c l) j ≡ at from j
-      from_old j ne = get_or-set_other from c j l 0 ne
-
-      rank_here : at (set rank c (members 64 reached)) c ≡ members 64 reached
-      rank_here = get_or-set_same rank c (members 64 reached) 0 (omega (arith, s.sized_rank))
-
-      rank_old : (j : ℕ) → (j ≡ c → ⊥) → at (set rank c (members 64 reached)) j ≡ at rank j
-      rank_old j ne = get_or-set_other rank c j (members 64 reached) 0 ne
-
-      Back : ℕ → ℕ → Type 0
-      Back m x = (roots m ≡ true)
-          ⊎ ((d : ℕ) × (reached' d ≡ true) × (held d ≡ true) × (at row d ≡ m)
-          × (at (set rank c (members 64 reached)) d < at (set rank c (members 64 reached)) x))
-
-      back_here : Back l c
-      unfolding Back
-      back_here = elim (s.waiting l p) [
-        | inl t ↦ inl t
-        | inr w ↦
-            inr (
-              w.0,
-              more w.0 w.1,
-              w.2,
-              w.3,
-              rw (rank_here, rank_old w.0 (apart w.0 w.1))
-                  (s.ways.ranked w.0 w.1),
-            )
+      leads : (j c : ℕ) → along rows b j c ≡ true
+          → (has x.reached c ≡ true) ⊎ (has pending j ≡ true)
+          → (has x.reached c ≡ true) ⊎ (has pending' j ≡ true)
+      leads j c a is_or = elim (cases_eq j l) [
+        | inl e ↦ inl (closed c (subst (λ m. along rows b m c ≡ true) e a))
+        | inr ne ↦ elim is_or [
+          | inl t ↦ inl t
+          | inr t ↦
+              inr (is j ∙ and_from (has pending j) _ t (not_from_false _ (ne_eqb j l ne)))
+        ]
       ]
 
-      back_old : (x : ℕ) → reached x ≡ true → Back (at from x) x
-      unfolding Back
-      back_old x t = elim (s.ways.back x t) [
-        | inl f ↦ inl f
-        | inr w ↦
-            inr (
-              w.0,
-              more w.0 w.1,
-              w.2,
-              w.3,
-              rw (rank_old x (apart x t), rank_old w.0 (apart w.0 w.1)) w.4,
-            )
-      ]
+  module _ {l c : ℕ} {reached : BlockSet} (r : Reaching rows b x pending l c reached) where
+    abbrev next : Reach
+    next = reached_next x l c reached
 
-      pub search_ways : ReachedBy n along roots held row reached' (set from c l)
-          (set rank c (members 64 reached))
-      unfolding Back
-      search_ways = record {
-        high = λ x t. elim (cases_eq x c) [
-          | inl e ↦ rw (e, from_here) (s.inside l p)
-          | inr ne ↦
-              rw (from_old x ne) (s.ways.high x (old x t ne))
-        ];
-        small = λ x t. elim (cases_eq x c) [
-          | inl e ↦ rw e low
-          | inr ne ↦
-              s.ways.small x (old x t ne)
-        ];
-        by = λ x t. elim (cases_eq x c) [
-          | inl e ↦ rw (e, from_here) a
-          | inr ne ↦
-              rw (from_old x ne) (s.ways.by x (old x t ne))
-        ];
-        back = λ x t. elim (cases_eq x c) [
-          | inl e ↦ rw (e, from_here) back_here
-          | inr ne ↦
-              rw (from_old x ne) (back_old x (old x t ne))
-        ];
-        ranked =
-            λ x t. elim (cases_eq x c) [
-              | inl e ↦ rw (e, rank_here) (omega (arith, search_grown))
-              | inr ne ↦
-                  rw (rank_old x ne) (omega (arith, search_grown, s.ways.ranked x (old x t ne)))
-            ];
-        once = λ x y t u e. elim (cases_eq x c) [
-          | inl a ↦ elim (cases_eq y c) [
-            | inl b ↦ a ∙ sym b
-            | inr b ↦
-                absurd (omega (
-                  arith,
-                  s.ways.ranked y (old y u b),
-                  rank_old y b,
-                  e,
-                  ap (at (set rank c (members 64 reached))) a ∙ rank_here,
-                ))
-          ]
-          | inr a ↦ elim (cases_eq y c) [
-            | inl b ↦
-                absurd (omega (
-                  arith,
-                  s.ways.ranked x (old x t a),
-                  rank_old x a,
-                  e,
-                  ap (at (set rank c (members 64 reached))) b ∙ rank_here,
-                ))
-            | inr b ↦
-                s.ways.once x y (old x t a) (old y u b) (sym (rank_old x a) ∙ e ∙ rank_old y b)
-          ]
-        ];
-      }
+    more : (j : ℕ) → has x.reached j ≡ true → has reached j ≡ true
+    more = old_in (has x.reached) (has reached) c r.is
 
-      -- no more right blocks are reached than there are
-      pub search_least : members 64 reached' ≤ n
-      search_least =
-          omega (arith, members-within 64 n reached' few search_ways.small, members-le n reached')
+    old : (j : ℕ) → has reached j ≡ true → (j ≡ c → ⊥) → has x.reached j ≡ true
+    old = old_from (has x.reached) (has reached) c r.is
 
-      -- right block c is reached, and the left block that has it, if any, is pending
-      pub search_more : (pending' : ℕ → Bool) → goals c ≡ false
-          → ((j : ℕ) → pending j ≡ true → pending' j ≡ true)
-          → (held c ≡ true → pending' (at row c) ≡ true)
-          → ((j : ℕ) → pending' j ≡ true → (pending j ≡ true)
-          ⊎ ((held c ≡ true) × (j ≡ at row c) × (j < n)))
-          → Searching pending' reached' (set from c l) (set rank c (members 64 reached))
-      search_more pending' free keeps next only = record {
-        ways = search_ways;
-        sized_from = length-set from c l ∙ s.sized_from;
-        sized_rank = length-set rank c (members 64 reached) ∙ s.sized_rank;
-        inside = λ j t. elim (only j t) [ inl e ↦ s.inside j e | inr e ↦ e.2 ];
-        waiting = λ j t. elim (only j t) [
-          | inl e ↦
-              elim (s.waiting j e) [ inl r ↦ inl r | inr w ↦ inr (w.0, more w.0 w.1, w.2, w.3) ]
-          | inr e ↦ inr (c, new_in reached reached' c is, e.0, sym e.1)
-        ];
-        rooted = λ j x t b. elim (s.rooted j x t b) [
-          | inl e ↦ inl (more x e)
-          | inr e ↦
-              inr (keeps j e)
-        ];
-        onward = λ d x t h b. elim (cases_eq d c) [
-          | inl e ↦
-              inr (subst (λ y. pending' (at row y) ≡ true) (sym e) (next (sym (ap held e) ∙ h)))
-          | inr ne ↦ elim (s.onward d x (old d t ne) h b) [
-            | inl e ↦ inl (more x e)
-            | inr e ↦
-                inr (keeps (at row d) e)
-          ]
-        ];
-        no_goal = λ x t. elim (cases_eq x c) [
-          | inl e ↦ ap goals e ∙ free
-          | inr ne ↦
-              s.no_goal x (old x t ne)
-        ];
-      }
+    apart : (j : ℕ) → has x.reached j ≡ true → j ≡ c → ⊥
+    apart j t e = both_ways (has x.reached j) (ap (has x.reached) e ∙ r.new) t
+
+    pub search_grown : members 64 (has reached) ≡ suc (members 64 (has x.reached))
+    search_grown = members_with 64 (has x.reached) (has reached) c (omega (arith, r.inside, r.few))
+        r.new r.is
+
+    from_here : at next.from c ≡ l
+    from_here = get_or-set_same x.from c l 0 (omega (arith, s.sized_from, r.inside, r.few))
+
+    from_old : (j : ℕ) → (j ≡ c → ⊥) → at next.from j ≡ at x.from j
+    from_old j ne = get_or-set_other x.from c j l 0 ne
+
+    rank_here : at next.rank c ≡ members 64 (has x.reached)
+    rank_here = get_or-set_same x.rank c (members 64 (has x.reached)) 0
+        (omega (arith, s.sized_rank, r.inside, r.few))
+
+    rank_old : (j : ℕ) → (j ≡ c → ⊥) → at next.rank j ≡ at x.rank j
+    rank_old j ne = get_or-set_other x.rank c j (members 64 (has x.reached)) 0 ne
+
+    -- one that was reached before has a lesser rank
+    rank_less : (j : ℕ) → has x.reached j ≡ true → at next.rank j < members 64 (has x.reached)
+    rank_less j t = omega (arith, rank_old j (apart j t), s.ways.ranked j t)
+
+    Back : ℕ → ℕ → Type 0
+    Back m k = (has b.roots m ≡ true)
+        ⊎ ((d : ℕ) × (has reached d ≡ true) × (has h.held d ≡ true) × (at h.row d ≡ m)
+        × (at next.rank d < k))
+
+    back_here : Back l (members 64 (has x.reached))
+    unfolding Back
+    back_here = elim (s.waiting l r.waits) [
+      | inl t ↦ inl t
+      | inr w ↦ inr (w.0, more w.0 w.1, w.2, w.3, rank_less w.0 w.1)
+    ]
+
+    back_old : (j : ℕ) → has x.reached j ≡ true → Back (at x.from j) (at x.rank j)
+    unfolding Back
+    back_old j t = elim (s.ways.back j t) [
+      | inl f ↦ inl f
+      | inr w ↦
+          inr (w.0, more w.0 w.1, w.2, w.3, rw (rank_old w.0 (apart w.0 w.1)) w.4)
+    ]
+
+    -- what holds of the new right block and its left block, and of the old ones, holds of all
+    pub search_ways : (goal : Option ℕ) → IsReach rows b h (record next { goal = goal })
+    unfolding Back
+    search_ways goal = record {
+      high = λ j t. elim (cases_eq j c) [
+        | inl e ↦ rw (e, from_here) (s.inside l r.waits)
+        | inr ne ↦ rw (from_old j ne) (s.ways.high j (old j t ne))
+      ];
+      small = λ j t. elim (cases_eq j c) [
+        | inl e ↦ rw e r.inside
+        | inr ne ↦ s.ways.small j (old j t ne)
+      ];
+      by = λ j t. elim (cases_eq j c) [
+        | inl e ↦ rw (e, from_here) r.leads
+        | inr ne ↦ rw (from_old j ne) (s.ways.by j (old j t ne))
+      ];
+      back = λ j t. elim (cases_eq j c) [
+        | inl e ↦ rw (e, from_here, rank_here) back_here
+        | inr ne ↦ rw (from_old j ne, rank_old j ne) (back_old j (old j t ne))
+      ];
+      ranked = λ j t. elim (cases_eq j c) [
+        | inl e ↦ rw (e, rank_here) (omega (arith, search_grown))
+        | inr ne ↦ omega (arith, search_grown, rank_less j (old j t ne))
+      ];
+      once = λ j k t u e. elim (cases_eq j c) [
+        | inl a ↦ elim (cases_eq k c) [
+          | inl d ↦ a ∙ sym d
+          | inr d ↦ absurd (omega
+              (arith, rank_less k (old k u d), e, ap (at next.rank) a ∙ rank_here))
+        ]
+        | inr a ↦ elim (cases_eq k c) [
+          | inl d ↦ absurd (omega
+              (arith, rank_less j (old j t a), e, ap (at next.rank) d ∙ rank_here))
+          | inr d ↦ s.ways.once j k (old j t a) (old k u d) (sym (rank_old j a) ∙ e ∙ rank_old k d)
+        ]
+      ];
+    }
+
+    -- no more right blocks are reached than there are
+    pub search_least : members 64 (has reached) ≤ length rows
+    search_least = omega (
+      arith,
+      members-within 64 (length rows) (has reached) r.few (search_ways x.goal).small,
+      members-le (length rows) (has reached),
+    )
+
+    -- right block c is reached, and the left block that has it, if any, is pending
+    pub search_more : {pending' : BlockSet} → has b.goals c ≡ false
+        → ((j : ℕ) → has pending j ≡ true → has pending' j ≡ true)
+        → (has h.held c ≡ true → has pending' (at h.row c) ≡ true)
+        → ((j : ℕ) → has pending' j ≡ true → (has pending j ≡ true)
+        ⊎ ((has h.held c ≡ true) × (j ≡ at h.row c) × (j < length rows)))
+        → Searching rows b h next pending'
+    search_more {pending' = pending'} free keeps add only = record {
+      ways = search_ways x.goal;
+      sized_from = length-set x.from c l ∙ s.sized_from;
+      sized_rank = length-set x.rank c (members 64 (has x.reached)) ∙ s.sized_rank;
+      inside = λ j t. elim (only j t) [ inl e ↦ s.inside j e | inr e ↦ e.2 ];
+      waiting = λ j t. elim (only j t) [
+        | inl e ↦ elim (s.waiting j e) [ inl f ↦ inl f | inr w ↦ inr (w.0, more w.0 w.1, w.2, w.3) ]
+        | inr e ↦ inr (c, new_in (has x.reached) (has reached) c r.is, e.0, sym e.1)
+      ];
+      rooted = λ j d t a. elim (s.rooted j d t a)
+          [ inl e ↦ inl (more d e) | inr e ↦ inr (keeps j e) ];
+      onward = λ d j t o a. elim (cases_eq d c) [
+        | inl e ↦
+            inr (subst (λ y. has pending' (at h.row y) ≡ true) (sym e)
+            (add (sym (ap (has h.held) e) ∙ o)))
+        | inr ne ↦ elim (s.onward d j (old d t ne) o a)
+            [ inl e ↦ inl (more j e) | inr e ↦ inr (keeps (at h.row d) e) ]
+      ];
+      no_goal = λ j t. elim (cases_eq j c) [
+        | inl e ↦ ap (has b.goals) e ∙ free
+        | inr ne ↦ s.no_goal j (old j t ne)
+      ];
+    }

@@ -3,256 +3,343 @@
 -- their left blocks to one that is live. So a chain from a shut one never comes to the right block
 -- that l has, which is live; by the theorem on chains l cannot be sent there. Where a search comes
 -- to that right block, the exchange gives l the one right block that it was offered.
-use Rattle.std.proofs.Common.{◌≡◌, ℕ, ◌<◌, ◌≤◌, Bool, true, false, not, ◌&&◌, ◌||◌, eqb, ltb, List}
-use Rattle.std.proofs.Common.{length, sym, refl, ap, ◌∙◌, subst, inl, inr, arith}
+use Rattle.std.proofs.Common.{◌≡◌, ℕ, ◌+◌, ◌<◌, ◌≤◌, Bool, true, false, not, ◌&&◌, ◌||◌, eqb, ltb}
+use Rattle.std.proofs.Common.{◌⊎◌, List, length, sym, refl, ap, ◌∙◌, subst, inl, inr, arith}
 use Rattle.std.proofs.lemmas.Bool.Decides.{nat_tests}
-use Rattle.std.proofs.lemmas.Bool.{cases_eq, cases_Bool, both_ways, and_parts, and_from, or_cases}
-use Rattle.std.proofs.lemmas.Bool.{or_left, or_right, eqb-true, eq-eqb, not-true, not_from_false}
-use Rattle.std.proofs.lemmas.Bool.{cond-true, cond-false, lt-ltb, ltb-false}
+use Rattle.std.proofs.lemmas.Bool.{cases_eq, cases_lt, cases_Bool, both_ways, and_parts, and_from}
+use Rattle.std.proofs.lemmas.Bool.{or_cases, or_left, or_right, not-true, not_from_false}
+use Rattle.std.proofs.lemmas.Bool.{cond-true, cond-false, ltb-false}
 use Rattle.blockset.specs.declared.BlockSet.{BlockSet}
-use Rattle.blockset.specs.Has.{has}
-use Rattle.blockset.proofs.Holding.{has_block}
-use Rattle.pairing.specs.Grid.{at, Perfect}
+use Rattle.blockset.specs.Has.{has, IsEmpty, IsLeast}
+use Rattle.blockset.specs.Sets.{members}
+use Rattle.blockset.proofs.Members.{members_less}
+use Rattle.pairing.specs.Grid.{at}
 use Rattle.pairing.specs.Chains.{Agree, Chain, here, step}
+use Rattle.pairing.specs.Rows.{holds, Pairs}
 use Rattle.pairing.proofs.Sending.{sends_if_chain}
 use Rattle.matching.specs.declared.chains.Bounds.{Bounds}
-use Rattle.pairing.specs.Rows.{holds, Pairs}
-use Rattle.matching.specs.Exchange.{without, Holding, Ways, Exchanged}
-use Rattle.matching.specs.Search.{along, ReachedBy, Complete}
-use Rattle.matching.proofs.Exchanging.{without_itself, without_other}
-
--- the ways of a search, told by the pairing
-pub ways_from : (n k : ℕ) (along : ℕ → ℕ → Bool) (p : List ℕ) (out held : ℕ → Bool) (row : List ℕ)
-    (reached : ℕ → Bool) (from rank : List ℕ)
-    → Holding k n p out held row → ReachedBy n along out held row reached from rank
-    → Ways n p out reached from rank
-ways_from n k along p out held row reached from rank h w = record {
-  inside = w.small;
-  taker = w.high;
-  back = λ c t f. elim (w.back c t) [
-    | inl r ↦ absurd (both_ways (out (at from c)) f r)
-    | inr v ↦
-        let d = v.0 in
-        let own : at p (at from c) ≡ d = ap (at p) (sym v.3) ∙ h.owner d v.2 in
-        (ap reached own ∙ v.1, rw own v.4)
-  ];
-}
+use Rattle.matching.specs.declared.chains.Holders.{Holders}
+use Rattle.matching.specs.declared.chains.Reach.{Reach}
+use Rattle.matching.specs.Exchange.{without, GivesDistinct, Holding, AreHoldersFrom, Ways}
+use Rattle.matching.specs.Exchange.{Exchanged}
+use Rattle.matching.specs.Search.{along, IsReach, IsComplete}
+use Rattle.matching.specs.Improving.{IsImproved, IsUnimproved}
+use Rattle.matching.proofs.Alone.{IsAlone, one_in, one_is, one_not, one_other, none_left}
+use Rattle.matching.proofs.Held.{after_alone, all_back, ways_from}
 
 -- l's row, the right blocks that are live, and those below a floor
-abbrev pub candidate : (tight : ℕ → ℕ → Bool) (l floor : ℕ) (live : ℕ → Bool) → ℕ → Bool
-candidate tight l floor live c = (tight l c && live c) && not (ltb c floor)
+abbrev pub candidate : (rows : List BlockSet) (l floor : ℕ) (live : BlockSet) → ℕ → Bool
+candidate rows l floor live c = (holds rows l c && has live c) && not (ltb c floor)
 
-module _ (n l : ℕ) (tight : ℕ → ℕ → Bool) (p : List ℕ) where
-  pub record Trying (live : ℕ → Bool) : Type 0 where
-    pub within : (c : ℕ) → live c ≡ true → (m : ℕ) × (l ≤ m) × (m < n) × (at p m ≡ c)
-    pub own : live (at p l) ≡ true
-    pub shut : (m x : ℕ) → l ≤ m → m < n → l ≤ x → x < n → live (at p m) ≡ false
-        → tight m (at p x) ≡ true → live (at p x) ≡ false
+-- left block l is to be sent to a right block from floor on: what is kept while one after the other
+-- of the candidates is tried
+pub record Trying (rows : List BlockSet) (l floor : ℕ) (p : List ℕ) (h : Holders)
+    (live candidates : BlockSet) : Type 0 where
+  pub few : length rows ≤ 64
+  pub pairs : Pairs rows p
+  pub room : l < length rows
+  pub holders : AreHoldersFrom (l + 1) p h
+  pub within : (c : ℕ) → has live c ≡ true → (m : ℕ) × (l ≤ m) × (m < length rows) × (at p m ≡ c)
+  pub own : has live (at p l) ≡ true
+  pub shut : (m x : ℕ) → l ≤ m → m < length rows → l ≤ x → x < length rows
+      → has live (at p m) ≡ false → holds rows m (at p x) ≡ true → has live (at p x) ≡ false
+  pub left : (c : ℕ) → has candidates c ≡ candidate rows l floor live c
 
-  module _ (live : ℕ → Bool) (t : Trying live) where
-    stays_shut : (r : ℕ) → live r ≡ false → (c : ℕ) → Chain n l tight p r c → (x : ℕ) → l ≤ x
-        → x < n → at p x ≡ c → live c ≡ false
-    stays_shut r f _ here x low high e = f
-    stays_shut r f _ (step m c le lt w ok) x low high e =
-        ap live (sym e) ∙ t.shut m x le lt low high (stays_shut r f (at p m) w m le lt refl)
-        (ap (tight m) e ∙ ok)
+-- a search that is to send l to right block r
+pub record Sending (rows : List BlockSet) (l : ℕ) (p : List ℕ) (b : Bounds) (r : ℕ) : Type 0 where
+  pub roots : IsAlone b.roots l
+  pub offer : IsAlone b.offer r
+  pub goals : IsAlone b.goals (at p l)
+  pub stands : holds rows l r ≡ true
+  pub live : has b.live r ≡ true
 
-    -- what a pairing gives l is live
-    pub sent_live : Perfect n tight p → l < n → (q : List ℕ) → Perfect n tight q → Agree l p q
-        → live (at q l) ≡ true
-    sent_live h i q g a = elim (cases_Bool (live (at q l))) [
-      | inl o ↦ o
-      | inr f ↦
-          let chain =
-          ((sends_if_chain n l tight p h l (at q l) (omega arith) i (g.below l i)).1
-          (q, g, a, refl)).1 in
-          absurd (both_ways (live (at p l))
-          (stays_shut (at q l) f (at p l) chain l (omega arith) i refl) t.own)
+-- before the first search all right blocks of left blocks from l on are live
+pub trying_start : {rows : List BlockSet} {l floor : ℕ} {p : List ℕ} {h : Holders}
+    {live candidates : BlockSet} → length rows ≤ 64 → Pairs rows p → l < length rows
+    → AreHoldersFrom (l + 1) p h → (goals : BlockSet)
+    → ((j : ℕ) → has goals j ≡ (ltb j 64 && eqb j (at p l)))
+    → ((j : ℕ) → has live j ≡ (has h.held j || has goals j))
+    → ((j : ℕ) → has candidates j ≡ candidate rows l floor live j)
+    → Trying rows l floor p h live candidates
+trying_start {rows = rows} {l = l} {p = p} {h = h} {live = live} few pairs room holders
+    goals goals-are live-is left = record {
+      few = few;
+      pairs = pairs;
+      room = room;
+      holders = holders;
+      within = λ c t. elim (or_cases (has h.held c) (has goals c) (sym (live-is c) ∙ t)) [
+        | inl e ↦ (
+          at h.row c,
+          omega (arith, holders.low c e),
+          omega (arith, holders.high c e, pairs.len),
+          holders.owner c e,
+        )
+        | inr e ↦ (l, omega arith, room, sym (one_is own c e))
+      ];
+      own = all_live l (omega arith) room;
+      shut = λ m x le lt _ _ f _. absurd (both_ways (has live (at p m)) f (all_live m le lt));
+      left = left;
+    }
+  where
+    own : IsAlone goals (at p l)
+    own = record { small = omega (arith, pairs.below l room); is = goals-are }
+
+    all_live : (m : ℕ) → l ≤ m → m < length rows → has live (at p m) ≡ true
+    all_live m le lt = elim (cases_eq m l) [
+      | inl e ↦ live-is (at p m) ∙ or_right (has h.held (at p m)) _
+          (ap (λ x. has goals (at p x)) e ∙ one_in own)
+      | inr ne ↦ live-is (at p m) ∙ or_left (has h.held (at p m)) _
+          (holders.all m (omega arith) (omega (arith, pairs.len)) refl)
     ]
 
-    pub sent_candidate : (floor : ℕ) → Perfect n tight p → l < n → (q : List ℕ) → Perfect n tight q
-        → Agree l p q → floor ≤ at q l → candidate tight l floor live (at q l) ≡ true
-    sent_candidate floor h i q g a up =
-        and_from _ _ (and_from _ _ (g.standing l i) (sent_live h i q g a))
-        (not_from_false _ (high (at q l) up))
-      where
-        high : (x : ℕ) → floor ≤ x → ltb x floor ≡ false
-        high x le = grind (arith, nat_tests)
+module _ {rows : List BlockSet} {l floor : ℕ} {p : List ℕ} {h : Holders}
+    {live candidates : BlockSet} (t : Trying rows l floor p h live candidates) where
+  stays_shut : (r : ℕ) → has live r ≡ false → (c : ℕ) → Chain (length rows) l (holds rows) p r c
+      → (x : ℕ) → l ≤ x → x < length rows → at p x ≡ c → has live c ≡ false
+  stays_shut r f _ here x low high e = f
+  stays_shut r f _ (step m c le lt w ok) x low high e =
+      ap (has live) (sym e) ∙ t.shut m x le lt low high (stays_shut r f (at p m) w m le lt refl)
+      (ap (holds rows m) e ∙ ok)
 
-pub candidate_above : (tight : ℕ → ℕ → Bool) (l floor : ℕ) (live : ℕ → Bool) (c : ℕ)
-    → candidate tight l floor live c ≡ true → (tight l c ≡ true) × (live c ≡ true) × (floor ≤ c)
-candidate_above tight l floor live c t =
-    let a = and_parts (tight l c && live c) (not (ltb c floor)) t in
-    let b = and_parts (tight l c) (live c) a.0 in
-    (b.0, b.1, ltb-false c floor (not-true _ a.1))
+  -- what a pairing gives l, if not below the floor, is a candidate
+  sent_candidate : (q : List ℕ) → Pairs rows q → Agree l p q → floor ≤ at q l
+      → has candidates (at q l) ≡ true
+  sent_candidate q g a up =
+      t.left (at q l)
+      ∙ and_from _ _ (and_from _ _ (g.standing l t.room) (elim (cases_Bool (has live (at q l))) [
+        | inl o ↦ o
+        | inr f ↦
+            let chain =
+            ((sends_if_chain (length rows) l (holds rows) p t.pairs l (at q l)
+            (omega arith) t.room (g.below l t.room)).1 (q, g, a, refl)).1 in
+            absurd (both_ways (has live (at p l))
+            (stays_shut (at q l) f (at p l) chain l (omega arith) t.room refl) t.own)
+      ]))
+      (not_from_false _ (high (at q l) up))
+    where
+      high : (x : ℕ) → floor ≤ x → ltb x floor ≡ false
+      high x le = grind (arith, nat_tests)
 
--- l left out alone
-module _ (alone : ℕ → Bool) (l : ℕ) (small : l < 64)
-    (is : (j : ℕ) → alone j ≡ (ltb j 64 && eqb j l)) where
-  pub one_in : alone l ≡ true
-  one_in = is l ∙ and_from _ _ (lt-ltb l 64 small) (eq-eqb l l refl)
-
-  pub one_is : (j : ℕ) → alone j ≡ true → j ≡ l
-  one_is j t = eqb-true j l (and_parts (ltb j 64) (eqb j l) (sym (is j) ∙ t)).1
-
-  pub one_not : (j : ℕ) → (j ≡ l → ⊥) → alone j ≡ false
-  one_not j ne = elim (cases_Bool (alone j)) [ inl t ↦ absurd (ne (one_is j t)) | inr f ↦ f ]
-
-  pub one_other : (j : ℕ) → alone j ≡ false → j ≡ l → ⊥
-  one_other j f e = both_ways (alone j) f (ap alone e ∙ one_in)
-
-  -- when l is paired none is left out
-  pub none_left : (paired : ℕ) → alone paired ≡ true → (m : ℕ) → without alone paired m ≡ false
-  none_left paired t m = elim (cases_eq m paired) [
-    | inl e ↦ ap (without alone paired) e ∙ without_itself alone paired
-    | inr ne ↦
-        without_other alone paired m (one_not m (λ e. ne (e ∙ sym (one_is paired t))))
+  -- so no pairing has one below the least candidate
+  least : {r : ℕ} → IsLeast candidates r → (q : List ℕ) → Pairs rows q → Agree l p q
+      → floor ≤ at q l → r ≤ at q l
+  least {r = r} first q g a up = elim (cases_lt (at q l) r) [
+    | inl less ↦
+        absurd (both_ways (has candidates (at q l)) (first.2 (at q l) less)
+        (sent_candidate q g a up))
+    | inr le ↦ le
   ]
 
-module _ (rows : List BlockSet) (p : List ℕ) (l : ℕ) (few : length rows ≤ 64) (h : Pairs rows p)
-    (i : l < length rows)
-    (alone held : ℕ → Bool) (row : List ℕ) (is-alone : (j : ℕ) → alone j ≡ (ltb j 64 && eqb j l))
-    (has-rows : Holding l (length rows) p alone held row) where
-  small_l : l < 64
-  small_l = omega arith
+  pub unimproved : IsEmpty candidates → IsUnimproved rows l floor p p
+  unimproved none = record {
+    same = refl;
+    none = λ q g a. elim (cases_lt (at q l) floor) [
+      | inl less ↦ less
+      | inr up ↦
+          absurd (both_ways (has candidates (at q l)) (none (at q l)) (sent_candidate q g a up))
+    ];
+  }
 
-  -- before the first search all right blocks of left blocks from l on are live
-  pub trying_start : (live goals : ℕ → Bool) → ((j : ℕ) → goals j ≡ (ltb j 64 && eqb j (at p l)))
-      → ((j : ℕ) → live j ≡ (held j || goals j)) → Trying (length rows) l (holds rows) p live
-  trying_start live goals is-goals is_live =
-      let low : at p l < 64 = omega (arith, h.below l i) in
-      let all_live : (m : ℕ) → l ≤ m → m < length rows → live (at p m) ≡ true =
-      λ m le lt. elim (cases_eq m l) [
-        | inl e ↦ is_live (at p m) ∙ or_right (held (at p m)) _
-            (ap (λ x. goals (at p x)) e ∙ one_in goals (at p l) low is-goals)
-        | inr ne ↦ is_live (at p m) ∙ or_left (held (at p m)) _
-            (has-rows.all m le lt (one_not alone l small_l is-alone m ne))
-      ] in
-      record {
-        within = λ c t. elim (or_cases (held c) (goals c) (sym (is_live c) ∙ t)) [
-          | inl e ↦ (at row c, has-rows.low c e, has-rows.high c e, has-rows.owner c e)
-          | inr e ↦ (l, omega arith, i, sym (one_is goals (at p l) low is-goals c e))
+  above : {r : ℕ} → IsLeast candidates r
+      → (holds rows l r ≡ true) × (has live r ≡ true) × (floor ≤ r)
+  above {r = r} first =
+      let a = and_parts (holds rows l r && has live r) (not (ltb r floor))
+      (sym (t.left r) ∙ first.1) in
+      let b = and_parts (holds rows l r) (has live r) a.0 in
+      (b.0, b.1, ltb-false r floor (not-true _ a.1))
+
+  -- a pairing that gives l the least candidate is improved
+  pub improved : {r : ℕ} {q : List ℕ} → IsLeast candidates r → Pairs rows q → Agree l p q
+      → at q l ≡ r → IsImproved rows l floor p q
+  improved first g a e = record {
+    pairs = g;
+    kept = a;
+    above = omega (arith, (above first).2);
+    least = λ q' g' a' up. omega (arith, least first q' g' a' up);
+  }
+
+  pub sending : {r own : ℕ} {alone offer goals : BlockSet} → IsLeast candidates r → at p l ≡ own
+      → ((j : ℕ) → has alone j ≡ (ltb j 64 && eqb j l))
+      → ((j : ℕ) → has offer j ≡ (ltb j 64 && eqb j r))
+      → ((j : ℕ) → has goals j ≡ (ltb j 64 && eqb j own))
+      → Sending rows l p (record { roots = alone; offer = offer; live = live; goals = goals }) r
+  sending first e alone-is offer-is goals-are = record {
+    roots = record { small = omega (arith, t.few, t.room); is = alone-is };
+    offer = record { small = first.0; is = offer-is };
+    goals = record {
+      small = omega (arith, t.few, t.pairs.below l t.room);
+      is = λ j. goals-are j ∙ ap (λ x. ltb j 64 && eqb j x) (sym e);
+    };
+    stands = (above first).0;
+    live = (above first).1;
+  }
+
+module _ {rows : List BlockSet} {l r floor : ℕ} {p : List ℕ} {b : Bounds} {h : Holders}
+    {candidates : BlockSet} (f : Sending rows l p b r)
+    (t : Trying rows l floor p h b.live candidates) where
+  -- the holders of the left blocks from l on, l left out
+  hold : Holding l p (has b.roots) h
+  hold = after_alone f.roots t.holders
+
+  pub along_inside : (m c : ℕ) → along rows b m c ≡ true → c < length rows
+  along_inside m c a =
+      let e = (and_parts (holds rows m c) _ a).1 in
+      let v = t.within c (elim (cases_Bool (has b.roots m)) [
+        | inl x ↦ ap (has b.live) (one_is f.offer c (sym (cond-true _ _ _ x) ∙ e)) ∙ f.live
+        | inr x ↦ sym (cond-false _ _ _ x) ∙ e
+      ]) in
+      subst (λ x. x < length rows) v.3 (t.pairs.below v.0 v.2)
+
+  -- a pair of another left block to a live right block
+  along_live : (m c : ℕ) → (m ≡ l → ⊥) → holds rows m c ≡ true → has b.live c ≡ true
+      → along rows b m c ≡ true
+  along_live m c ne x o =
+      and_from (holds rows m c) _ x (cond-false _ _ _ (one_not f.roots m ne) ∙ o)
+
+  along_offer : along rows b l r ≡ true
+  along_offer = and_from (holds rows l r) _ f.stands
+      (cond-true _ _ _ (one_in f.roots) ∙ one_in f.offer)
+
+  -- l's own right block is free while l is left out
+  pub own_free : {c : ℕ} → has b.goals c ≡ true → (m : ℕ) → m < length p
+      → has b.roots m ≡ false → at p m ≡ c → ⊥
+  own_free {c = c} g m i o e = one_other f.roots m o
+      (t.pairs.once m l (omega (arith, t.pairs.len)) t.room (e ∙ one_is f.goals c g))
+
+  module _ {x : Reach} (w : IsReach rows b h x) where
+    pub sending_ways : Ways p (has b.roots) x
+    sending_ways = ways_from t.pairs.len w hold
+
+    -- it came by no left block before l
+    from_later : (c : ℕ) → has x.reached c ≡ true → l ≤ at x.from c
+    from_later c y = elim (w.back c y) [
+      | inl e ↦ (let z = one_is f.roots (at x.from c) e in omega arith)
+      | inr v ↦ omega (arith, t.holders.low v.0 v.2, v.3)
+    ]
+
+    -- ---- the search was in vain: what it reached is shut
+
+    own-not : IsComplete rows b h x → has x.reached (at p l) ≡ false
+    own-not d = elim (cases_Bool (has x.reached (at p l))) [
+      | inl y ↦ absurd (both_ways _ (d.no_goal (at p l) y) (one_in f.goals))
+      | inr y ↦ y
+    ]
+
+    module _ (d : IsComplete rows b h x) (live' candidates' : BlockSet)
+        (live-is : (j : ℕ) → has live' j ≡ (has b.live j && not (has x.reached j)))
+        (left : (j : ℕ) → has candidates' j ≡ (has candidates j && has live' j)) where
+      off : (j : ℕ) → has b.live j ≡ false → has live' j ≡ false
+      off j y = (let e = live-is j in grind arith)
+
+      gone : (j : ℕ) → has x.reached j ≡ true → has live' j ≡ false
+      gone j y = (let e = live-is j in grind arith)
+
+      -- a left block from l on whose right block was live and is shut leads to no live one
+      shut_on : (m k : ℕ) → l ≤ m → m < length rows → has b.live (at p m) ≡ true
+          → has live' (at p m) ≡ false → holds rows m (at p k) ≡ true
+          → has b.live (at p k) ≡ true → has x.reached (at p k) ≡ true
+      shut_on m k le lt was f' ok o =
+          let seen : has x.reached (at p m) ≡ true = elim (cases_Bool (has x.reached (at p m))) [
+            | inl y ↦ y
+            | inr y ↦ absurd (both_ways (has live' (at p m)) f'
+                (live-is (at p m) ∙ and_from _ _ was (not_from_false _ y)))
+          ] in
+          let ne : m ≡ l → ⊥ = λ e. both_ways (has x.reached (at p m))
+          (ap (λ y. has x.reached (at p y)) e ∙ own-not d) seen in
+          let had = hold.all m le (omega (arith, t.pairs.len)) (one_not f.roots m ne) in
+          let whose : at h.row (at p m) ≡ m =
+          t.pairs.once (at h.row (at p m)) m (omega (arith, hold.high (at p m) had, t.pairs.len)) lt
+          (hold.owner (at p m) had) in
+          d.onward (at p m) (at p k) seen had
+          (subst (λ j. along rows b j (at p k) ≡ true) (sym whose) (along_live m (at p k) ne ok o))
+
+      pub trying_more : Trying rows l floor p h live' candidates'
+      trying_more = record {
+        few = t.few;
+        pairs = t.pairs;
+        room = t.room;
+        holders = t.holders;
+        within = λ c o.
+            t.within c (and_parts (has b.live c) (not (has x.reached c)) (sym (live-is c) ∙ o)).0;
+        own = live-is (at p l) ∙ and_from _ _ t.own (not_from_false _ (own-not d));
+        shut = λ m k le lt low high f' ok. elim (cases_Bool (has b.live (at p m))) [
+          | inr z ↦ off (at p k) (t.shut m k le lt low high z ok)
+          | inl z ↦ elim (cases_Bool (has b.live (at p k))) [
+            | inr y ↦ off (at p k) y
+            | inl y ↦ gone (at p k) (shut_on m k le lt z f' ok y)
+          ]
         ];
-        own = all_live l (omega arith) i;
-        shut = λ m x le lt _ _ f _. absurd (both_ways (live (at p m)) f (all_live m le lt));
+        left = λ j. narrowed (holds rows l j) (has b.live j) (not (ltb j floor))
+            (has candidates j) (has x.reached j) (has live' j) (has candidates' j) (t.left j)
+            (live-is j) (left j);
       }
+        where
+          narrowed : (t o b c s d e : Bool) → c ≡ ((t && o) && b) → d ≡ (o && not s)
+              → e ≡ (c && d) → e ≡ ((t && d) && b)
+          narrowed t o b c s d e x y z = grind arith
 
-  module _ (b : Bounds) (live : ℕ → Bool) (r : ℕ) (t : Trying (length rows) l (holds rows) p live)
-      (r-live : live r ≡ true) (ok : holds rows l r ≡ true)
-      (roots-are : (j : ℕ) → has b.roots j ≡ alone j) (live-is : (j : ℕ) → has b.live j ≡ live j)
-      (offer-is : (j : ℕ) → has b.offer j ≡ (ltb j 64 && eqb j r))
-      (goals-are : (j : ℕ) → has b.goals j ≡ (ltb j 64 && eqb j (at p l))) where
-    small_r : r < 64
-    small_r = has_block _ r ok
+      -- and the candidate is none any more
+      pub fewer : IsLeast candidates r
+          → members 64 (has candidates') < members 64 (has candidates)
+      fewer first =
+          let out : has candidates' r ≡ false =
+          (let e₁ = left r in
+          let e₂ = gone r (d.rooted l r (one_in f.roots) along_offer) in grind arith) in
+          members_less 64 (has candidates) (has candidates') r first.0
+          (λ j y. (and_parts (has candidates j) _ (sym (left j) ∙ y)).0) first.1 out
 
-    pub along_inside : (m c : ℕ) → along rows b m c ≡ true → c < length rows
-    along_inside m c a =
-        let w = t.within in
-        let e = (and_parts (holds rows m c) _ a).1 in
-        let o : live c ≡ true = elim (cases_Bool (has b.roots m)) [
-          | inl x ↦
-              ap live (one_is (has b.offer) r small_r offer-is c (sym (cond-true _ _ _ x) ∙ e))
-              ∙ r-live
-          | inr x ↦ sym (live-is c) ∙ sym (cond-false _ _ _ x) ∙ e
-        ] in
-        let v = w c o in
-        subst (λ x. x < length rows) v.3 (h.below v.0 v.2)
+    -- ---- it came to l's own right block, and the pairs along the chain were exchanged
 
-    -- a pair of another left block to an live right block
-    along_live : (m c : ℕ) → (m ≡ l → ⊥) → holds rows m c ≡ true → live c ≡ true
-        → along rows b m c ≡ true
-    along_live m c ne x o = and_from (holds rows m c) _ x
-        (cond-false _ _ _ (roots-are m ∙ one_not alone l small_l is-alone m ne) ∙ live-is c ∙ o)
+    module _ {q : List ℕ} {paired : ℕ} (e : Exchanged p q (has b.roots) x paired) where
+      all : (m : ℕ) → without (has b.roots) paired m ≡ false
+      all = none_left f.roots paired e.was_out
 
-    pub along_offer : along rows b l r ≡ true
-    along_offer = and_from (holds rows l r) _ ok
-        (cond-true _ _ _ (roots-are l ∙ one_in alone l small_l is-alone)
-        ∙ one_in (has b.offer) r small_r offer-is)
+      by : (m : ℕ) → has x.reached (at q m) ≡ true → at x.from (at q m) ≡ m
+          → along rows b m (at q m) ≡ true
+      by m y z = subst (λ k. along rows b k (at q m) ≡ true) z (w.by (at q m) y)
 
-    module _ (reached : ℕ → Bool) (from rank : List ℕ)
-        (w : ReachedBy (length rows) (along rows b) (has b.roots) held row reached from rank) where
-      -- the search was in vain: what it reached is shut
-      pub trying_more : Complete (along rows b) (has b.roots) held row reached
-          → ((c : ℕ) → reached c ≡ true → has b.goals c ≡ false) → (live' : ℕ → Bool)
-          → ((j : ℕ) → live' j ≡ (live j && not (reached j))) → Trying (length rows) l
-          (holds rows) p live'
-      trying_more d no_goal live' is =
-          let low : at p l < 64 = omega (arith, h.below l i) in
-          let goal-in : has b.goals (at p l) ≡ true = one_in (has b.goals) (at p l) low goals-are in
-          let own-not : reached (at p l) ≡ false = elim (cases_Bool (reached (at p l)))
-          [ inl x ↦ absurd (both_ways _ (no_goal (at p l) x) goal-in) | inr x ↦ x ] in
-          let off : (j : ℕ) → live j ≡ false → live' j ≡ false =
-          λ j f. (let e = is j in grind arith) in
-          let gone : (j : ℕ) → reached j ≡ true → live' j ≡ false =
-          λ j f. (let e = is j in grind arith) in
+      came : (m : ℕ) → m < length rows → ((m ≡ paired → ⊥) × (at q m ≡ at p m))
+          ⊎ ((has x.reached (at q m) ≡ true) × (at x.from (at q m) ≡ m))
+      came m i = e.came m (omega (arith, t.pairs.len))
+
+      pub sent_pairs : Pairs rows q
+      sent_pairs =
+          let whole = subst (λ n. GivesDistinct n q (without (has b.roots) paired)) t.pairs.len
+          e.distinct in
           record {
-            within = λ c o. t.within c (and_parts (live c) (not (reached c)) (sym (is c) ∙ o)).0;
-            own = is (at p l) ∙ and_from _ _ t.own (not_from_false _ own-not);
-            shut = λ m x le lt low' high f ok'. elim (cases_Bool (live (at p m))) [
-              | inr z ↦ off (at p x) (t.shut m x le lt low' high z ok')
-              | inl z ↦
-                  let seen : reached (at p m) ≡ true = elim (cases_Bool (reached (at p m))) [
-                    | inl y ↦ y
-                    | inr y ↦
-                        absurd (both_ways (live' (at p m)) f
-                        (is (at p m) ∙ and_from _ _ z (not_from_false _ y)))
-                  ] in
-                  let ne : m ≡ l → ⊥ = λ e. both_ways (reached (at p m))
-                  (ap (λ y. reached (at p y)) e ∙ own-not) seen in
-                  let had : held (at p m) ≡ true =
-                  has-rows.all m le lt (one_not alone l small_l is-alone m ne) in
-                  let whose : at row (at p m) ≡ m =
-                  h.once (at row (at p m)) m (has-rows.high (at p m) had) lt
-                  (has-rows.owner (at p m) had) in
-                  elim (cases_Bool (live (at p x))) [
-                    | inr y ↦ off (at p x) y
-                    | inl y ↦
-                        gone (at p x)
-                        (d.onward (at p m) (at p x) seen had
-                        (subst (λ k. along rows b k (at p x) ≡ true) (sym whose)
-                        (along_live m (at p x) ne ok' y)))
-                  ]
+            len = whole.len;
+            below = λ m j. whole.below m j (all m);
+            standing = λ m j. elim (came m j) [
+              | inl y ↦ ap (holds rows m) y.1 ∙ t.pairs.standing m j
+              | inr y ↦ (and_parts (holds rows m (at q m)) _ (by m y.0 y.1)).0
             ];
+            once = λ m k j i o. whole.once m k j i (all m) (all k) o;
           }
 
-      -- it came by no left block before l
-      pub from_later : (c : ℕ) → reached c ≡ true → l ≤ at from c
-      from_later c x = elim (w.back c x) [
-        | inl e ↦
-            (let z = one_is alone l small_l is-alone (at from c)
-            (sym (roots-are (at from c)) ∙ e) in omega arith)
-        | inr v ↦ omega (arith, has-rows.low v.0 v.2, v.3)
-      ]
+      pub sent_improved : IsLeast candidates r → IsImproved rows l floor p q
+      sent_improved first = improved t first sent_pairs
+          (λ m j. elim (came m (omega (arith, t.room))) [
+            | inl y ↦ y.1
+            | inr y ↦ absurd (omega (arith, from_later (at q m) y.0, y.1))
+          ])
+          (elim (came l t.room) [
+            | inl y ↦ absurd (y.0 (sym (one_is f.roots paired e.was_out)))
+            | inr y ↦ one_is f.offer (at q l) (sym (cond-true _ _ _ (one_in f.roots))
+                ∙ (and_parts (holds rows l (at q l)) _ (by l y.0 y.1)).1)
+          ])
 
-      -- the search came to l's own right block, and the pairs along the chain were exchanged
-      pub sent : (q : List ℕ) (paired : ℕ) → Exchanged (length rows) p q alone reached from paired
-          → Pairs rows q × Agree l p q × (at q l ≡ r)
-      sent q paired f =
-          let is-l : paired ≡ l = one_is alone l small_l is-alone paired f.was_out in
-          let all = none_left alone l small_l is-alone paired f.was_out in
-          let whole = f.distinct in
-          let by : (c : ℕ) → reached c ≡ true → holds rows (at from c) c ≡ true =
-          λ c x. (and_parts (holds rows (at from c) c) _ (w.by c x)).0 in (
-            record {
-              len = whole.len;
-              below = λ m j. whole.below m j (all m);
-              standing =
-                  λ m j. elim (f.came m j) [
-                    | inl e ↦ ap (holds rows m) e.1 ∙ h.standing m j
-                    | inr e ↦
-                        subst (λ x. holds rows x (at q m) ≡ true) e.1 (by (at q m) e.0)
-                  ];
-              once = λ m x j k e. whole.once m x j k (all m) (all x) e;
-            },
-            (λ m j. elim (f.came m (omega arith))
-                [ inl e ↦ e.1 | inr e ↦ absurd (omega (arith, from_later (at q m) e.0, e.1)) ]),
-            elim (f.came l i) [
-              | inl e ↦ absurd (e.0 (sym is-l))
-              | inr e ↦
-                  let a : along rows b l (at q l) ≡ true =
-                  subst (λ x. along rows b x (at q l) ≡ true) e.1 (w.by (at q l) e.0) in
-                  one_is (has b.offer) r small_r offer-is (at q l)
-                  (sym (cond-true _ _ _ (roots-are l ∙ one_in alone l small_l is-alone))
-                  ∙ (and_parts (holds rows l (at q l)) _ a).1)
-            ],
-          )
+      pub sent_holders : {h' : Holders}
+          → ((k : ℕ) → ((c : ℕ) → has x.reached c ≡ true → k ≤ at x.from c)
+          → Holding k p (has b.roots) h → Holding k q (without (has b.roots) paired) h')
+          → AreHoldersFrom l q h'
+      sent_holders told = all_back all (told l from_later hold)
+
+-- a pairing gives different right blocks, whichever left blocks are left out
+pub pairs_distinct : (rows : List BlockSet) {p : List ℕ} → Pairs rows p → (out : ℕ → Bool)
+    → GivesDistinct (length p) p out
+pairs_distinct rows {p = p} h out = subst (λ n. GivesDistinct n p out) (sym h.len) (record {
+  len = h.len;
+  below = λ m j _. h.below m j;
+  standing = λ m j _. refl;
+  once = λ m k j i _ _. h.once m k j i;
+})

@@ -11,7 +11,7 @@ use Rattle.matching.specs.declared.stepping.Step.TheVariants.{Next, End}
 use Rattle.matching.specs.declared.augmenting.Found.{Found}
 use Rattle.matching.specs.declared.augmenting.Found.TheVariants.{Perfect, Short}
 use Rattle.matching.specs.declared.augmenting.Shortfall.{Shortfall}
-use Rattle.pairing.specs.Places.{place_of}
+use Rattle.pairing.specs.Places.{place_of, rights_of}
 use Rattle.pairing.specs.Rows.{holds, Pairs}
 
 -- p is what stands at place i of the list
@@ -26,10 +26,10 @@ Follows pairings before after Next = (i : ℕ) × IsNth pairings i before
 Follows pairings before after End = (i : ℕ) × IsNth pairings i before × (i + 1 ≡ length pairings)
     × (after ≡ before)
 
--- the table says at the place of each pair of n left and n right blocks, by 1 or 0, whether any of
--- the pairings has it
+-- the table says at the place of each pair of n left blocks and their right blocks, by 1 or 0,
+-- whether any of the pairings has it
 abbrev pub MarksOf : ℕ → List (List ℕ) → List ℕ → Type 0
-MarksOf n pairings table = (l r : ℕ) → l < n → r < n → at table (place_of n l r)
+MarksOf n pairings table = (l r : ℕ) → l < n → r < rights_of n → at table (place_of n l r)
     ≡ (if has_pair l r pairings then 1 else 0)
 
 -- the list is a largest pairing that leaves just the left blocks of `out` out, whose places are as

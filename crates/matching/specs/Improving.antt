@@ -8,7 +8,7 @@ use Rattle.pairing.specs.Rows.{holds, Pairs}
 
 -- `after` is a pairing that agrees with `before` below l, and has the least right block from floor
 -- on that such a pairing can have at l
-pub record Improved (rows : List BlockSet) (l floor : ℕ) (before after : List ℕ) : Type 0 where
+pub record IsImproved (rows : List BlockSet) (l floor : ℕ) (before after : List ℕ) : Type 0 where
   pub pairs : Pairs rows after
   pub kept : Agree l before after
   pub above : floor ≤ at after l
@@ -16,7 +16,7 @@ pub record Improved (rows : List BlockSet) (l floor : ℕ) (before after : List 
 
 -- no pairing that agrees with `before` below l has a right block from floor on at l; nothing is
 -- changed
-pub record Unimproved (rows : List BlockSet) (l floor : ℕ) (before after : List ℕ) : Type 0 where
+pub record IsUnimproved (rows : List BlockSet) (l floor : ℕ) (before after : List ℕ) : Type 0 where
   pub same : after ≡ before
   pub none : (q : List ℕ) → Pairs rows q → Agree l before q → at q l < floor
 
@@ -27,6 +27,6 @@ pub record IsFirstFrom (rows : List BlockSet) (l : ℕ) (before after : List ℕ
   pub first : (q : List ℕ) → Pairs rows q → Agree l before q → (q ≡ after) ⊎ Before after q
 
 -- the left blocks from k on may be paired with right blocks of `wanted` only
-abbrev pub WantedFrom : ℕ → List BlockSet → (wanted : ℕ → Bool) → Type 0
-WantedFrom k rows wanted = (m c : ℕ) → k ≤ m → m < length rows → holds rows m c ≡ true
+abbrev pub HasWantedFrom : ℕ → List BlockSet → (wanted : ℕ → Bool) → Type 0
+HasWantedFrom k rows wanted = (m c : ℕ) → k ≤ m → m < length rows → holds rows m c ≡ true
     → wanted c ≡ true

@@ -1,14 +1,16 @@
-//! Searching along alternating chains, and exchanging the pairs along one: from a left block to a
-//! right block of its row, on to the left block that has that right block, and so on.
+//! Searching along alternating paths, and exchanging the pairs along one: from a left block to a
+//! right block of its row, on to the left block that has that right block, and so on. Such a path
+//! is called a chain here.
 
 ghost use Rattle.std.specs.Prelude.{◌≡◌, ℕ, ◌<◌, ◌≤◌, true, false, ◌||◌, length, IfSome, IfNone};
 ghost use Rattle.std.specs.Prelude.{◌==◌, ◌≢◌, ◌+◌};
 ghost use Rattle.blockset.specs.declared.TheConstants.{MOST_BLOCKS, SET_WIDTH};
 ghost use Rattle.blockset.specs.Has.{has, IsEmpty};
 ghost use Rattle.pairing.specs.Grid.{at};
-ghost use Rattle.matching.specs.Exchange.{without, GivesDistinct, Holding, HeldFrom, Ways};
+ghost use Rattle.pairing.specs.Rows.{rights_in};
+ghost use Rattle.matching.specs.Exchange.{without, GivesDistinct, Holding, AreHoldersFrom, Ways};
 ghost use Rattle.matching.specs.Exchange.{Exchanged};
-ghost use Rattle.matching.specs.Search.{along, ReachedBy, Ended};
+ghost use Rattle.matching.specs.Search.{along, IsReach, HasEnded};
 
 use blockset::{BlockSet, SET_WIDTH};
 
@@ -34,7 +36,7 @@ impl Holders {
     pub(crate) fn of(p: &[u16]) -> Holders
         requires small { length p.now ≤ MOST_BLOCKS }
         requires blocks { (l : ℕ) → l < length p.now → at p.now l < SET_WIDTH }
-        ensures { HeldFrom 0 p.now result }
+        ensures { AreHoldersFrom 0 p.now result }
     {
         let mut holders = Holders::new();
         for l in (0..p.len()).rev() {
@@ -48,8 +50,8 @@ impl Holders {
         requires small { length p.now ≤ MOST_BLOCKS }
         requires inside { l < length p.now }
         requires block { at p.now l < SET_WIDTH }
-        requires later { HeldFrom (l + 1) p.now self.old }
-        ensures { HeldFrom l p.now self.new }
+        requires later { AreHoldersFrom (l + 1) p.now self.old }
+        ensures { AreHoldersFrom l p.now self.new }
     {
         let block = p[l] as usize;
         self.held.insert(block);
@@ -60,8 +62,8 @@ impl Holders {
     pub fn take_out(&mut self, p: &[u16], l: usize)
         requires inside { l < length p.now }
         requires once { (m : ℕ) → m < length p.now → at p.now m ≡ at p.now l → m ≡ l }
-        requires first { HeldFrom l p.now self.old }
-        ensures { HeldFrom (l + 1) p.now self.new }
+        requires first { AreHoldersFrom l p.now self.old }
+        ensures { AreHoldersFrom (l + 1) p.now self.new }
     {
         self.held.remove(p[l] as usize);
     }
@@ -112,18 +114,17 @@ fn fresh(rows: &[BlockSet], bounds: Bounds, reached: BlockSet, l: usize) -> Opti
     }
 }
 
-/// Searches from the roots. Every step reaches a right block or is done with a left block, each of
+/// Searches from the roots along alternating paths, the least pending left block first, so neither
+/// by breadth nor by depth. Every step reaches a right block or is done with a left block, each of
 /// which happens at most once to each.
 pub fn search(rows: &[BlockSet], holders: &Holders, bounds: Bounds) -> Reach
     requires small { length rows.now ≤ MOST_BLOCKS }
     requires roots { (l : ℕ) → has bounds.roots l ≡ true → l < length rows.now }
-    requires inside { (l c : ℕ) → along rows.now bounds l c ≡ true → c < length rows.now }
+    requires inside { (l c : ℕ) → along rows.now bounds l c ≡ true → c < rights_in rows.now }
     requires held { (c : ℕ) → has holders.now.held c ≡ true
         → at holders.now.row c < length rows.now }
-    ensures reached { ReachedBy (length rows.now) (along rows.now bounds) (has bounds.roots)
-        (has holders.now.held) holders.now.row (has result.reached) result.from result.rank }
-    ensures goal { Ended (along rows.now bounds) (has bounds.roots) (has holders.now.held)
-        (has bounds.goals) holders.now.row (has result.reached) result.goal }
+    ensures reached { IsReach rows.now bounds holders.now result }
+    ensures goal { HasEnded rows.now bounds holders.now result result.goal }
 {
     let mut reached = BlockSet::empty();
     let mut from = [0u8; SET_WIDTH];
@@ -157,10 +158,10 @@ pub fn search(rows: &[BlockSet], holders: &Holders, bounds: Bounds) -> Reach
     }
 }
 
-/// Exchanges the pairs along the chain that a search came to the free right block `goal` by: the
-/// left block before it takes it and gives up the right block that it had, which the left block
-/// before takes, and so on back to a left block of `out`, the answer. The holders change with them.
-/// Ranks fall along the chain, so it has at most n steps.
+/// Exchanges the pairs along the chain that a search came to the free right block `goal` by, an
+/// augmenting path: the left block before it takes it and gives up the right block that it had,
+/// which the left block before takes, and so on back to a left block of `out`, the answer. The
+/// holders change with them. Ranks fall along the chain, so it has at most n steps.
 pub fn exchange(
     p: &mut [u16],
     holders: &mut Holders,
@@ -170,27 +171,20 @@ pub fn exchange(
 ) -> usize
     requires small { length p.old ≤ MOST_BLOCKS }
     requires distinct { GivesDistinct (length p.old) p.old (has out) }
-    requires ways { Ways (length p.old) p.old (has out) (has reach.now.reached) reach.now.from
-        reach.now.rank }
+    requires ways { Ways p.old (has out) reach.now }
     requires reached { has reach.now.reached goal ≡ true }
     requires free { (l : ℕ) → l < length p.old → has out l ≡ false → at p.old l ≢ goal }
-    ensures exchanged { Exchanged (length p.old) p.old p.new (has out) (has reach.now.reached)
-        reach.now.from result }
+    ensures exchanged { Exchanged p.old p.new (has out) reach.now result }
 
     // One right block more is had.
     ensures held { (c : ℕ) → has holders.new.held c ≡ (c == goal || has holders.old.held c) }
 
-    // Holders that told of the whole pairing do so still.
-    ensures told { Holding 0 (length p.old) p.old (has out) (has holders.old.held) holders.old.row
-        → Holding 0 (length p.old) p.new (without (has out) result) (has holders.new.held)
-        holders.new.row }
-
-    // So do those that told of the left blocks from k on, where the search came by no other one.
-    ensures told_from { (k : ℕ)
+    // Holders that told of the left blocks from k on do so still, where the search came by no other
+    // one. From 0 on it never does.
+    ensures told { (k : ℕ)
         → ((c : ℕ) → has reach.now.reached c ≡ true → k ≤ at reach.now.from c)
-        → Holding k (length p.old) p.old (has out) (has holders.old.held) holders.old.row
-        → Holding k (length p.old) p.new (without (has out) result) (has holders.new.held)
-        holders.new.row }
+        → Holding k p.old (has out) holders.old
+        → Holding k p.new (without (has out) result) holders.new }
 {
     holders.held.insert(goal);
     let mut block = goal;

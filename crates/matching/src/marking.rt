@@ -5,10 +5,10 @@ ghost use Rattle.std.specs.Prelude.{IfErr, OnOk, OnErr, nat_lt};
 ghost use Rattle.blockset.specs.declared.TheConstants.{MOST_BLOCKS};
 ghost use Rattle.blockset.specs.Has.{has};
 ghost use Rattle.pairing.specs.Grid.{at};
-ghost use Rattle.pairing.specs.Rows.{holds, Pairs, pairings};
+ghost use Rattle.pairing.specs.Rows.{holds, rights_in, Pairs, pairings};
 ghost use Rattle.pairing.specs.Places.{places_of};
 ghost use Rattle.matching.specs.Fit.{Fits, IsFirstCause};
-ghost use Rattle.matching.specs.Search.{Led};
+ghost use Rattle.matching.specs.Search.{AreLeads};
 ghost use Rattle.matching.specs.Answers.{MarksOf};
 
 use crate::fitting::{Unfit, fit};
@@ -20,7 +20,7 @@ fn steps(rows: &[BlockSet], p: &[u16]) -> [BlockSet; SET_WIDTH]
     requires small { length rows.now ≤ MOST_BLOCKS }
     requires pairs { Pairs rows.now p.now }
     ensures { (l c : ℕ) → l < length rows.now
-        → holds result (at p.now l) c ≡ (holds rows.now l c && nat_lt c (length rows.now)) }
+        → holds result (at p.now l) c ≡ (holds rows.now l c && nat_lt c (rights_in rows.now)) }
 {
     let all = BlockSet::all(rows.len());
     let mut led = [BlockSet::empty(); SET_WIDTH];
@@ -57,12 +57,13 @@ fn lead_through(led: &mut [BlockSet; SET_WIDTH], n: usize, k: usize)
     }
 }
 
-/// The right blocks that chains lead to from each right block. Chains that pass no right block but
-/// the first k, between their ends, are known after k rounds; so after n rounds all are.
+/// The right blocks that chains lead to from each right block: the transitive closure of the steps.
+/// Chains that pass no right block but the first k, between their ends, are known after k rounds; so
+/// after n rounds all are.
 fn leads(rows: &[BlockSet], p: &[u16]) -> [BlockSet; SET_WIDTH]
     requires small { length rows.now ≤ MOST_BLOCKS }
     requires pairs { Pairs rows.now p.now }
-    ensures { Led (length rows.now) rows.now p.now result }
+    ensures { AreLeads rows.now p.now result }
 {
     let mut led = steps(rows, p);
     for k in 0..rows.len() {
@@ -71,7 +72,8 @@ fn leads(rows: &[BlockSet], p: &[u16]) -> [BlockSet; SET_WIDTH]
     led
 }
 
-/// The right blocks that chains lead to from `own` and back from there.
+/// The right blocks that chains lead to from `own` and back from there: its strongly connected
+/// component.
 fn class_of(led: &[BlockSet; SET_WIDTH], own: usize) -> BlockSet
     requires { own < SET_WIDTH }
     ensures { (j : ℕ) → has result j ≡ (holds led.now own j && holds led.now j own) }

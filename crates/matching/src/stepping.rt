@@ -7,8 +7,8 @@ ghost use Rattle.blockset.specs.Has.{has};
 ghost use Rattle.pairing.specs.Grid.{at};
 ghost use Rattle.pairing.specs.Rows.{Pairs, pairings};
 ghost use Rattle.matching.specs.Fit.{Fits, Unfits};
-ghost use Rattle.matching.specs.Exchange.{HeldFrom};
-ghost use Rattle.matching.specs.Improving.{Improved, Unimproved, IsFirstFrom, WantedFrom};
+ghost use Rattle.matching.specs.Exchange.{AreHoldersFrom};
+ghost use Rattle.matching.specs.Improving.{IsImproved, IsUnimproved, IsFirstFrom, HasWantedFrom};
 ghost use Rattle.matching.specs.Answers.{IsNth, Follows};
 ghost use Rattle.matching.specs.Numbers.{step_number};
 
@@ -49,10 +49,10 @@ fn improve(rows: &[BlockSet], p: &mut [u16], holders: &mut Holders, l: usize, fl
     requires small { length rows.now ≤ MOST_BLOCKS }
     requires pairs { Pairs rows.now p.old }
     requires inside { l < length rows.now }
-    requires held { HeldFrom (l + 1) p.old holders.old }
-    ensures improved { MatchBool result (Improved rows.now l floor p.old p.new)
-        (Unimproved rows.now l floor p.old p.new) }
-    ensures held { HeldFrom (l + 1) p.new holders.new }
+    requires held { AreHoldersFrom (l + 1) p.old holders.old }
+    ensures improved { MatchBool result (IsImproved rows.now l floor p.old p.new)
+        (IsUnimproved rows.now l floor p.old p.new) }
+    ensures held { AreHoldersFrom (l + 1) p.new holders.new }
 {
     let own = p[l] as usize;
     let alone = BlockSet::of(l);
@@ -95,11 +95,11 @@ fn raise(
     requires small { length rows.now ≤ MOST_BLOCKS }
     requires pairs { Pairs rows.now p.old }
     requires inside { l < length rows.now }
-    requires held { HeldFrom (l + 1) p.old holders.old }
-    requires wanted { WantedFrom (l + 1) rows.now (has wanted) }
-    ensures improved { MatchBool result (Improved rows.now l (at p.old l + 1) p.old p.new)
-        (Unimproved rows.now l (at p.old l + 1) p.old p.new) }
-    ensures held { HeldFrom (l + 1) p.new holders.new }
+    requires held { AreHoldersFrom (l + 1) p.old holders.old }
+    requires wanted { HasWantedFrom (l + 1) rows.now (has wanted) }
+    ensures improved { MatchBool result (IsImproved rows.now l (at p.old l + 1) p.old p.new)
+        (IsUnimproved rows.now l (at p.old l + 1) p.old p.new) }
+    ensures held { AreHoldersFrom (l + 1) p.new holders.new }
 {
     let own = p[l] as usize;
     if !wanted.contains(own) {
@@ -114,7 +114,7 @@ fn make_first_from(rows: &[BlockSet], p: &mut [u16], holders: &mut Holders, low:
     requires small { length rows.now ≤ MOST_BLOCKS }
     requires pairs { Pairs rows.now p.old }
     requires inside { low ≤ length rows.now }
-    requires held { HeldFrom low p.old holders.old }
+    requires held { AreHoldersFrom low p.old holders.old }
     ensures { IsFirstFrom rows.now low p.old p.new }
 {
     for l in low..rows.len() {

@@ -5,6 +5,7 @@ use Rattle.std.proofs.Common.{replicate}
 use Rattle.std.proofs.lemmas.List.{get_or-set_same, get_or-set_other, length-set}
 use Rattle.blockset.specs.Has.{has}
 use Rattle.pairing.specs.Grid.{at}
+use Rattle.matching.specs.declared.chains.Holders.{Holders}
 use Rattle.matching.proofs.Inserting.{inserted}
 use Rattle.assign.proofs.Choosing.{choosing_none, cheapest_inside, choosing_skip, choosing_take}
 use Rattle.assign.proofs.pairs.pair_cheapest.Goals as goal
@@ -15,8 +16,9 @@ loop-c-init c = (
   tt,
   rw c.into_iter-c-iterator.ensures.into_iter_gives
       (choosing_none c.args.n (has c.args.cheapest.now.priced) (at c.args.cheapest.now.row)
-      c.requires.inside (has c.all-out.result) c.args.partners.now (has c.empty-held.result)
-      (replicate 64 0) c.requires.few c.all-out.ensures c.empty-held.ensures),
+      c.requires.inside (has c.all-out.result) c.args.partners.now
+      (record { held = c.empty-held.result; row = replicate 64 0 }) c.requires.sized
+      c.requires.few c.all-out.ensures c.empty-held.ensures),
   refl,
 )
 
@@ -29,11 +31,12 @@ loop-c-preserved-then-contains c =
     let held = has c.loop-c.held in
     let p = c.loop-c.partners in
     let who = c.loop-c.row in
+    let o : Holders = record { held = c.loop-c.held; row = who } in
     let r = c.in-Some.c in
     let l = row r in
     let steps = c.in-Some.ensures.steps in
     let rest' = has c.next.new.self in
-    let lies = cheapest_inside c.args.n priced row c.requires.inside rest out p held who
+    let lies = cheapest_inside c.args.n priced row c.requires.inside rest out p o
     c.loop-c.invariant.2 r rest' steps.others steps.member steps.least in
     let in-partners : at c.args.cheapest.now.row c.in-Some.c < length c.loop-c.partners =
     omega (arith, c.requires.sized) in
@@ -41,9 +44,10 @@ loop-c-preserved-then-contains c =
     omega (arith, steps.is_block, c.loop-c.invariant.3) in (
       tt,
       tt,
-      choosing_take c.args.n priced row c.requires.inside rest out p held who c.loop-c.invariant.2 r
+      choosing_take c.args.n priced row c.requires.inside rest out p o c.loop-c.invariant.2 r
           rest' steps.others steps.member steps.least (has c.remove.new.self) (set p l r)
-          (has c.insert.new.self) (set who r l) c.remove.ensures
+          (record { held = c.insert.new.self; row = set who r l }) (length-set p l r)
+          c.remove.ensures
           (get_or-set_same p l r 0 in-partners) (λ j ne. get_or-set_other p l j r 0 ne)
           (inserted held (has c.insert.new.self) r steps.is_block c.insert.ensures)
           (get_or-set_same who r l 0 in-who) (λ j ne. get_or-set_other who r j l 0 ne)
@@ -60,7 +64,8 @@ loop-c-preserved c =
       tt,
       tt,
       choosing_skip c.args.n (has c.args.cheapest.now.priced) row c.requires.inside
-          (has c.loop-c.c-iterator) out c.loop-c.partners (has c.loop-c.held) c.loop-c.row
+          (has c.loop-c.c-iterator) out c.loop-c.partners
+          (record { held = c.loop-c.held; row = c.loop-c.row })
           c.loop-c.invariant.2 r (has c.next.new.self) steps.others steps.member steps.least
           (sym {b = out (row r)} c.if-contains.ensures),
       c.loop-c.invariant.3,

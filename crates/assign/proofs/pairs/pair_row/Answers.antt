@@ -8,7 +8,7 @@ use Rattle.cost.specs.Weights.{weight}
 use Rattle.blockset.specs.Has.{has}
 use Rattle.pairing.specs.Grid.{at}
 use Rattle.pairing.specs.Rows.{holds}
-use Rattle.matching.specs.Exchange.{without, GivesDistinct, Holding, Ways, Exchanged}
+use Rattle.matching.specs.Exchange.{without, GivesDistinct, Holding, Exchanged}
 use Rattle.assign.specs.Weighed.{weight_at, cost_weight}
 use Rattle.assign.specs.Search.{Ends, from_row}
 use Rattle.assign.specs.Trees.{stage_in}
@@ -25,10 +25,11 @@ grow_from-tree-requires g c =
       rights = c.requires.rights;
       dists = c.requires.lefts;
       room = c.requires.room;
-      holders = kept.holding.high;
+      holders = λ j t. omega (arith, kept.holding.high j t, kept.pairs.len);
       own = λ j t. subst (λ (z : ℕ). holds c.args.rows.now (at o.row j) z ≡ true)
           (kept.holding.owner j t)
-          (kept.pairs.standing (at o.row j) (kept.holding.high j t) (kept.holding.inside j t));
+          (kept.pairs.standing (at o.row j)
+          (omega (arith, kept.holding.high j t, kept.pairs.len)) (kept.holding.inside j t));
       priced = c.requires.paired.priced;
     }
 
@@ -78,13 +79,11 @@ exchange-requires g c =
       small = omega (arith, c.requires.partnered, c.requires.lent.few);
       distinct = subst (λ z. GivesDistinct z p out) (sym c.requires.partnered)
           (distinct_of n stands cost out p o v kept);
-      ways = subst (λ z. Ways z p out taken tree.taken.from tree.taken.rank)
-          (sym c.requires.partnered)
-          (ways_of n k stands cost out p o v kept c.requires.room c.requires.unpaired d taken seen
-          tree.taken.from tree.taken.rank found.3.0 f found.3.1 c.grow_from-tree.ensures.inside);
+      ways = ways_of n k stands cost out p o v kept c.requires.room c.requires.unpaired d
+          tree.taken seen found.3.0 f found.3.1 c.grow_from-tree.ensures.inside;
       reached = taken_is taken seen tree.taken.rank f found.1;
       free = λ l h. goal_free n k stands cost out p o v kept c.requires.room c.requires.unpaired d
-          taken seen tree.taken.from tree.taken.rank found.3.0 f found.3.1
+          tree.taken seen found.3.0 f found.3.1
           c.grow_from-tree.ensures.inside found.2 l (omega (arith, c.requires.partnered));
     }
 
@@ -115,13 +114,9 @@ returns-in-Some g c =
     let p' = c.exchange.new.p in
     let o' = c.exchange.new.holders in
     let r = c.exchange.result in
-    let exchanged = subst (λ z. Exchanged z p p' out taken from r) c.requires.partnered
-    c.exchange.ensures.exchanged in
-    let told = subst (λ z. Holding 0 z p out (has o.held) o.row
-    → Holding 0 z p' (without out r) (has o'.held) o'.row) c.requires.partnered
-    c.exchange.ensures.told in
-    let root = root_is n k stands cost out p o v kept c.requires.room c.requires.unpaired d taken
-    seen from rank found.3.0 f found.3.1 inside r p' exchanged in
+    let exchanged = c.exchange.ensures.exchanged in
+    let root = root_is n k stands cost out p o v kept c.requires.room c.requires.unpaired d
+    tree.taken seen found.3.0 f found.3.1 inside r p' exchanged in
     let free : (j : ℕ) → has o'.held j ≡ false → (has o.held j ≡ false) × (j ≡ f → ⊥) = λ j q. (
       ⊎_elim (λ t. absurd (both_ways (has o'.held j) q
           (c.exchange.ensures.held j ∙ or_right (eqb j f) (has o.held j) t))) (λ z. z)
@@ -130,18 +125,19 @@ returns-in-Some g c =
           (c.exchange.ensures.held j ∙ or_left (eqb j f) (has o.held j) (eq-eqb j f e)),
     ) in
     record {
-      kept = added n k stands cost out p o v kept c.requires.room c.requires.unpaired d taken seen
-          from rank found.3.0 f found.3.1 inside found.0 found.1 found.2 v' c.lower.ensures.fallen
+      kept = added n k stands cost out p o v kept c.requires.room c.requires.unpaired d
+          tree.taken seen found.3.0 f found.3.1 inside found.0 found.1 found.2 v'
+          c.lower.ensures.fallen
           (λ j t. ap weight (c.lower.ensures.same j t)) p' o'
-          (subst (Exchanged n p p' out taken from) root exchanged)
-          (subst (λ z. Holding 0 n p' (without out z) (has o'.held) o'.row) root
-          (told kept.holding));
+          (subst (Exchanged p p' out tree.taken) root exchanged)
+          (subst (λ z. Holding 0 p' (without out z) o') root
+          (c.exchange.ensures.told 0 (λ j t. omega arith) kept.holding));
       priced = λ j h. c.lower.ensures.bound j (omega (arith, long));
       unsold = λ j h q.
           subst (Within COST_LIMIT)
           (sym (c.lower.ensures.same j
-          (untaken n k stands cost out p o v kept c.requires.room c.requires.unpaired d taken seen
-          from rank found.3.0 f found.3.1 inside j h (free j q).0 (free j q).1)))
+          (untaken n k stands cost out p o v kept c.requires.room c.requires.unpaired d
+          tree.taken seen found.3.0 f found.3.1 inside j h (free j q).0 (free j q).1)))
           (c.requires.paired.unsold j h (free j q).0);
     }
 
@@ -162,5 +158,5 @@ returns-in_default g c =
     let stuck = subst (Ends n stands cost out (from_row stands cost k) p o v d (stage_in tree)
     (at tree.taken.from)) c.in_default.is (c.grow_from-tree.ensures.grown out p kept) in
     absurd (never n k stands cost out p o v kept c.requires.room c.requires.unpaired d
-    (has tree.taken.reached) (has tree.seen) tree.taken.from tree.taken.rank
+    tree.taken (has tree.seen)
     stuck.1.0 stuck.1.1 stuck.0 c.requires.possible.0 c.requires.possible.1)

@@ -27,7 +27,7 @@ grow-requires g c =
       rights = c.requires.rights;
       dists = omega (arith, c.clear.auto.table, c.requires.lefts);
       begins = below;
-      holders = kept.holding.high;
+      holders = λ j t. omega (arith, kept.holding.high j t, kept.pairs.len);
       own = owner_stands n (holds c.args.rows.now) (cost_weight kind n c.args.costs.now)
           c.args.partners.now c.args.holders.now (weight_at kind c.args.right.now) kept;
       near = λ k t. cleared_within kind g.K.Cost.zero g.K.Cost.columns

@@ -10,7 +10,6 @@ use Rattle.cost.proofs.Exact.{within_more}
 use Rattle.cost.specs.Weights.{weight}
 use Rattle.blockset.specs.Has.{has}
 use Rattle.pairing.specs.Rows.{holds}
-use Rattle.matching.specs.Exchange.{Holding}
 use Rattle.tables.specs.Said.{columns_at}
 use Rattle.tables.proofs.Filling.{row_length, columns_at_lem}
 use Rattle.assign.specs.declared.limits.TheConstants.{REDUCED_LIMIT, INNER_PRICE_LIMIT}
@@ -130,13 +129,11 @@ returns-clause-paired g c =
     (λ i lies. c.requires.near i (omega (arith, long))) (omega arith)) in
     let seated = subst (λ z. Seated z (has c.args.out.now) c.args.partners.now l j
     (has c.seat.new.out) c.seat.new.partners) c.requires.partnered c.seat.ensures.seated in
-    let told = subst (λ z. Holding 0 z c.seat.new.partners (has c.seat.new.out) held'
-    c.seat.new.holders.row) c.requires.partnered c.seat.ensures.told in
     record {
       kept = reduced_kept n (holds c.args.rows.now) (cost_weight kind n costs)
           (has c.args.out.now) c.args.partners.now c.args.holders.now (weight_at kind right)
           c.requires.paired.kept l j inside (weight (kind.meaning price)) bid
-          (has c.seat.new.out) c.seat.new.partners seated c.seat.new.holders told
+          (has c.seat.new.out) c.seat.new.partners seated c.seat.new.holders c.seat.ensures.told
           (weight_at kind right') (ap weight here)
           (λ k ne. ap weight (put_other kind right j k price ne));
       priced = λ k h. ⊎_elim

@@ -53,7 +53,8 @@ loop-step-preserved g c =
           (first_turn kind rows costs now.out now.holders now.right new.holders new.right l least
           now.partners new.partners new.out
           (c.reduce_row.ensures.paired.kept.holding.all l (omega arith)
-          (now.invariant.0 l least.1)) c.reduce_row.result c.reduce_row.ensures.reduced))))
+          (omega (arith, now.invariant.0 l least.1, c.reduce_row.ensures.paired.kept.pairs.len)))
+          c.reduce_row.result c.reduce_row.ensures.reduced))))
           (λ done. bid_stays kind rows costs first.out first.holders.held was now.holders.held
           now.right new.holders.held new.right done c.reduce_row.ensures.goes_on)
           now.invariant.6),

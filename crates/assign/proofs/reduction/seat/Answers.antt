@@ -1,6 +1,6 @@
 -- The new holders are those of proofs/Seating.antt, where another left block had the right block.
 use Rattle.std.proofs.Common.{◌≡◌, length, set, sym, ◌∙◌, arith, rules}
-use Rattle.std.proofs.lemmas.List.{get_or-set_same, get_or-set_other}
+use Rattle.std.proofs.lemmas.List.{get_or-set_same, get_or-set_other, length-set}
 use Rattle.blockset.specs.Has.{has}
 use Rattle.pairing.specs.Grid.{at}
 use Rattle.matching.proofs.Inserting.{inserted}
@@ -9,7 +9,6 @@ use Rattle.assign.proofs.reduction.seat.Goals as goal
 
 pub returns-then-was_held-clause-told : goal.returns-then-was_held-clause-told
 returns-then-was_held-clause-told c =
-    let n = length c.args.partners.now in
     let p = c.args.partners.now in
     let out = has c.args.out.now in
     let held = has c.args.holders.now.held in
@@ -19,15 +18,16 @@ returns-then-was_held-clause-told c =
     let mine = sym c.contains-was_held.ensures ∙ c.if-was_held.true in
     let few = c.requires.few in
     let wide : length c.args.holders.now.row ≡ 64 = search rules in
-    seated_told n out held p row l r c.requires.room c.requires.left_out c.requires.distinct
+    seated_told out p c.args.holders.now l r c.requires.room c.requires.left_out c.requires.distinct
     c.requires.told (has c.insert-then-was_held.new.self)
     (ousts_owner out held row l r (has c.remove.new.self) c.remove.ensures mine
     (has c.insert-then-was_held.new.self)
     (inserted (has c.remove.new.self) (has c.insert-then-was_held.new.self) (at row r)
     (omega (arith, few, c.requires.told.high r mine)) c.insert-then-was_held.ensures))
-    (set p l r) (get_or-set_same p l r 0 c.requires.room) (λ m ne. get_or-set_other p l m r 0 ne)
-    (has c.insert.new.self)
+    (set p l r) (length-set p l r) (get_or-set_same p l r 0 c.requires.room)
+    (λ m ne. get_or-set_other p l m r 0 ne)
+    (record { held = c.insert.new.self; row = set row r l })
     (inserted held (has c.insert.new.self) r (omega (arith, few, c.requires.below))
     c.insert.ensures)
-    (set row r l) (get_or-set_same row r l 0 (omega (arith, few, c.requires.below, wide)))
+    (get_or-set_same row r l 0 (omega (arith, few, c.requires.below, wide)))
     (λ j ne. get_or-set_other row r j l 0 ne)

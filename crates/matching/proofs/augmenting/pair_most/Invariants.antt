@@ -4,17 +4,13 @@ use Rattle.std.proofs.Common.{◌≡◌, ℕ, ◌<◌, true, length}
 use Rattle.blockset.specs.Has.{has}
 use Rattle.blockset.specs.Sets.{members}
 use Rattle.pairing.specs.Grid.{at}
-use Rattle.pairing.specs.Largest.{Partial}
-use Rattle.pairing.specs.Rows.{holds}
-use Rattle.matching.specs.Exchange.{Holding}
+use Rattle.matching.proofs.Most.{Pairing}
 use Rattle.matching.proofs.augmenting.pair_most.Given as goal
 
 abbrev pub invariant-rounds : goal.invariant-rounds
 invariant-rounds l = record {
-  part : Partial (length l.rows) (holds l.rows) l.p (has l.out);
-  inside : (j : ℕ) → has l.out j ≡ true → j < length l.rows;
+  pairing : Pairing l.rows l.p l.out l.holders;
   kept : (j : ℕ) → j < length l.rows → has l.out j ≡ true → at l.p j ≡ at l.initial.p j;
-  holders : Holding 0 (length l.rows) l.p (has l.out) (has l.holders.held) l.holders.row;
 }
 
 abbrev pub decreases-rounds : goal.decreases-rounds

@@ -8,15 +8,12 @@ use Rattle.matching.proofs.chains.exchange.Given as goal
 
 abbrev pub invariant-chain : goal.invariant-chain
 invariant-chain l = record {
-  way : Exchanging (length l.initial.p) l.initial.p (has l.out) (has l.reach.reached) l.reach.from
-      l.reach.rank l.goal l.p l.block;
+  way : Exchanging l.initial.p (has l.out) l.reach l.goal l.p l.block;
   same : l.holders.held ≡ l.initial.holders.held;
   sized : length l.holders.row ≡ 64;
-  told : (k : ℕ) → Holding k (length l.initial.p) l.initial.p (has l.out)
-      (has l.fn.holders.held) l.fn.holders.row
+  told : (k : ℕ) → Holding k l.initial.p (has l.out) l.fn.holders
       → ((c : ℕ) → has l.reach.reached c ≡ true → k ≤ at l.reach.from c)
-      → Telling (length l.initial.p) l.initial.p (has l.out) (has l.reach.reached) l.reach.from
-      l.reach.rank l.goal k l.p l.holders.row (has l.initial.holders.held) l.block;
+      → Telling l.initial.p (has l.out) l.reach k l.p l.holders l.block;
 }
 
 abbrev pub decreases-chain : goal.decreases-chain

@@ -1,17 +1,15 @@
 -- Every turn reaches a right block, which may make one left block pending, or is done with a
 -- pending one. So the measure falls, and with it there are at most 2n turns and one for each root.
-use Rattle.std.proofs.Common.{◌+◌, ◌-◌, ◌*◌, length}
+use Rattle.std.proofs.Common.{◌+◌, ◌-◌, ◌*◌, length, None}
 use Rattle.blockset.specs.Has.{has}
 use Rattle.blockset.specs.Sets.{members}
-use Rattle.matching.specs.Search.{along}
 use Rattle.matching.proofs.Searching.{Searching}
 use Rattle.matching.proofs.chains.search.Given as goal
 
 abbrev pub invariant-loop-l : goal.invariant-loop-l
 invariant-loop-l l =
-    Searching (length l.rows) (along l.rows l.bounds) (has l.bounds.roots) (has l.holders.held)
-    (has l.bounds.goals) l.holders.row
-    (has l.pending) (has l.reached) l.from l.rank
+    Searching l.rows l.bounds l.holders
+    (record { reached = l.reached; from = l.from; rank = l.rank; goal = None }) l.pending
 
 abbrev pub decreases-loop-l : goal.decreases-loop-l
 decreases-loop-l l = 2 * (length l.rows - members 64 (has l.reached)) + members 64 (has l.pending)

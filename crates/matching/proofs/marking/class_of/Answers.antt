@@ -37,13 +37,15 @@ pub loop-c-preserved-then-contains : goal.loop-c-preserved-then-contains
 loop-c-preserved-then-contains c =
     let led = c.args.led.now in
     let own = c.args.own in
-    let steps = c.in-Some.ensures.steps in (
-      tt,
-      tt,
-      λ j t. c.loop-c.invariant.2 j (and_parts _ _ (sym (steps.others j) ∙ t)).0,
-      taken (holds led own) (λ j. holds led j own) (has c.loop-c.c-iterator) (has c.next.new.self)
-          (has c.loop-c.class) (has c.insert.new.self) c.in-Some.c steps.others
+    let i = c.loop-c.invariant in
+    let steps = c.in-Some.ensures.steps in
+    record {
+      can_next = tt;
+      finite = tt;
+      rest = λ j t. i.rest j (and_parts _ _ (sym (steps.others j) ∙ t)).0;
+      class = taken (holds led own) (λ j. holds led j own) (has c.loop-c.c-iterator)
+          (has c.next.new.self) (has c.loop-c.class) (has c.insert.new.self) c.in-Some.c
+          steps.others
           (inserted (has c.loop-c.class) (has c.insert.new.self) c.in-Some.c steps.is_block
-          c.insert.ensures) c.loop-c.invariant.3 (c.loop-c.invariant.2 c.in-Some.c steps.member)
-          (sym c.if-contains.ensures),
-    )
+          c.insert.ensures) i.class (i.rest c.in-Some.c steps.member) (sym c.if-contains.ensures);
+    }

@@ -5,8 +5,10 @@ use Rattle.pairing.specs.Rows.{holds}
 use Rattle.matching.proofs.marking.class_of.Given as goal
 
 abbrev pub invariant-loop-c : goal.invariant-loop-c
-invariant-loop-c l =
-    (goal.iterator-loop-c).can_next l.c-iterator × (goal.iterator-loop-c).is_finite l.c-iterator
-    × ((j : ℕ) → has l.c-iterator j ≡ true → holds l.led l.own j ≡ true)
-    × ((j : ℕ) → has l.class j
-    ≡ (holds l.led l.own j && (not (has l.c-iterator j) && holds l.led j l.own)))
+invariant-loop-c l = record {
+  can_next : (goal.iterator-loop-c).can_next l.c-iterator;
+  finite : (goal.iterator-loop-c).is_finite l.c-iterator;
+  rest : (j : ℕ) → has l.c-iterator j ≡ true → holds l.led l.own j ≡ true;
+  class : (j : ℕ) → has l.class j
+      ≡ (holds l.led l.own j && (not (has l.c-iterator j) && holds l.led j l.own));
+}

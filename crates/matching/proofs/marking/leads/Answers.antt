@@ -1,24 +1,14 @@
 -- Each round, and the end, are those of proofs/Closing.antt.
-use Rattle.std.proofs.Common.{length, arith}
-use Rattle.pairing.specs.Rows.{holds}
+use Rattle.std.proofs.Common.{arith}
 use Rattle.matching.proofs.Closing.{closing_start, closing_more, closing_done}
 use Rattle.matching.proofs.marking.leads.Goals as goal
 
 pub loop-k-init : goal.loop-k-init
-loop-k-init c =
-    let rows = c.args.rows.now in
-    closing_start (length rows) (holds rows) c.args.p.now c.requires.pairs
-    (holds c.steps-led.result) c.steps-led.ensures
+loop-k-init c = closing_start c.requires.pairs c.steps-led.ensures
 
 pub loop-k-preserved : goal.loop-k-preserved
 loop-k-preserved c =
-    let rows = c.args.rows.now in
-    closing_more (length rows) (holds rows) c.args.p.now c.requires.pairs (holds c.loop-k.led)
-    c.loop-k.k c.loop-k.invariant (omega arith) (holds c.lead_through.new.led)
-    c.lead_through.ensures
+    closing_more c.requires.pairs c.loop-k.invariant (omega arith) c.lead_through.ensures
 
 pub returns : goal.returns
-returns c =
-    let rows = c.args.rows.now in
-    closing_done (length rows) (holds rows) c.args.p.now c.requires.pairs (holds c.loop-k.led)
-    c.loop-k.k c.loop-k.invariant (omega arith)
+returns c = closing_done c.requires.pairs c.loop-k.invariant (omega arith)

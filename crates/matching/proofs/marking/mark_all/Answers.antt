@@ -10,7 +10,7 @@ use Rattle.pairing.specs.Optima.{has_pair}
 use Rattle.pairing.specs.Rows.{holds, pairings}
 use Rattle.std.proofs.lemmas.List.{get_or-replicate}
 use Rattle.blockset.specs.Has.{has, no_blocks}
-use Rattle.matching.proofs.Leading.{IsClass, Classes, classes_more, is_class, in_class}
+use Rattle.matching.proofs.Leading.{AreClasses, classes_more, is_class, in_class}
 use Rattle.matching.proofs.Leading.{class_occurs, put_before, put_inside}
 use Rattle.matching.proofs.marking.mark_all.Goals as goal
 use Rattle.matching.proofs.marking.mark_all.Goals.{then-is_empty, else-is_empty}
@@ -31,43 +31,39 @@ loop-l-init c = record {
 pub loop-l-preserved : goal.loop-l-preserved
 loop-l-preserved c =
     let rows = c.args.rows.now in
-    let p = c.args.p.now in
     let n = length rows in
     let l = c.loop-l.l in
-    let own = at p l in
+    let own = at c.args.p.now l in
+    let h = c.requires.pairs in
     let led = c.leads-led.result in
+    let leads = c.leads-led.ensures in
     let classes = c.if-is_empty.classes in
+    let old = c.loop-l.invariant.classes in
     let inside : l < n = omega arith in
-    let low : at p l < n = c.requires.pairs.below l inside in
+    let low : own < n = h.below l inside in
     let short : l * n ≤ length c.loop-l.table = omega (arith, row_end l n inside) in
-    let known : Classes n led classes
-    × ((j : ℕ) → j < n
-    → holds classes (at p l) j ≡ (holds led (at p l) j && holds led j (at p l))) =
+    let known : AreClasses n led classes
+    × ((j : ℕ) → j < n → holds classes own j ≡ (holds led own j && holds led j own)) =
     elim c.if-is_empty.branch [
       | then-is_empty w ↦
           let class = has w.class_of.result in
-          let leads = c.leads-led.ensures in
-          let one : IsClass n led class = is_class rows p led c.requires.pairs leads own low class
-          w.class_of.ensures in
           let is : (i j : ℕ) → holds classes i j
           ≡ cond (class i) (class j) (holds c.loop-l.classes i j) =
           λ i j. ap (λ s. holds s i j) w.classes-is ∙ w.note_class.ensures i j in (
-            classes_more n led c.loop-l.classes classes class one c.loop-l.invariant.classes is,
+            classes_more n led c.loop-l.classes classes class
+                (is_class rows h led leads own low class w.class_of.ensures) old is,
             λ j b. is own j ∙ cond-true (class own) _ _
-                (in_class rows p led c.requires.pairs leads own low class w.class_of.ensures)
+                (in_class rows h led leads own low class w.class_of.ensures)
                 ∙ w.class_of.ensures j,
           )
-      | else-is_empty w ↦
-          let old = c.loop-l.invariant.classes in
-          let same : (j : ℕ) → holds classes (at p l) j ≡ holds c.loop-l.classes (at p l) j =
-          λ j. ap (λ s. holds s (at p l) j) w.classes-is in (
-            subst (Classes n led) (sym w.classes-is) old,
-            elim (old (at p l) low) [
-              | inl e ↦ absurd (both_ways c.is_empty.result w.if-is_empty.false
-                  (c.is_empty.ensures.1 e))
-              | inr e ↦ λ j b. same j ∙ e j b
-            ],
-          )
+      | else-is_empty w ↦ (
+        subst (AreClasses n led) (sym w.classes-is) old,
+        elim (old own low) [
+          | inl e ↦ absurd (both_ways c.is_empty.result w.if-is_empty.false
+              (c.is_empty.ensures.1 e))
+          | inr e ↦ λ j b. ap (λ s. holds s own j) w.classes-is ∙ e j b
+        ],
+      )
     ] in
     record {
       classes = known.0;
@@ -80,8 +76,7 @@ loop-l-preserved c =
             ∙ c.mark_row.ensures r (omega (arith, row_end l n inside))
             ∙ ap (λ b. cond b 1 0)
             (c.intersection.ensures r
-            ∙ class_occurs rows p led c.requires.pairs c.leads-led.ensures l r inside j
-            (holds classes own) known.1)
+            ∙ class_occurs rows h led leads l r inside j (holds classes own) known.1)
             ∙ ap (λ x. cond (has_pair x r (pairings rows)) 1 0) (sym e)
         | inr ne ↦ put_before (l * n) (l * n + n - l * n) c.loop-l.table c.mark_row.new.marks short
             (m * n + r) (omega (arith, mul-add-lt m n r l (omega arith) j))

@@ -3,12 +3,12 @@ use Rattle.std.proofs.Common.{◌≡◌, ℕ, ◌+◌, ◌*◌, ◌<◌, cond, l
 use Rattle.pairing.specs.Grid.{at}
 use Rattle.pairing.specs.Optima.{has_pair}
 use Rattle.pairing.specs.Rows.{pairings}
-use Rattle.matching.proofs.Leading.{Classes}
+use Rattle.matching.proofs.Leading.{AreClasses}
 use Rattle.matching.proofs.marking.mark_all.Given as goal
 
 abbrev pub invariant-loop-l : goal.invariant-loop-l
 invariant-loop-l l = record {
   marked : (m r : ℕ) → m < l.l → r < length l.rows
       → at l.table (m * length l.rows + r) ≡ cond (has_pair m r (pairings l.rows)) 1 0;
-  classes : Classes (length l.rows) l.led l.classes;
+  classes : AreClasses (length l.rows) l.led l.classes;
 }
