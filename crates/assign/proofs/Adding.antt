@@ -238,11 +238,11 @@ module _ (n k : ℕ) (stands : ℕ → ℕ → Bool) (cost : ℕ → ℕ → ℤ
     -- each taken right block has a left block of its own among those that were looked at
     enough : members n taken ≤ members n looked_at
     unfolding looked_at
-    enough = inject_le n n taken looked_at (λ c _. at o.row c)
+    enough = inject_le n n taken looked_at (λ c _. at o.owner c)
         (λ c m h. let w = had c h m in (
           omega (arith, kept.holding.high c w, kept.pairs.len),
-          and_from (not (out (at o.row c))) (taken (at p (at o.row c)))
-              (not_from_false (out (at o.row c)) (kept.holding.inside c w))
+          and_from (not (out (at o.owner c))) (taken (at p (at o.owner c)))
+              (not_from_false (out (at o.owner c)) (kept.holding.inside c w))
               (subst (λ (z : ℕ). taken z ≡ true) (sym (kept.holding.owner c w)) m),
         ))
         (λ a b ma mb ha hb e. sym (kept.holding.owner a (had a ha ma)) ∙ ap (at p) e

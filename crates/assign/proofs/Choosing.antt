@@ -87,8 +87,8 @@ module _ (n : ℕ) (priced : ℕ → Bool) (row : ℕ → ℕ) (inside : (c : �
         → length p' ≡ length p
         → ((l : ℕ) → out' l ≡ (out l && not (eqb l (row c))))
         → at p' (row c) ≡ c → ((l : ℕ) → (l ≡ row c → ⊥) → at p' l ≡ at p l)
-        → ((j : ℕ) → has o'.held j ≡ (eqb j c || held j)) → at o'.row c ≡ row c
-        → ((j : ℕ) → (j ≡ c → ⊥) → at o'.row j ≡ at o.row j)
+        → ((j : ℕ) → has o'.held j ≡ (eqb j c || held j)) → at o'.owner c ≡ row c
+        → ((j : ℕ) → (j ≡ c → ⊥) → at o'.owner j ≡ at o.owner j)
         → out (row c) ≡ true → Choosing n priced row rest' out' p' o'
     choosing_take out' p' o' long less new same more new-owner same-owner unpaired = record {
       sized = long ∙ so_far.sized;
@@ -125,22 +125,22 @@ module _ (n : ℕ) (priced : ℕ → Bool) (row : ℕ → ℕ) (inside : (c : �
             (cases_eq l (row c));
         low = λ j m. omega arith;
         high = λ j m. ⊎_elim
-            (λ (e : j ≡ c). let q : at o'.row j ≡ row c = ap (at o'.row) e ∙ new-owner in
+            (λ (e : j ≡ c). let q : at o'.owner j ≡ row c = ap (at o'.owner) e ∙ new-owner in
             omega (arith, cheapest_inside.1, long, so_far.sized))
             (λ (e : j ≡ c → ⊥). omega
             (arith, long, same-owner j e, had.high j (old_from held (has o'.held) c more j m e)))
             (cases_eq j c);
         inside = λ j m. ⊎_elim
             (λ (e : j ≡ c). subst (λ (z : ℕ). out' z ≡ false)
-            (sym (ap (at o'.row) e ∙ new-owner)) (out_of out out' (row c) less))
+            (sym (ap (at o'.owner) e ∙ new-owner)) (out_of out out' (row c) less))
             (λ (e : j ≡ c → ⊥). subst (λ (z : ℕ). out' z ≡ false) (sym (same-owner j e))
-            (still (at o.row j) (had.inside j (old_from held (has o'.held) c more j m e))))
+            (still (at o.owner j) (had.inside j (old_from held (has o'.held) c more j m e))))
             (cases_eq j c);
         owner = λ j m. ⊎_elim
-            (λ (e : j ≡ c). ap (at p') (ap (at o'.row) e ∙ new-owner) ∙ new ∙ sym e)
+            (λ (e : j ≡ c). ap (at p') (ap (at o'.owner) e ∙ new-owner) ∙ new ∙ sym e)
             (λ (e : j ≡ c → ⊥).
             let m' = old_from held (has o'.held) c more j m e in
-            ap (at p') (same-owner j e) ∙ same (at o.row j) (other (at o.row j) (had.inside j m'))
+            ap (at p') (same-owner j e) ∙ same (at o.owner j) (other (at o.owner j) (had.inside j m'))
             ∙ had.owner j m')
             (cases_eq j c);
       };

@@ -14,10 +14,10 @@ use Rattle.assign.specs.Search.{Kept, Start, Grown}
 -- the right block of a left block is had by it
 pub own_row : (n : ℕ) (stands : ℕ → ℕ → Bool) (cost : ℕ → ℕ → ℤ) (out : ℕ → Bool) (p : List ℕ)
     (o : Holders) (v : ℕ → ℤ) → Kept n stands cost out p o v → (l : ℕ) → l < n → out l ≡ false
-    → at o.row (at p l) ≡ l
+    → at o.owner (at p l) ≡ l
 own_row n stands cost out p o v kept l h u =
     let t = kept.holding.all l (omega arith) (omega (arith, kept.pairs.len)) u in
-    kept.pairs.once (at o.row (at p l)) l
+    kept.pairs.once (at o.owner (at p l)) l
     (omega (arith, kept.holding.high (at p l) t, kept.pairs.len)) h
     (kept.holding.inside (at p l) t) u (kept.holding.owner (at p l) t)
 
@@ -122,7 +122,7 @@ module _ (n : ℕ) (stands : ℕ → ℕ → Bool) (cost : ℕ → ℕ → ℤ) 
       (oa : has o.held a ≡ true)
       (g : Grown n stands cost out start p o v d stage via t a)
       (d' : ℕ → ℤ) (stage' via' : ℕ → ℕ)
-      (r : (c : ℕ) → c < n → Eased stands cost (at o.row a) a d stage via d' stage' via' c) where
+      (r : (c : ℕ) → c < n → Eased stands cost (at o.owner a) a d stage via d' stage' via' c) where
     taken : (c : ℕ) → c < n → 2 ≤ stage c → (d' c ≡ d c) × (stage' c ≡ stage c) × (via' c ≡ via c)
     taken c h m = ⊎_elim (λ s. s) (λ s. absurd (omega (arith, s.1))) (r c h).change
 
@@ -133,20 +133,20 @@ module _ (n : ℕ) (stands : ℕ → ℕ → Bool) (cost : ℕ → ℕ → ℤ) 
     stays : (c : ℕ) → c < n → 1 ≤ stage c → 1 ≤ stage' c
     stays c h m = ⊎_elim (λ s. omega (arith, s.1)) (λ s. omega (arith, s.2)) (r c h).change
 
-    own : at p (at o.row a) ≡ a
+    own : at p (at o.owner a) ≡ a
     own = kept.holding.owner a oa
 
     -- what the prices say of the left block of a
-    fair : (c : ℕ) → c < n → stands (at o.row a) c ≡ true
-        → (v c +ℤ cost (at o.row a) a) ≤ℤ (v a +ℤ cost (at o.row a) c)
+    fair : (c : ℕ) → c < n → stands (at o.owner a) c ≡ true
+        → (v c +ℤ cost (at o.owner a) a) ≤ℤ (v a +ℤ cost (at o.owner a) c)
     fair c h s =
-        let q : v (at p (at o.row a)) ≡ v a = ap v own in
-        let q' : cost (at o.row a) (at p (at o.row a)) ≡ cost (at o.row a) a =
-        ap (cost (at o.row a)) own in
+        let q : v (at p (at o.owner a)) ≡ v a = ap v own in
+        let q' : cost (at o.owner a) (at p (at o.owner a)) ≡ cost (at o.owner a) a =
+        ap (cost (at o.owner a)) own in
         omega (
           arith,
           ints,
-          kept.fair (at o.row a) c (omega (arith, kept.holding.high a oa, kept.pairs.len))
+          kept.fair (at o.owner a) c (omega (arith, kept.holding.high a oa, kept.pairs.len))
               (kept.holding.inside a oa) h s,
         )
 
@@ -159,11 +159,11 @@ module _ (n : ℕ) (stands : ℕ → ℕ → Bool) (cost : ℕ → ℕ → ℤ) 
           let tb = taken b hb mb in
           ⊎_elim
           (λ (e : b ≡ a).
-          let s' : stands (at o.row a) c ≡ true = subst (λ (z : ℕ). stands (at o.row z) c ≡ true) e
+          let s' : stands (at o.owner a) c ≡ true = subst (λ (z : ℕ). stands (at o.owner z) c ≡ true) e
           s in
           let ta = taken a ha ma in
           subst (λ (z : ℕ). (1 ≤ stage' c)
-          × ((d' c +ℤ cost (at o.row z) z) ≤ℤ (d' z +ℤ cost (at o.row z) c)))
+          × ((d' c +ℤ cost (at o.owner z) z) ≤ℤ (d' z +ℤ cost (at o.owner z) c)))
           (sym e)
           (⊎_elim
           (λ (low : stage c < 2). let w = (r c hc).done s' low in
@@ -220,9 +220,9 @@ module _ (n : ℕ) (stands : ℕ → ℕ → Bool) (cost : ℕ → ℕ → ℤ) 
           inr (subst (λ (z : ℕ). (z < n) × (out z ≡ false) × (2 ≤ stage' (at p z))
           × (stands z c ≡ true) × (d' c +ℤ cost z (at p z) ≡ d' (at p z) +ℤ cost z c)
           × (2 ≤ stage' c → stage' (at p z) < stage' c)) (sym s.3)
-          (subst (λ (z : ℕ). (at o.row a < n) × (out (at o.row a) ≡ false) × (2 ≤ stage' z)
-          × (stands (at o.row a) c ≡ true)
-          × (d' c +ℤ cost (at o.row a) z ≡ d' z +ℤ cost (at o.row a) c)
+          (subst (λ (z : ℕ). (at o.owner a < n) × (out (at o.owner a) ≡ false) × (2 ≤ stage' z)
+          × (stands (at o.owner a) c ≡ true)
+          × (d' c +ℤ cost (at o.owner a) z ≡ d' z +ℤ cost (at o.owner a) c)
           × (2 ≤ stage' c → stage' z < stage' c)) (sym own) (
             omega (arith, kept.holding.high a oa, kept.pairs.len),
             kept.holding.inside a oa,

@@ -35,14 +35,14 @@ module _ (out held : ℕ → Bool) (row : List ℕ) (l c : ℕ) (out₁ : ℕ �
 module _ (out : ℕ → Bool) (p : List ℕ) (o : Holders) (l c : ℕ) (room : l < length p)
     (left_out : out l ≡ true)
     (distinct : GivesDistinct (length p) p out) (told : Holding 0 p out o)
-    (out' : ℕ → Bool) (ousts : Ousts out (has o.held) o.row l c out') (p' : List ℕ)
+    (out' : ℕ → Bool) (ousts : Ousts out (has o.held) o.owner l c out') (p' : List ℕ)
     (long : length p' ≡ length p)
     (gets : at p' l ≡ c) (others : (m : ℕ) → (m ≡ l → ⊥) → at p' m ≡ at p m) where
   abbrev held : ℕ → Bool
   held = has o.held
 
   abbrev row : List ℕ
-  row = o.row
+  row = o.owner
 
   own : (m : ℕ) → m < length p → out m ≡ false → at row (at p m) ≡ m
   own m h u =
@@ -75,12 +75,12 @@ module _ (out : ℕ → Bool) (p : List ℕ) (o : Holders) (l c : ℕ) (room : l
       )
 
   module _ (o' : Holders) (inserted : (j : ℕ) → has o'.held j ≡ (eqb j c || held j))
-      (new : at o'.row c ≡ l) (rest : (j : ℕ) → (j ≡ c → ⊥) → at o'.row j ≡ at row j) where
+      (new : at o'.owner c ≡ l) (rest : (j : ℕ) → (j ≡ c → ⊥) → at o'.owner j ≡ at row j) where
     abbrev held' : ℕ → Bool
     held' = has o'.held
 
     abbrev row' : List ℕ
-    row' = o'.row
+    row' = o'.owner
 
     apart : (j : ℕ) → held j ≡ true → at row j ≡ l → ⊥
     apart j h e = both_ways (out l) (subst (λ (z : ℕ). out z ≡ false) e (told.inside j h)) left_out

@@ -33,9 +33,9 @@ module _ (n : ℕ) (stands : ℕ → ℕ → Bool) (cost : ℕ → ℕ → ℤ) 
       subst (λ (z : ℕ). has o.held z ≡ true) w.2
       (kept.holding.all w.0 (omega arith) (omega (arith, w.1, kept.pairs.len)) refl)
 
-  pub owner_stands : (c : ℕ) → has o.held c ≡ true → stands (at o.row c) c ≡ true
-  owner_stands c t = subst (λ (z : ℕ). stands (at o.row c) z ≡ true) (kept.holding.owner c t)
-      (kept.pairs.standing (at o.row c) (omega (arith, kept.holding.high c t, kept.pairs.len))
+  pub owner_stands : (c : ℕ) → has o.held c ≡ true → stands (at o.owner c) c ≡ true
+  owner_stands c t = subst (λ (z : ℕ). stands (at o.owner c) z ≡ true) (kept.holding.owner c t)
+      (kept.pairs.standing (at o.owner c) (omega (arith, kept.holding.high c t, kept.pairs.len))
       (kept.holding.inside c t))
 
   -- at first all right blocks are reached, and none is taken

@@ -56,8 +56,8 @@ From n stands cost out start p d stage via c =
 pub record Grown (n : ℕ) (stands : ℕ → ℕ → Bool) (cost : ℕ → ℕ → ℤ) (out : ℕ → Bool) (start : Start)
     (p : List ℕ) (o : Holders) (v d : ℕ → ℤ) (stage via : ℕ → ℕ) (t x : ℕ) : Type 0 where
   pub offered : (c : ℕ) → c < n → start.offer c ≡ true → (1 ≤ stage c) × (d c ≤ℤ start.base c)
-  pub relaxed : (a c : ℕ) → a < n → c < n → 2 ≤ stage a → (a ≢ x) → stands (at o.row a) c ≡ true
-      → (1 ≤ stage c) × ((d c +ℤ cost (at o.row a) a) ≤ℤ (d a +ℤ cost (at o.row a) c))
+  pub relaxed : (a c : ℕ) → a < n → c < n → 2 ≤ stage a → (a ≢ x) → stands (at o.owner a) c ≡ true
+      → (1 ≤ stage c) × ((d c +ℤ cost (at o.owner a) a) ≤ℤ (d a +ℤ cost (at o.owner a) c))
   pub ordered : (a c : ℕ) → a < n → c < n → 2 ≤ stage a → stage c ≡ 1 → (d a +ℤ v c) ≤ℤ (d c +ℤ v a)
   pub last : (c : ℕ) → c < n → x < n → 2 ≤ stage c → (d c +ℤ v x) ≤ℤ (d x +ℤ v c)
   pub held : (c : ℕ) → c < n → 2 ≤ stage c → (c ≢ x) → has o.held c ≡ true

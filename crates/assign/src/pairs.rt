@@ -27,19 +27,19 @@ pub fn pair_cheapest(n: usize, cheapest: &Cheapest, partners: &mut [u16]) -> Fir
 {
     let mut out = BlockSet::all(n);
     let mut held = BlockSet::empty();
-    let mut row = [0u8; SET_WIDTH];
+    let mut owner = [0u8; SET_WIDTH];
     for c in cheapest.priced {
         let l = cheapest.row[c] as usize;
         if out.contains(l) {
             out.remove(l);
             partners[l] = c as u16;
             held.insert(c);
-            row[c] = l as u8;
+            owner[c] = l as u8;
         }
     }
     FirstPairs {
         out,
-        holders: Holders { held, row },
+        holders: Holders { held, owner },
     }
 }
 

@@ -118,10 +118,10 @@ fn seat(l: usize, c: usize, out: &mut BlockSet, partners: &mut [u16], holders: &
     ensures held { (j : ℕ) → has holders.new.held j ≡ (j == c || has holders.old.held j) }
 {
     let was_held = holders.held.contains(c);
-    let owner = holders.row[c] as usize;
+    let owner = holders.owner[c] as usize;
     partners[l] = c as u16;
     holders.held.insert(c);
-    holders.row[c] = l as u8;
+    holders.owner[c] = l as u8;
     out.remove(l);
     if was_held {
         out.insert(owner);

@@ -338,9 +338,9 @@ pub fn grow<K: Cost>(
     requires dists { length dist.old ≡ length rows.now }
     requires begins { (c : ℕ) → has start c ≡ true → c < length rows.now }
     requires holders { (c : ℕ) → has holders.now.held c ≡ true
-        → at holders.now.row c < length rows.now }
+        → at holders.now.owner c < length rows.now }
     requires own { (c : ℕ) → has holders.now.held c ≡ true
-        → holds rows.now (at holders.now.row c) c ≡ true }
+        → holds rows.now (at holders.now.owner c) c ≡ true }
     requires near { BoundedOn K.Cost COST_LIMIT (has start) dist.old }
     requires priced { Bounded K.Cost INNER_PRICE_LIMIT (length rows.now) right.now }
     ensures grown { Grows K.Cost rows.now costs.now holders.now right.now (has start) via dist.old
@@ -368,7 +368,7 @@ pub fn grow<K: Cost>(
             taken.goal = Some(a);
             return Tree { seen, taken };
         }
-        let l = holders.row[a] as usize;
+        let l = holders.owner[a] as usize;
         let to = rows[l].difference(taken.reached);
         let row = &costs[l * n..l * n + n];
         let offer = Offer {
@@ -402,9 +402,9 @@ pub fn grow_from<K: Cost>(
     requires dists { length dist.old ≡ length rows.now }
     requires room { k < length rows.now }
     requires holders { (c : ℕ) → has holders.now.held c ≡ true
-        → at holders.now.row c < length rows.now }
+        → at holders.now.owner c < length rows.now }
     requires own { (c : ℕ) → has holders.now.held c ≡ true
-        → holds rows.now (at holders.now.row c) c ≡ true }
+        → holds rows.now (at holders.now.owner c) c ≡ true }
     requires priced { Bounded K.Cost INNER_PRICE_LIMIT (length rows.now) right.now }
     ensures grown { GrowsFrom K.Cost rows.now costs.now holders.now right.now k dist.new result }
     ensures inside { (c : ℕ) → has result.taken.reached c ≡ true → c < length rows.now }

@@ -45,8 +45,8 @@ module _ (p : List ℕ) (out : ℕ → Bool) (x : Reach) where
 
   -- right block c is a left block's from k on that is not in `out`
   abbrev pub Owned : (k : ℕ) (out : ℕ → Bool) (q : List ℕ) (h : Holders) (c : ℕ) → Type 0
-  Owned k out q h c = (k ≤ at h.row c) × (at h.row c < length p) × (out (at h.row c) ≡ false)
-      × (at q (at h.row c) ≡ c)
+  Owned k out q h c = (k ≤ at h.owner c) × (at h.owner c < length p) × (out (at h.owner c) ≡ false)
+      × (at q (at h.owner c) ≡ c)
 
   -- the holders tell of the left blocks of q from k on, but for the hole
   pub record Telling (k : ℕ) (q : List ℕ) (h : Holders) (block : ℕ) : Type 0 where
@@ -131,14 +131,14 @@ module _ {p : List ℕ} {out : ℕ → Bool} {x : Reach} {goal block : ℕ} {q :
   -- ---- the holders
 
   module _ {k : ℕ} {h : Holders} (t : Telling p out x k q h block)
-      (high : (c : ℕ) → has x.reached c ≡ true → k ≤ at x.from c) (wide : length p ≤ length h.row)
+      (high : (c : ℕ) → has x.reached c ≡ true → k ≤ at x.from c) (wide : length p ≤ length h.owner)
     where
       abbrev told : Holders
-      told = record { held = h.held; row = set h.row block taker }
+      told = record { held = h.held; owner = set h.owner block taker }
 
-      row_here : (c : ℕ) → c ≡ block → at told.row c ≡ taker
-      row_here c e = ap (at told.row) e
-          ∙ get_or-set_same h.row block taker 0 (omega (arith, s.hole.inside))
+      row_here : (c : ℕ) → c ≡ block → at told.owner c ≡ taker
+      row_here c e = ap (at told.owner) e
+          ∙ get_or-set_same h.owner block taker 0 (omega (arith, s.hole.inside))
 
       has_it : (m : ℕ) → k ≤ m → m < length p → ((m ≡ taker → ⊥) → out m ≡ false)
           → has h.held (at given m) ≡ true
@@ -149,15 +149,15 @@ module _ {p : List ℕ} {out : ℕ → Bool} {x : Reach} {goal block : ℕ} {q :
 
       -- whose each right block is, told by those that are left out then
       owner : (rest : ℕ → Bool) → rest taker ≡ false → ((m : ℕ) → out m ≡ false → rest m ≡ false)
-          → (c : ℕ) → has h.held c ≡ true → ((c ≡ block → ⊥) → at h.row c ≡ taker → ⊥)
+          → (c : ℕ) → has h.held c ≡ true → ((c ≡ block → ⊥) → at h.owner c ≡ taker → ⊥)
           → Owned p out x k rest given told c
       owner rest here others c held apart = elim (cases_eq c block) [
         | inl e ↦ rw (row_here c e)
             (high block s.member, s.hole.taker, here, at_taker taker refl ∙ sym e)
         | inr ne ↦
             let v = t.owner c held ne in
-            rw (get_or-set_other h.row block c taker 0 ne)
-            (v.0, v.1, others (at h.row c) v.2, at_other (at h.row c) (apart ne) ∙ v.3)
+            rw (get_or-set_other h.owner block c taker 0 ne)
+            (v.0, v.1, others (at h.owner c) v.2, at_other (at h.owner c) (apart ne) ∙ v.3)
       ]
 
       pub telling_more : out taker ≡ false → Telling p out x k given told (at q taker)

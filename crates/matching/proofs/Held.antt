@@ -37,7 +37,7 @@ module _ {l : ℕ} {p : List ℕ} {h : Holders} where
     ];
     low = λ c t. omega (arith, w.low c t);
     high = w.high;
-    inside = λ c t. one_not a (at h.row c) (λ e. omega (arith, w.low c t));
+    inside = λ c t. one_not a (at h.owner c) (λ e. omega (arith, w.low c t));
     owner = w.owner;
   }
 

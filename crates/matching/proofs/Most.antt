@@ -89,7 +89,7 @@ module _ {rows : List BlockSet} {p : List ℕ} {b : Bounds} {h : Holders} {x : R
     inside : (l : ℕ) → IsReached l → l < length rows
     inside l v = reached_inside (length rows) (holds rows) p (has b.roots) l v
 
-    owner_below : (c : ℕ) → has h.held c ≡ true → at h.row c < length rows
+    owner_below : (c : ℕ) → has h.held c ≡ true → at h.owner c < length rows
     owner_below c t = omega (arith, s.holders.high c t, s.part.len)
 
     -- the search goes along every pair to a right block below n
@@ -113,8 +113,8 @@ module _ {rows : List BlockSet} {p : List ℕ} {b : Bounds} {h : Holders} {x : R
             | inl t ↦ absurd (both_ways (has b.roots l) f t)
             | inr t ↦
                 let had = s.holders.all l (omega arith) (omega (arith, s.part.len)) f in
-                let whose : at h.row (at p l) ≡ l =
-                s.part.once (at h.row (at p l)) l (owner_below (at p l) had) i
+                let whose : at h.owner (at p l) ≡ l =
+                s.part.once (at h.owner (at p l)) l (owner_below (at p l) had) i
                 (s.holders.inside (at p l) had) f (s.holders.owner (at p l) had) in
                 d.onward (at p l) c t had (subst (λ k. along rows b k c ≡ true) (sym whose) on)
           ]
@@ -130,7 +130,7 @@ module _ {rows : List BlockSet} {p : List ℕ} {b : Bounds} {h : Holders} {x : R
     stuck : Stuck (length rows) (holds rows) p (has b.roots)
     stuck l r v j t =
         let had = taken r (takes l r (inside l v) j t (reached_row l v)) in
-        (at h.row r, owner_below r had, s.holders.inside r had, s.holders.owner r had)
+        (at h.owner r, owner_below r had, s.holders.inside r had, s.holders.owner r had)
 
     pub most : Largest (length rows) (holds rows) p (has b.roots)
     most = stuck_largest (length rows) (holds rows) p (has b.roots) s.part stuck
@@ -142,7 +142,7 @@ module _ {rows : List BlockSet} {p : List ℕ} {b : Bounds} {h : Holders} {x : R
       | inr v ↦
           let e = v.0 in
           subst IsReached v.3
-          (onward (at x.from e) (at h.row e) (from_reached k e (omega (arith, v.4)) v.1)
+          (onward (at x.from e) (at h.owner e) (from_reached k e (omega (arith, v.4)) v.1)
           (owner_below e v.2) (s.holders.inside e v.2)
           (ap (holds rows (at x.from e)) (s.holders.owner e v.2)
           ∙ along-holds rows b (at x.from e) e (w.by e v.1)))

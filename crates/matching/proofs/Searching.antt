@@ -26,12 +26,12 @@ pub record Searching (rows : List BlockSet) (b : Bounds) (h : Holders) (x : Reac
   pub sized_rank : length x.rank ≡ 64
   pub inside : (l : ℕ) → has pending l ≡ true → l < length rows
   pub waiting : (l : ℕ) → has pending l ≡ true → (has b.roots l ≡ true)
-      ⊎ ((d : ℕ) × (has x.reached d ≡ true) × (has h.held d ≡ true) × (at h.row d ≡ l))
+      ⊎ ((d : ℕ) × (has x.reached d ≡ true) × (has h.held d ≡ true) × (at h.owner d ≡ l))
   pub rooted : (l c : ℕ) → has b.roots l ≡ true → along rows b l c ≡ true
       → (has x.reached c ≡ true) ⊎ (has pending l ≡ true)
   pub onward : (d c : ℕ) → has x.reached d ≡ true → has h.held d ≡ true
-      → along rows b (at h.row d) c ≡ true
-      → (has x.reached c ≡ true) ⊎ (has pending (at h.row d) ≡ true)
+      → along rows b (at h.owner d) c ≡ true
+      → (has x.reached c ≡ true) ⊎ (has pending (at h.owner d) ≡ true)
   pub no_goal : (c : ℕ) → has x.reached c ≡ true → has b.goals c ≡ false
 
 -- the left block l that is looked at leads to the right block c, which is reached next
@@ -82,7 +82,7 @@ module _ {rows : List BlockSet} {b : Bounds} {h : Holders} {x : Reach} {pending 
     inside = λ j t. s.inside j (was j t);
     waiting = λ j t. s.waiting j (was j t);
     rooted = λ j c t a. leads j c a (s.rooted j c t a);
-    onward = λ d c t o a. leads (at h.row d) c a (s.onward d c t o a);
+    onward = λ d c t o a. leads (at h.owner d) c a (s.onward d c t o a);
     no_goal = s.no_goal;
   }
     where
@@ -137,7 +137,7 @@ module _ {rows : List BlockSet} {b : Bounds} {h : Holders} {x : Reach} {pending 
 
     Back : ℕ → ℕ → Type 0
     Back m k = (has b.roots m ≡ true)
-        ⊎ ((d : ℕ) × (has reached d ≡ true) × (has h.held d ≡ true) × (at h.row d ≡ m)
+        ⊎ ((d : ℕ) × (has reached d ≡ true) × (has h.held d ≡ true) × (at h.owner d ≡ m)
         × (at next.rank d < k))
 
     back_here : Back l (members 64 (has x.reached))
@@ -204,9 +204,9 @@ module _ {rows : List BlockSet} {b : Bounds} {h : Holders} {x : Reach} {pending 
     -- right block c is reached, and the left block that has it, if any, is pending
     pub search_more : {pending' : BlockSet} → has b.goals c ≡ false
         → ((j : ℕ) → has pending j ≡ true → has pending' j ≡ true)
-        → (has h.held c ≡ true → has pending' (at h.row c) ≡ true)
+        → (has h.held c ≡ true → has pending' (at h.owner c) ≡ true)
         → ((j : ℕ) → has pending' j ≡ true → (has pending j ≡ true)
-        ⊎ ((has h.held c ≡ true) × (j ≡ at h.row c) × (j < length rows)))
+        ⊎ ((has h.held c ≡ true) × (j ≡ at h.owner c) × (j < length rows)))
         → Searching rows b h next pending'
     search_more {pending' = pending'} free keeps add only = record {
       ways = search_ways x.goal;
@@ -221,10 +221,10 @@ module _ {rows : List BlockSet} {b : Bounds} {h : Holders} {x : Reach} {pending 
           [ inl e ↦ inl (more d e) | inr e ↦ inr (keeps j e) ];
       onward = λ d j t o a. elim (cases_eq d c) [
         | inl e ↦
-            inr (subst (λ y. has pending' (at h.row y) ≡ true) (sym e)
+            inr (subst (λ y. has pending' (at h.owner y) ≡ true) (sym e)
             (add (sym (ap (has h.held) e) ∙ o)))
         | inr ne ↦ elim (s.onward d j (old d t ne) o a)
-            [ inl e ↦ inl (more j e) | inr e ↦ inr (keeps (at h.row d) e) ]
+            [ inl e ↦ inl (more j e) | inr e ↦ inr (keeps (at h.owner d) e) ]
       ];
       no_goal = λ j t. elim (cases_eq j c) [
         | inl e ↦ ap (has b.goals) e ∙ free

@@ -69,7 +69,7 @@ trying_start {rows = rows} {l = l} {p = p} {h = h} {live = live} few pairs room 
       holders = holders;
       within = λ c t. elim (or_cases (has h.held c) (has goals c) (sym (live-is c) ∙ t)) [
         | inl e ↦ (
-          at h.row c,
+          at h.owner c,
           omega (arith, holders.low c e),
           omega (arith, holders.high c e, pairs.len),
           holders.owner c e,
@@ -247,8 +247,8 @@ module _ {rows : List BlockSet} {l r floor : ℕ} {p : List ℕ} {b : Bounds} {h
           let ne : m ≡ l → ⊥ = λ e. both_ways (has x.reached (at p m))
           (ap (λ y. has x.reached (at p y)) e ∙ own-not d) seen in
           let had = hold.all m le (omega (arith, t.pairs.len)) (one_not f.roots m ne) in
-          let whose : at h.row (at p m) ≡ m =
-          t.pairs.once (at h.row (at p m)) m (omega (arith, hold.high (at p m) had, t.pairs.len)) lt
+          let whose : at h.owner (at p m) ≡ m =
+          t.pairs.once (at h.owner (at p m)) m (omega (arith, hold.high (at p m) had, t.pairs.len)) lt
           (hold.owner (at p m) had) in
           d.onward (at p m) (at p k) seen had
           (subst (λ j. along rows b j (at p k) ≡ true) (sym whose) (along_live m (at p k) ne ok o))

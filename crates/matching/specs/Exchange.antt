@@ -21,10 +21,10 @@ GivesDistinct n p out = Partial n (λ _ _. true) p out
 -- and whose each is
 pub record Holding (k : ℕ) (p : List ℕ) (out : ℕ → Bool) (h : Holders) : Type 0 where
   pub all : (l : ℕ) → k ≤ l → l < length p → out l ≡ false → has h.held (at p l) ≡ true
-  pub low : (c : ℕ) → has h.held c ≡ true → k ≤ at h.row c
-  pub high : (c : ℕ) → has h.held c ≡ true → at h.row c < length p
-  pub inside : (c : ℕ) → has h.held c ≡ true → out (at h.row c) ≡ false
-  pub owner : (c : ℕ) → has h.held c ≡ true → at p (at h.row c) ≡ c
+  pub low : (c : ℕ) → has h.held c ≡ true → k ≤ at h.owner c
+  pub high : (c : ℕ) → has h.held c ≡ true → at h.owner c < length p
+  pub inside : (c : ℕ) → has h.held c ≡ true → out (at h.owner c) ≡ false
+  pub owner : (c : ℕ) → has h.held c ≡ true → at p (at h.owner c) ≡ c
 
 -- the holders tell which right blocks the left blocks from k on have, and whose each is
 abbrev pub AreHoldersFrom : ℕ → List ℕ → Holders → Type 0

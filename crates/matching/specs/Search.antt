@@ -28,7 +28,7 @@ pub record IsReach (rows : List BlockSet) (b : Bounds) (h : Holders) (x : Reach)
   pub back : (c : ℕ) → has x.reached c ≡ true
       → (has b.roots (at x.from c) ≡ true)
       ⊎ ((d : ℕ) × (has x.reached d ≡ true) × (has h.held d ≡ true)
-      × (at h.row d ≡ at x.from c) × (at x.rank d < at x.rank c))
+      × (at h.owner d ≡ at x.from c) × (at x.rank d < at x.rank c))
   pub ranked : (c : ℕ) → has x.reached c ≡ true → at x.rank c < members SET_WIDTH (has x.reached)
   pub once : (c d : ℕ) → has x.reached c ≡ true → has x.reached d ≡ true
       → at x.rank c ≡ at x.rank d → c ≡ d
@@ -38,7 +38,7 @@ pub record IsReach (rows : List BlockSet) (b : Bounds) (h : Holders) (x : Reach)
 pub record IsComplete (rows : List BlockSet) (b : Bounds) (h : Holders) (x : Reach) : Type 0 where
   pub rooted : (l c : ℕ) → has b.roots l ≡ true → along rows b l c ≡ true → has x.reached c ≡ true
   pub onward : (d c : ℕ) → has x.reached d ≡ true → has h.held d ≡ true
-      → along rows b (at h.row d) c ≡ true → has x.reached c ≡ true
+      → along rows b (at h.owner d) c ≡ true → has x.reached c ≡ true
   pub no_goal : (c : ℕ) → has x.reached c ≡ true → has b.goals c ≡ false
 
 -- where a search has ended: at a goal that it reached, or nowhere, all being reached that can be,

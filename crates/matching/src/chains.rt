@@ -18,7 +18,7 @@ use blockset::{BlockSet, SET_WIDTH};
 #[derive(Drop)]
 pub struct Holders {
     pub held: BlockSet,
-    pub row: [u8; SET_WIDTH],
+    pub owner: [u8; SET_WIDTH],
 }
 
 impl Holders {
@@ -28,7 +28,7 @@ impl Holders {
     {
         Holders {
             held: BlockSet::empty(),
-            row: [0; SET_WIDTH],
+            owner: [0; SET_WIDTH],
         }
     }
 
@@ -55,7 +55,7 @@ impl Holders {
     {
         let block = p[l] as usize;
         self.held.insert(block);
-        self.row[block] = l as u8;
+        self.owner[block] = l as u8;
     }
 
     /// Tells no more of left block `l`, the first that it told of.
@@ -122,7 +122,7 @@ pub fn search(rows: &[BlockSet], holders: &Holders, bounds: Bounds) -> Reach
     requires roots { (l : ℕ) → has bounds.roots l ≡ true → l < length rows.now }
     requires inside { (l c : ℕ) → along rows.now bounds l c ≡ true → c < rights_in rows.now }
     requires held { (c : ℕ) → has holders.now.held c ≡ true
-        → at holders.now.row c < length rows.now }
+        → at holders.now.owner c < length rows.now }
     ensures reached { IsReach rows.now bounds holders.now result }
     ensures goal { HasEnded rows.now bounds holders.now result result.goal }
 {
@@ -144,7 +144,7 @@ pub fn search(rows: &[BlockSet], holders: &Holders, bounds: Bounds) -> Reach
                 };
             }
             if holders.held.contains(c) {
-                pending.insert(holders.row[c] as usize);
+                pending.insert(holders.owner[c] as usize);
             }
         } else {
             pending.remove(l);
@@ -192,7 +192,7 @@ pub fn exchange(
         let l = reach.from[block] as usize;
         let given_up = p[l] as usize;
         p[l] = block as u16;
-        holders.row[block] = l as u8;
+        holders.owner[block] = l as u8;
         if out.contains(l) {
             return l;
         }

@@ -17,7 +17,7 @@ loop-c-init c = (
   rw c.into_iter-c-iterator.ensures.into_iter_gives
       (choosing_none c.args.n (has c.args.cheapest.now.priced) (at c.args.cheapest.now.row)
       c.requires.inside (has c.all-out.result) c.args.partners.now
-      (record { held = c.empty-held.result; row = replicate 64 0 }) c.requires.sized
+      (record { held = c.empty-held.result; owner = replicate 64 0 }) c.requires.sized
       c.requires.few c.all-out.ensures c.empty-held.ensures),
   refl,
 )
@@ -30,8 +30,8 @@ loop-c-preserved-then-contains c =
     let out = has c.loop-c.out in
     let held = has c.loop-c.held in
     let p = c.loop-c.partners in
-    let who = c.loop-c.row in
-    let o : Holders = record { held = c.loop-c.held; row = who } in
+    let who = c.loop-c.owner in
+    let o : Holders = record { held = c.loop-c.held; owner = who } in
     let r = c.in-Some.c in
     let l = row r in
     let steps = c.in-Some.ensures.steps in
@@ -40,13 +40,13 @@ loop-c-preserved-then-contains c =
     c.loop-c.invariant.2 r rest' steps.others steps.member steps.least in
     let in-partners : at c.args.cheapest.now.row c.in-Some.c < length c.loop-c.partners =
     omega (arith, c.requires.sized) in
-    let in-who : c.in-Some.c < length c.loop-c.row =
+    let in-who : c.in-Some.c < length c.loop-c.owner =
     omega (arith, steps.is_block, c.loop-c.invariant.3) in (
       tt,
       tt,
       choosing_take c.args.n priced row c.requires.inside rest out p o c.loop-c.invariant.2 r
           rest' steps.others steps.member steps.least (has c.remove.new.self) (set p l r)
-          (record { held = c.insert.new.self; row = set who r l }) (length-set p l r)
+          (record { held = c.insert.new.self; owner = set who r l }) (length-set p l r)
           c.remove.ensures
           (get_or-set_same p l r 0 in-partners) (λ j ne. get_or-set_other p l j r 0 ne)
           (inserted held (has c.insert.new.self) r steps.is_block c.insert.ensures)
@@ -65,7 +65,7 @@ loop-c-preserved c =
       tt,
       choosing_skip c.args.n (has c.args.cheapest.now.priced) row c.requires.inside
           (has c.loop-c.c-iterator) out c.loop-c.partners
-          (record { held = c.loop-c.held; row = c.loop-c.row })
+          (record { held = c.loop-c.held; owner = c.loop-c.owner })
           c.loop-c.invariant.2 r (has c.next.new.self) steps.others steps.member steps.least
           (sym {b = out (row r)} c.if-contains.ensures),
       c.loop-c.invariant.3,

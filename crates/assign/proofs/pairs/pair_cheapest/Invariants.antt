@@ -10,4 +10,4 @@ abbrev pub invariant-loop-c : goal.invariant-loop-c
 invariant-loop-c l =
     (goal.iterator-loop-c).can_next l.c-iterator × (goal.iterator-loop-c).is_finite l.c-iterator
     × Choosing l.n (has l.cheapest.priced) (at l.cheapest.row) (has l.c-iterator) (has l.out)
-    l.partners (record { held = l.held; row = l.row }) × (length l.row ≡ 64)
+    l.partners (record { held = l.held; owner = l.owner }) × (length l.owner ≡ 64)

@@ -26,9 +26,9 @@ grow_from-tree-requires g c =
       dists = c.requires.lefts;
       room = c.requires.room;
       holders = λ j t. omega (arith, kept.holding.high j t, kept.pairs.len);
-      own = λ j t. subst (λ (z : ℕ). holds c.args.rows.now (at o.row j) z ≡ true)
+      own = λ j t. subst (λ (z : ℕ). holds c.args.rows.now (at o.owner j) z ≡ true)
           (kept.holding.owner j t)
-          (kept.pairs.standing (at o.row j)
+          (kept.pairs.standing (at o.owner j)
           (omega (arith, kept.holding.high j t, kept.pairs.len)) (kept.holding.inside j t));
       priced = c.requires.paired.priced;
     }

@@ -12,12 +12,12 @@ returns-then-was_held-clause-told c =
     let p = c.args.partners.now in
     let out = has c.args.out.now in
     let held = has c.args.holders.now.held in
-    let row = c.args.holders.now.row in
+    let row = c.args.holders.now.owner in
     let l = c.args.l in
     let r = c.args.c in
     let mine = sym c.contains-was_held.ensures ∙ c.if-was_held.true in
     let few = c.requires.few in
-    let wide : length c.args.holders.now.row ≡ 64 = search rules in
+    let wide : length c.args.holders.now.owner ≡ 64 = search rules in
     seated_told out p c.args.holders.now l r c.requires.room c.requires.left_out c.requires.distinct
     c.requires.told (has c.insert-then-was_held.new.self)
     (ousts_owner out held row l r (has c.remove.new.self) c.remove.ensures mine
@@ -26,7 +26,7 @@ returns-then-was_held-clause-told c =
     (omega (arith, few, c.requires.told.high r mine)) c.insert-then-was_held.ensures))
     (set p l r) (length-set p l r) (get_or-set_same p l r 0 c.requires.room)
     (λ m ne. get_or-set_other p l m r 0 ne)
-    (record { held = c.insert.new.self; row = set row r l })
+    (record { held = c.insert.new.self; owner = set row r l })
     (inserted held (has c.insert.new.self) r (omega (arith, few, c.requires.below))
     c.insert.ensures)
     (get_or-set_same row r l 0 (omega (arith, few, c.requires.below, wide)))

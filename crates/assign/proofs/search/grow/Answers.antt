@@ -206,7 +206,7 @@ pub exact_difference-requires : goal.exact_difference-requires
 exact_difference-requires g c =
     let n = length c.args.rows.now in
     let a = c.in-Some.near.block in
-    let l = at c.args.holders.now.row c.in-Some.near.block in
+    let l = at c.args.holders.now.owner c.in-Some.near.block in
     let found = rw c.in-Some.is at c.loop-t.invariant.4 in
     let sized = c.loop-t.auto.dist ∙ c.requires.dists in
     let ha : c.in-Some.near.block < length c.args.rows.now = omega (arith, found.0) in
@@ -235,7 +235,7 @@ offer_and_choose-next-requires g c =
     let kind = g.K.Cost in
     let n = length c.args.rows.now in
     let a = c.in-Some.near.block in
-    let l = at c.args.holders.now.row c.in-Some.near.block in
+    let l = at c.args.holders.now.owner c.in-Some.near.block in
     let found = rw c.in-Some.is at c.loop-t.invariant.4 in
     let sized = c.loop-t.auto.dist ∙ c.requires.dists in
     let ha : c.in-Some.near.block < length c.args.rows.now = omega (arith, found.0) in
@@ -247,8 +247,8 @@ offer_and_choose-next-requires g c =
     found.1.member).0 in
     let long = row_length c.args.costs.now n l hl c.requires.lent.square in
     let stands : (j : ℕ) → has c.difference-to.result j ≡ true → holds c.args.rows.now
-    (at c.args.holders.now.row c.in-Some.near.block) j ≡ true =
-    λ j r. (and_parts (holds c.args.rows.now (at c.args.holders.now.row c.in-Some.near.block) j)
+    (at c.args.holders.now.owner c.in-Some.near.block) j ≡ true =
+    λ j r. (and_parts (holds c.args.rows.now (at c.args.holders.now.owner c.in-Some.near.block) j)
     (not (has c.insert.new.self j)) (sym (c.difference-to.ensures j) ∙ r)).0 in
     let rest = λ (j : ℕ) (r : has c.difference-rest.result j ≡ true).
     and_parts (has c.union-seen.result j) (not (has c.insert.new.self j))
@@ -282,7 +282,7 @@ offer_and_choose-next-requires g c =
       waiting = λ j r. c.difference-rest.ensures j
           ∙ and_from (has c.union-seen.result j) (not (has c.insert.new.self j))
           (c.union-seen.ensures j ∙ or_right (has c.loop-t.seen j) (has c.difference-to.result j) r)
-          (and_parts (holds c.args.rows.now (at c.args.holders.now.row c.in-Some.near.block) j)
+          (and_parts (holds c.args.rows.now (at c.args.holders.now.owner c.in-Some.near.block) j)
           (not (has c.insert.new.self j)) (sym (c.difference-to.ensures j) ∙ r)).1;
       come_to = λ j r f. ⊎_elim (λ s. s)
           (λ s. absurd (both_ways (has c.difference-to.result j) f s))
@@ -299,7 +299,7 @@ loop-t-preserved g c =
     let kind = g.K.Cost in
     let n = length c.args.rows.now in
     let a = c.in-Some.near.block in
-    let l = at c.args.holders.now.row c.in-Some.near.block in
+    let l = at c.args.holders.now.owner c.in-Some.near.block in
     let found = rw c.in-Some.is at c.loop-t.invariant.4 in
     let sized = c.loop-t.auto.dist ∙ c.requires.dists in
     let ha : c.in-Some.near.block < length c.args.rows.now = omega (arith, found.0) in
@@ -313,8 +313,8 @@ loop-t-preserved g c =
     let taken' = inserted (has c.loop-t.taken.reached) (has c.insert.new.self) c.in-Some.near.block
     (omega (arith, ha, c.requires.lent.few)) c.insert.ensures in
     let stands : (j : ℕ) → has c.difference-to.result j ≡ true → holds c.args.rows.now
-    (at c.args.holders.now.row c.in-Some.near.block) j ≡ true =
-    λ j r. (and_parts (holds c.args.rows.now (at c.args.holders.now.row c.in-Some.near.block) j)
+    (at c.args.holders.now.owner c.in-Some.near.block) j ≡ true =
+    λ j r. (and_parts (holds c.args.rows.now (at c.args.holders.now.owner c.in-Some.near.block) j)
     (not (has c.insert.new.self j)) (sym (c.difference-to.ensures j) ∙ r)).0 in
     let within = shift_within kind c.args.costs.now c.loop-t.dist n l a c.loop-t.t
     c.requires.lent.few

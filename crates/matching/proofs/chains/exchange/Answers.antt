@@ -14,7 +14,7 @@ chain-preserved c =
     record {
       way = exchange_more c.requires.ways i.way on;
       same = i.same;
-      sized = length-set c.chain.holders.row c.chain.block
+      sized = length-set c.chain.holders.owner c.chain.block
           (at c.args.reach.now.from c.chain.block) ∙ i.sized;
       told = λ k h high. telling_more c.requires.ways i.way (i.told k h high) high
           (omega (arith, i.sized, c.requires.small)) on;

@@ -10,7 +10,7 @@ abbrev pub invariant-chain : goal.invariant-chain
 invariant-chain l = record {
   way : Exchanging l.initial.p (has l.out) l.reach l.goal l.p l.block;
   same : l.holders.held ≡ l.initial.holders.held;
-  sized : length l.holders.row ≡ 64;
+  sized : length l.holders.owner ≡ 64;
   told : (k : ℕ) → Holding k l.initial.p (has l.out) l.fn.holders
       → ((c : ℕ) → has l.reach.reached c ≡ true → k ≤ at l.reach.from c)
       → Telling l.initial.p (has l.out) l.reach k l.p l.holders l.block;

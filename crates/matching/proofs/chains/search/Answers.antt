@@ -29,7 +29,7 @@ pub loop-l-smaller-then-contains-2 : goal.loop-l-smaller-then-contains-2
 loop-l-smaller-then-contains-2 c =
     let r = reaching c.requires.small c.requires.inside c.in-Some.ensures
     c.in-Some-fresh.ensures.new c.insert.ensures in
-    let l = at c.args.holders.now.row c.in-Some-fresh.c in
+    let l = at c.args.holders.now.owner c.in-Some-fresh.c in
     let low : l < 64 =
     omega (arith, c.requires.small, c.requires.held c.in-Some-fresh.c (sym c.if-contains-2.ensures))
     in
@@ -48,7 +48,7 @@ loop-l-preserved-then-contains-2 c =
     c.in-Some-fresh.ensures.new c.insert.ensures in
     let P = has c.loop-l.pending in
     let P' = has c.insert-then-contains-2.new.self in
-    let l = at c.args.holders.now.row c.in-Some-fresh.c in
+    let l = at c.args.holders.now.owner c.in-Some-fresh.c in
     let held : has c.args.holders.now.held c.in-Some-fresh.c ≡ true =
     sym c.if-contains-2.ensures in
     let inside : l < length c.args.rows.now = c.requires.held c.in-Some-fresh.c held in
