@@ -1,45 +1,50 @@
 -- What a pass finds of the pairs decides whether they are sound: of one pair, one row and all rows.
 -- Idea: a row is sound one pair further if it was sound and the pair is, and the rows are sound one
 -- left block further if they were sound and its row is. A pair that stands is sound just where its
--- cost is within the limit and its prices do not compare as greater.
-use Rattle.std.proofs.Common.{◌≡◌, ℕ, ◌+◌, ◌-◌, ◌*◌, ◌<◌, ◌≤◌, Bool, true, false, not}
-use Rattle.std.proofs.Common.{◌&&◌, ◌||◌, eqb, List, length, get_or, take, drop, ℤ}
-use Rattle.std.proofs.Common.{Decides, Ordering, Less, Equal, Greater, sym, refl, ap, ◌∙◌, subst}
-use Rattle.std.proofs.Common.{ap₂, inl, inr, add-mul, one-mul, arith, below_more}
+-- cost is within the limit and its prices do not compare as greater. Every place is that of a pair,
+-- so what holds of all pairs holds of all places.
+use Rattle.std.specs.Prelude.{◌≡◌, ℕ, zero, suc, ◌+◌, ◌*◌, ◌/◌, ◌%◌, ◌<◌, ◌≤◌, Bool, true, false}
+use Rattle.std.specs.Prelude.{not}
+use Rattle.std.specs.Prelude.{◌&&◌, ◌||◌, ◌==◌, nat_lt, List, length, slice_index, slice_index_or}
+use Rattle.std.specs.Prelude.{ℤ, ◌+ℤ◌, IsTrue, ◌↔◌, slice_set}
+use Rattle.std.specs.declared.cmp.Ordering.{Ordering}
+use Rattle.std.specs.declared.cmp.Ordering.TheVariants.{Less, Equal, Greater}
+use Rattle.std.proofs.Common.{sym, refl, ap, ◌∙◌, subst, arith, below_more}
 use mir.Val.{bool_byte}
 use lib.Bits.{bit_and, bit_or}
 use Rattle.std.specs.Ordering.{is_gt, is_eq}
+use Rattle.std.specs.Cmp.{Equal-is}
 use Rattle.std.proofs.Math.Bool.{not-not}
+use Rattle.std.proofs.Math.Nat.{mod-add-div, div-lt_iff_lt-mul}
 use Rattle.std.proofs.lemmas.Nat.{mul-add-lt}
-use Rattle.std.proofs.lemmas.Bool.{cases_lt, both_ways, false≢true}
+use Rattle.std.proofs.lemmas.Bool.{both_ways, false≢true, and_parts, and_from, ltb-true, lt-ltb}
 use Rattle.std.proofs.lemmas.Bool.Decides.{Decides-at, Decides-like, Decides-and, nat_tests}
 use Rattle.cost.specs.declared.Cost.{Ghosts}
-use Rattle.cost.specs.Columns.{Within, within, sums, plus, lex}
-use Rattle.cost.proofs.Exact.{within_tells, exact}
-use Rattle.pairing.specs.Places.{place_of, places_of}
-use Rattle.pairing.specs.Grid.{Upto}
-use Rattle.pairing.specs.Prices.{Valid}
-use Rattle.tables.specs.PairTables.{byte_of, says_stands, says_disturbed}
-use Rattle.tables.specs.Said.{columns_at, Bounded, IsInOrder}
-use Rattle.tables.specs.Lent.{Lent, grid, left_price, right_price}
-use Rattle.tables.specs.PairRows.{adds_up}
-use Rattle.tables.specs.Sound.{RowUnder, IsSoundRow, AreSoundRows, IsSound}
-use Rattle.tables.proofs.Filling.{value_at, row_at, columns_at_lem}
+use Rattle.cost.specs.declared.TheConstants.{COST_LIMIT}
+use Rattle.cost.specs.Columns.{Within, within, plus, lex}
+use Rattle.cost.proofs.Exact.{within_tells, length-columnwise}
+use Rattle.cost.proofs.Order.{lex_same, lex_refl}
+use Rattle.blockset.specs.declared.BlockSet.{BlockSet}
+use Rattle.blockset.specs.Has.{has}
+use Rattle.pairing.specs.Places.{place_of, places_of, rights_of}
+use Rattle.tables.specs.PairTables.{byte_of, says_stands, says_disturbed, part_of}
+use Rattle.tables.specs.Said.{columns_at}
+use Rattle.tables.specs.Lent.{Lent, left_price, right_price, HasRoom}
+use Rattle.tables.specs.PairRows.{HoldsPassing, AreTightRows}
+use Rattle.tables.specs.Sound.{adds_up, is_tight_in, IsSoundPair, IsSoundRow, IsSound}
+use Rattle.tables.proofs.Filling.{Made, put_if, passing_like, row_made, value_at, part_at}
+use Rattle.tables.proofs.Filling.{columns_at-part_of}
+use Rattle.tables.proofs.Orderly.{columns_sized}
 use Rattle.tables.proofs.Gathering.{faultless, is_fine, fine_tells, and_byte, gathered}
 
 -- ---- One pair
 
--- by its standing byte, its two prices and its cost
-abbrev pub IsSoundPair : (byte : ℕ) (left right cost : List ℤ) → Type 0
-IsSoundPair byte left right cost = (says_disturbed byte ≡ false)
-    × (says_stands byte ≡ true → Within 1000000000 cost × Upto (sums left right) cost)
-
-greater_tells : (o : Ordering) → Decides (not (is_gt o)) (o ≡ Greater → ⊥)
+greater_tells : (o : Ordering) → IsTrue (not (is_gt o)) ↔ (o ≡ Greater → ⊥)
 greater_tells Less = (λ e g. both_ways (is_gt Less) refl (ap is_gt g), λ h. refl)
 greater_tells Equal = (λ e g. both_ways (is_gt Equal) refl (ap is_gt g), λ h. refl)
 greater_tells Greater = (λ e. absurd (false≢true e), λ h. absurd (h refl))
 
-byte_some : (b : Bool) → not (eqb (bool_byte b) 0) ≡ b
+byte_some : (b : Bool) → not (bool_byte b == 0) ≡ b
 byte_some true = refl
 byte_some false = refl
 
@@ -52,219 +57,225 @@ fine_both false beyond = refl
 
 -- two prices and a cost tell whether their pair is sound if it stands, and whether it is tight
 module _ (left right cost : List ℤ) where
-  abbrev pub wrong : Bool
-  wrong = not (within 1000000000 cost) || is_gt (lex (sums left right) cost)
+  order : Ordering
+  order = lex (plus left right) cost
 
-  order_tells : Decides (not wrong) (Within 1000000000 cost × Upto (sums left right) cost)
-  order_tells =
-      Decides-at (not wrong) (within 1000000000 cost && not (is_gt (lex (sums left right) cost)))
-      (fine_both (within 1000000000 cost) (is_gt (lex (sums left right) cost)))
-      (Decides-and (within 1000000000 cost) (not (is_gt (lex (sums left right) cost)))
-      (within_tells 1000000000 cost) (greater_tells (lex (sums left right) cost)))
+  abbrev pub wrong : Bool
+  wrong = not (within COST_LIMIT cost) || is_gt (lex (plus left right) cost)
+
+  pub pair_tells : (byte : ℕ) → IsTrue (is_fine byte (not wrong)) ↔ IsSoundPair byte left right cost
+  unfolding order
+  pair_tells byte = Decides-like (is_fine byte (not wrong))
+      (λ h. record { calm = h.0; small = λ s. (h.1 s).0; feasible = λ s. (h.1 s).1 })
+      (λ s. (s.calm, λ t. (s.small t, s.feasible t)))
+      (fine_tells byte (not wrong)
+      (Decides-at (not wrong) (within COST_LIMIT cost && not (is_gt order))
+      (fine_both (within COST_LIMIT cost) (is_gt order))
+      (Decides-and (within COST_LIMIT cost) (not (is_gt order)) (within_tells COST_LIMIT cost)
+      (greater_tells order))))
 
   -- where the byte was not disturbed
   sound_tight : (byte : ℕ) → says_disturbed byte ≡ false
-      → not (eqb (bit_and byte (bool_byte (is_eq (lex (sums left right) cost)))) 0)
+      → not (bit_and byte (bool_byte (is_eq (lex (plus left right) cost))) == 0)
       ≡ adds_up (says_stands byte) left right cost
   sound_tight byte calm =
-      let tight = is_eq (lex (sums left right) cost) in
-      ap (λ m. not (eqb m 0)) (and_byte byte tight (calm_byte byte calm))
+      let tight = is_eq (lex (plus left right) cost) in
+      ap (λ m. not (m == 0)) (and_byte byte tight (calm_byte byte calm))
       ∙ byte_some (says_stands byte && tight)
 
 -- ---- A row
 
 module _ {K : Type 0} (kind : Ghosts K) (costs : List K) (standing : List ℕ) (left : List ℤ)
     (right : List K) where
-  -- one pair more
-  module _ (r : ℕ) where
-    abbrev pub Pair : Type 0
-    Pair = IsSoundPair (get_or standing r 0) left (columns_at kind right r)
-        (columns_at kind costs r)
+  -- what was gathered of the first k pairs tells whether they are sound, and if they are, the row
+  -- has just the tight ones
+  pub record IsGathered (k seen faults : ℕ) (row : BlockSet) : Type 0 where
+    pub told : IsTrue (faultless seen faults) ↔ IsSoundRow kind costs standing left right k
+    pub tight : IsSoundRow kind costs standing left right k
+        → HoldsPassing k (is_tight_in kind costs standing left right) row
 
-    further : IsSoundRow kind r costs standing left right × Pair
-        → IsSoundRow kind (r + 1) costs standing left right
-    further h = record {
-      in_order = record {
-        bytes = below_more (λ k. says_disturbed (get_or standing k 0) ≡ false) r
-            h.0.in_order.bytes h.1.0;
-        small = below_more (λ k. says_stands (get_or standing k 0) ≡ true
-            → Within 1000000000 (columns_at kind costs k)) r h.0.in_order.small
-            (λ s. (h.1.1 s).0);
-      };
-      under = below_more (λ k. says_stands (get_or standing k 0) ≡ true
-          → Upto (sums left (columns_at kind right k)) (columns_at kind costs k)) r h.0.under
-          (λ s. (h.1.1 s).1);
-    }
-
-    back : IsSoundRow kind (r + 1) costs standing left right
-        → IsSoundRow kind r costs standing left right × Pair
-    back h = (
+  -- one pair more, whose byte, price and cost were read from their tables
+  pub gathered_more : (r seen faults : ℕ) (row new : BlockSet) (byte : ℕ) (price cost : List ℤ)
+      (fault tight : ℕ) → IsGathered r seen faults row
+      → byte ≡ slice_index standing r → price ≡ columns_at kind right r
+      → cost ≡ columns_at kind costs r → fault ≡ bool_byte (wrong left price cost)
+      → tight ≡ bool_byte (is_eq (lex (plus left price) cost))
+      → ((j : ℕ) → has new j ≡ ((not (bit_and byte tight == 0) && j == r) || has row j))
+      → IsGathered (r + 1) (bit_or seen byte) (bit_or faults (bit_and byte fault)) new
+  gathered_more r seen faults row new byte price cost fault tight before read priced costed faulty
+      even put =
+      let off = wrong left price cost in
+      let same : ◌≡◌ {A = ℕ × (List ℤ × List ℤ)} (byte, (price, cost))
+      (slice_index standing r, (columns_at kind right r, columns_at kind costs r)) = cc in
+      let pair = λ (p : ℕ × (List ℤ × List ℤ)). IsSoundPair p.0 left p.1.0 p.1.1 in
+      let Each = IsSoundRow kind costs standing left right in
       record {
-        in_order = record {
-          bytes = λ k i. h.in_order.bytes k (omega arith);
-          small = λ k i. h.in_order.small k (omega arith);
-        };
-        under = λ k i. h.under k (omega arith);
-      },
-      (
-        h.in_order.bytes r (omega arith),
-        λ s. (h.in_order.small r (omega arith) s, h.under r (omega arith) s),
-      ),
-    )
-
-    -- whose price and cost were read from their tables
-    module _ (price cost : K) (in_right : r < length right)
-        (read_right : price ≡ get_or right r price)
-        (in_costs : r < length costs) (read_cost : cost ≡ get_or costs r cost) where
-      -- the same of what the tables say
-      priced : kind.meaning price ≡ columns_at kind right r
-      priced = value_at kind right r price in_right read_right
-
-      costed : kind.meaning cost ≡ columns_at kind costs r
-      costed = value_at kind costs r cost in_costs read_cost
-
-      pub row_further : (seen faults number : ℕ)
-          → Decides (faultless seen faults) (IsSoundRow kind r costs standing left right)
-          → number ≡ bool_byte (wrong left (kind.meaning price) (kind.meaning cost))
-          → Decides (faultless (bit_or seen (get_or standing r 0))
-          (bit_or faults (bit_and (get_or standing r 0) number)))
-          (IsSoundRow kind (r + 1) costs standing left right)
-      row_further seen faults number before counted =
-          let byte = get_or standing r 0 in
-          let off = wrong left (columns_at kind right r) (columns_at kind costs r) in
-          let fine = not off in
-          let fault : number ≡ bool_byte (not fine) =
-          counted ∙ ap₂ (λ x y. bool_byte (wrong left x y)) priced costed
-          ∙ ap bool_byte (sym (not-not off)) in
-          Decides-at (faultless (bit_or seen byte) (bit_or faults (bit_and byte number)))
-          (faultless seen faults && is_fine byte fine)
-          (ap (λ x. faultless (bit_or seen byte) (bit_or faults (bit_and byte x))) fault
-          ∙ gathered seen faults byte fine)
-          (Decides-like (faultless seen faults && is_fine byte fine) further back
-          (Decides-and (faultless seen faults) (is_fine byte fine) before
-          (fine_tells byte fine
-          (order_tells left (columns_at kind right r) (columns_at kind costs r)))))
-
-      pub row_tight : (number : ℕ)
-          → number ≡ bool_byte (is_eq (lex (sums left (kind.meaning price)) (kind.meaning cost)))
-          → IsSoundRow kind (r + 1) costs standing left right
-          → not (eqb (bit_and (get_or standing r 0) number) 0)
-          ≡ adds_up (says_stands (get_or standing r 0)) left (columns_at kind right r)
-          (columns_at kind costs r)
-      row_tight number counted h =
-          ap (λ x. not (eqb (bit_and (get_or standing r 0) x) 0))
-          (counted ∙ ap₂ (λ x y. bool_byte (is_eq (lex (sums left x) y))) priced costed)
-          ∙ sound_tight left (columns_at kind right r) (columns_at kind costs r)
-          (get_or standing r 0) (back h).1.0
-
-    pub row_before : IsSoundRow kind (r + 1) costs standing left right
-        → IsSoundRow kind r costs standing left right
-    row_before h = (back h).0
+        told = Decides-at (faultless (bit_or seen byte) (bit_or faults (bit_and byte fault)))
+            (faultless seen faults && is_fine byte (not off))
+            (ap (λ x. faultless (bit_or seen byte) (bit_or faults (bit_and byte x)))
+            (faulty ∙ ap bool_byte (sym (not-not off))) ∙ gathered seen faults byte (not off))
+            (Decides-like (faultless seen faults && is_fine byte (not off))
+            (λ (h : Each r × IsSoundPair byte left price cost). below_more (λ j.
+            pair (slice_index standing j, (columns_at kind right j, columns_at kind costs j))) r
+            h.0 (subst pair same h.1))
+            (λ (s : Each (r + 1)). (
+              λ j i. s j (omega arith),
+              subst pair (sym same) (s r (omega arith)),
+            ))
+            (Decides-and (faultless seen faults) (is_fine byte (not off)) before.told
+            (pair_tells left price cost byte)));
+        tight = λ s. put_if row new r (is_tight_in kind costs standing left right)
+            (not (bit_and byte tight == 0)) (before.tight (λ j i. s j (omega arith)))
+            (ap (λ x. not (bit_and byte x == 0)) even
+            ∙ sound_tight left price cost byte (subst pair (sym same) (s r (omega arith))).calm
+            ∙ ap (λ p. adds_up (says_stands p.0) left p.1.0 p.1.1) same) put;
+      }
 
 -- ---- All rows
 
-module _ {K : Type 0} (kind : Ghosts K) (n : ℕ) (costs : List K) (standing : List ℕ)
-    (left right : List K) where
-  -- one left block more, whose price was read from its table, by its parts of the pair tables
-  module _ (l m : ℕ) (price : K) (inside : l < n) (whole : length costs ≡ n * n)
-      (bytes : length standing ≡ n * n) (in_left : l < length left)
-      (read : price ≡ get_or left l price) (width : m ≡ n) where
-    abbrev pub part : {X : Type 0} → List X → List X
-    part xs = take (l * n + n - l * n) (drop (l * n) xs)
+-- what holds of the place of each pair holds of all places
+each_place : (n : ℕ) (P : ℕ → Type 0)
+    → ((l : ℕ) → l < n → (r : ℕ) → r < rights_of n → P (place_of n l r))
+    → (k : ℕ) → k < places_of n → P k
+each_place zero P each k h = absurd (omega arith)
+each_place (suc m) P each k h =
+    let e : k / suc m * suc m + k % suc m ≡ k = omega (arith, mod-add-div k (suc m)) in
+    subst P e (each (k / suc m) ((div-lt_iff_lt-mul (omega arith)).1 h) (k % suc m) (omega arith))
 
-    pub rows_further : AreSoundRows kind n costs standing left right l
-        → IsSoundRow kind m (part costs) (part standing) (kind.meaning price) right
-        → AreSoundRows kind n costs standing left right (l + 1)
-    rows_further h row = record {
-      in_order = record { bytes = bytes_to; small = small_to };
-      under =
-          below_more (λ k. RowUnder n (λ r. says_stands (byte_of n standing k r))
-          (columns_at kind left k) (columns_at kind right)
-          (λ r. columns_at kind costs (place_of n k r))) l h.under
-          (λ r below s.
-          subst (λ x. Upto (sums x (columns_at kind right r))
-          (columns_at kind costs (place_of n l r)))
-          (value_at kind left l price in_left read)
-          (subst (Upto (sums (kind.meaning price) (columns_at kind right r)))
-          (columns_at_lem kind costs n l inside whole r below)
-          (row.under r (omega arith)
-          (ap says_stands (row_at standing n l inside bytes r 0 below) ∙ s))));
-    }
-      where
-        bytes_to : (k : ℕ) → k < (l + 1) * n → says_disturbed (get_or standing k 0) ≡ false
-        bytes_to k i = elim (cases_lt k (l * n)) [
-          | inl j ↦ h.in_order.bytes k j
-          | inr j ↦
-              let below : k - l * n < n = omega (arith, add-mul l 1 n, one-mul n) in
-              let e : l * n + (k - l * n) ≡ k = omega arith in
-              subst (λ p. says_disturbed (get_or standing p 0) ≡ false) e
-              (subst (λ x. says_disturbed x ≡ false)
-              (row_at standing n l inside bytes (k - l * n) 0 below)
-              (row.in_order.bytes (k - l * n) (omega arith)))
-        ]
+module _ {K : Type 0} (kind : Ghosts K) (t : Lent K) where
+  -- what the tables say of the pair of l and r: whether it is sound, and whether it is tight
+  abbrev pub IsSoundAt : ℕ → ℕ → Type 0
+  IsSoundAt l r = IsSoundPair (byte_of t.size t.standing l r) (left_price kind t l)
+      (right_price kind t r) (columns_at kind t.costs (place_of t.size l r))
 
-        small_to : (k : ℕ) → k < (l + 1) * n → says_stands (get_or standing k 0) ≡ true
-            → Within 1000000000 (columns_at kind costs k)
-        small_to k i = elim (cases_lt k (l * n)) [
-          | inl j ↦ h.in_order.small k j
-          | inr j ↦
-              let below : k - l * n < n = omega (arith, add-mul l 1 n, one-mul n) in
-              let e : l * n + (k - l * n) ≡ k = omega arith in
-              subst (λ p. says_stands (get_or standing p 0) ≡ true
-              → Within 1000000000 (columns_at kind costs p)) e
-              (λ s. subst (Within 1000000000)
-              (columns_at_lem kind costs n l inside whole (k - l * n) below)
-              (row.in_order.small (k - l * n) (omega arith)
-              (ap says_stands (row_at standing n l inside bytes (k - l * n) 0 below) ∙ s)))
-        ]
+  abbrev pub is_tight_at : ℕ → ℕ → Bool
+  is_tight_at l r = adds_up (says_stands (byte_of t.size t.standing l r)) (left_price kind t l)
+      (right_price kind t r) (columns_at kind t.costs (place_of t.size l r))
 
-    pub rows_back : AreSoundRows kind n costs standing left right n
-        → IsSoundRow kind m (part costs) (part standing) (kind.meaning price) right
-    rows_back h = record {
-      in_order = record {
-        bytes = λ r i. subst (λ x. says_disturbed x ≡ false)
-            (sym (row_at standing n l inside bytes r 0 (below r i)))
-            (h.in_order.bytes (l * n + r) (place r i));
-        small = λ r i s. subst (Within 1000000000)
-            (sym (columns_at_lem kind costs n l inside whole r (below r i)))
-            (h.in_order.small (l * n + r) (place r i) (stood r i s));
-      };
-      under = λ r i s.
-          subst (Upto (sums (kind.meaning price) (columns_at kind right r)))
-          (sym (columns_at_lem kind costs n l inside whole r (below r i)))
-          (subst (λ x. Upto (sums x (columns_at kind right r)) (columns_at kind costs (l * n + r)))
-          (sym (value_at kind left l price in_left read))
-          (h.under l inside r (below r i) (stood r i s)));
-    }
-      where
-        below : (r : ℕ) → r < m → r < n
-        below r i = omega arith
+  abbrev sum : ℕ → ℕ → List ℤ
+  sum l r = plus (left_price kind t l) (right_price kind t r)
 
-        place : (r : ℕ) → r < m → l * n + r < n * n
-        place r i = mul-add-lt l n r n inside (below r i)
+  abbrev cost : ℕ → ℕ → List ℤ
+  cost l r = columns_at kind t.costs (place_of t.size l r)
 
-        stood : (r : ℕ) (i : r < m) → says_stands (get_or (part standing) r 0) ≡ true
-            → says_stands (get_or standing (l * n + r) 0) ≡ true
-        stood r i s = sym (ap says_stands (row_at standing n l inside bytes r 0 (below r i))) ∙ s
+  abbrev even : ℕ → ℕ → Bool
+  even l r = is_eq (lex (sum l r) (cost l r))
 
--- ---- Lent tables
+  -- the pairs of the left blocks below k are sound, and their rows hold what is tight
+  pub record AreFilled (k : ℕ) (rows : List BlockSet) : Type 0 where
+    pub sound : (l : ℕ) → l < k → (r : ℕ) → r < rights_of t.size → IsSoundAt l r
+    pub tight : Made k (rights_of t.size) is_tight_at rows
 
-module _ {K : Type 0} (kind : Ghosts K) (t : Lent K)
-    (lefts : Bounded kind 1000000000000 t.size t.left)
-    (rights : Bounded kind 1000000000000 t.size t.right) where
-  -- prices within 10^12 add up without the rail
-  pub sum_exact : (l r : ℕ) → l < t.size → r < t.size
-      → sums (left_price kind t l) (right_price kind t r)
-      ≡ plus (left_price kind t l) (right_price kind t r)
-  sum_exact l r i j =
-      (exact 1000000000000 1000000000000 (left_price kind t l) (right_price kind t r) (omega arith)
-      (lefts l i) (rights r j)).0
+  module _ (room : HasRoom t) where
+    -- one left block more, whose price was read from its table, by its parts of the pair tables
+    module _ (l : ℕ) (price : K) (costs : List K) (standing : List ℕ) (inside : l < t.size)
+        (read : price ≡ slice_index_or t.left l price)
+        (costs_are : costs ≡ part_of t.size l t.costs)
+        (standing_are : standing ≡ part_of t.size l t.standing) where
+      -- a byte, a left price and a cost, as the parts say and as the tables say
+      pair_read : (r : ℕ) → r < rights_of t.size
+          → ◌≡◌ {A = ℕ × (List ℤ × List ℤ)}
+          (slice_index standing r, (kind.meaning price, columns_at kind costs r)) (
+            byte_of t.size t.standing l r,
+            (
+              left_price kind t l,
+              columns_at kind t.costs (place_of t.size l r),
+            ),
+          )
+      pair_read r i =
+          let e : slice_index standing r ≡ byte_of t.size t.standing l r =
+          ap (λ xs. slice_index xs r) standing_are
+          ∙ part_at t.size l t.standing inside room.standing_long r 0 i in
+          let f = value_at kind t.left l price (omega (arith, room.left_long)) read in
+          let h : columns_at kind costs r ≡ columns_at kind t.costs (place_of t.size l r) =
+          ap (λ xs. columns_at kind xs r) costs_are
+          ∙ columns_at-part_of kind t.costs t.size l inside room.costs_long r i in
+          cc
 
-  -- so where they are valid and the pair tables in order, all pairs are sound
-  pub sound_if_valid : IsInOrder kind (places_of t.size) t.costs t.standing → (p : List ℕ)
-      → Valid (grid kind t) (left_price kind t) (right_price kind t) p → IsSound kind t
-  sound_if_valid o p v = record {
-    in_order = o;
-    under = λ l i r j s. subst (λ x. Upto x ((grid kind t).cost l r)) (sym (sum_exact l r i j))
-        (v.under l r i j s);
-  }
+      pub filled_more : (rows : List BlockSet) (row : BlockSet) → l < length rows → AreFilled l rows
+          → IsSoundRow kind costs standing (kind.meaning price) t.right (length t.right)
+          → HoldsPassing (length t.right)
+          (is_tight_in kind costs standing (kind.meaning price) t.right) row
+          → AreFilled (l + 1) (slice_set rows l row)
+      filled_more rows row in_rows before sound tight = record {
+        sound = below_more (λ k. (r : ℕ) → r < rights_of t.size → IsSoundAt k r) l before.sound
+            (λ r i. subst (λ p. IsSoundPair p.0 p.1.0 (right_price kind t r) p.1.1)
+            (pair_read r i) (sound r (omega (arith, room.right_long))));
+        tight = row_made (rights_of t.size) l is_tight_at rows row in_rows before.tight
+            (passing_like (rights_of t.size)
+            (is_tight_in kind costs standing (kind.meaning price) t.right) (is_tight_at l) row
+            (λ r i. ap (λ p. adds_up (says_stands p.0) p.1.0 (right_price kind t r) p.1.1)
+            (pair_read r i))
+            (subst (λ k. HoldsPassing k
+            (is_tight_in kind costs standing (kind.meaning price) t.right) row)
+            room.right_long tight));
+      }
+
+      pub row_of_sound : IsSound kind t
+          → IsSoundRow kind costs standing (kind.meaning price) t.right (length t.right)
+      row_of_sound s r i =
+          let j : r < rights_of t.size = omega (arith, room.right_long) in
+          let place = mul-add-lt l t.size r t.size inside j in
+          subst (λ p. IsSoundPair p.0 p.1.0 (right_price kind t r) p.1.1) (sym (pair_read r j))
+          (record {
+            calm = s.in_order.bytes (place_of t.size l r) place;
+            small = s.in_order.small (place_of t.size l r) place;
+            feasible = s.feasible l r inside j;
+          })
+
+    -- at the end
+    module _ (rows : List BlockSet) (filled : AreFilled t.size rows) where
+      at_place : (k : ℕ) → k < places_of t.size
+          → (says_disturbed (slice_index t.standing k) ≡ false)
+          × (says_stands (slice_index t.standing k) ≡ true
+          → Within COST_LIMIT (columns_at kind t.costs k))
+      at_place = each_place t.size (λ k. (says_disturbed (slice_index t.standing k) ≡ false)
+          × (says_stands (slice_index t.standing k) ≡ true
+          → Within COST_LIMIT (columns_at kind t.costs k)))
+          (λ l i r j. let s = filled.sound l i r j in (s.calm, s.small))
+
+      pub all_sound : IsSound kind t
+      all_sound = record {
+        in_order = record {
+          bytes = λ k h. (at_place k h).0;
+          small = λ k h. (at_place k h).1;
+        };
+        feasible = λ l r i j. (filled.sound l i r j).feasible;
+      }
+
+      -- rows that hold the pairs whose prices compare as equal to their costs are those of the
+      -- tight edges, since the columns of a kind are equally many
+      pub tight_rows : ((x : K) → length (kind.meaning x) ≡ kind.columns) → length rows ≡ t.size
+          → AreTightRows kind t rows
+      tight_rows wide long = record {
+        long = long;
+        held = λ l r i. (
+          λ e.
+              let there = and_parts (nat_lt r (rights_of t.size)) (is_tight_at l r)
+              (sym (filled.tight l r i) ∙ e) in
+              let j = ltb-true r (rights_of t.size) there.0 in
+              let both = and_parts (says_stands (byte_of t.size t.standing l r)) (even l r) there.1
+              in
+              record {
+                inside = j;
+                stands = both.0;
+                tight = lex_same (sum l r) (cost l r) (sized l r i j)
+                    ((Equal-is (lex (sum l r) (cost l r))).0 both.1);
+              },
+          λ edge. filled.tight l r i ∙ and_from (nat_lt r (rights_of t.size)) (is_tight_at l r)
+              (lt-ltb r (rights_of t.size) edge.inside)
+              (and_from (says_stands (byte_of t.size t.standing l r)) (even l r) edge.stands
+              (ap (λ x. is_eq (lex x (cost l r))) edge.tight ∙ ap is_eq (lex_refl (cost l r)))),
+        );
+      }
+        where
+          sized : (l r : ℕ) → l < t.size → r < rights_of t.size
+              → length (sum l r) ≡ length (cost l r)
+          sized l r i j =
+              let a = columns_sized kind wide t.left l (omega (arith, room.left_long)) in
+              let b = columns_sized kind wide t.right r (omega (arith, room.right_long)) in
+              let place = mul-add-lt l t.size r t.size i j in
+              let d = columns_sized kind wide t.costs (place_of t.size l r)
+              (omega (arith, room.costs_long)) in
+              length-columnwise ◌+ℤ◌ (left_price kind t l) (right_price kind t r) (a ∙ sym b)
+              ∙ a ∙ sym d

@@ -1,15 +1,16 @@
 -- The tables of a settled sheet as one value, and what they state at a cost kind.
-use Rattle.std.specs.Prelude.{◌≡◌, ℕ, ◌≤◌, List, length, ℤ, refl}
+use Rattle.std.specs.Prelude.{◌≡◌, ℕ, ◌<◌, ◌≤◌, List, length, ℤ, refl}
 use Rattle.std.specs.Coded.{Coded, code_by, coded×, coded_ℕ, coded_list}
 use Rattle.blockset.specs.declared.TheConstants.{MOST_BLOCKS}
 use Rattle.cost.specs.declared.Cost.{Ghosts}
+use Rattle.cost.specs.declared.TheConstants.{PRICE_LIMIT}
 use Rattle.pairing.specs.Grid.{Grid}
-use Rattle.pairing.specs.Places.{places_of}
-use Rattle.tables.specs.Said.{columns_at, grid_of, IsInOrder}
-use Rattle.tables.specs.Flaws.{HasNoFlaw, IsFirstFlaw}
+use Rattle.pairing.specs.Places.{places_of, rights_of}
+use Rattle.tables.specs.Said.{columns_at, grid_of, Bounded, IsInOrder}
 use Rattle.tables.specs.declared.flaw.Flaw.{Flaw}
+use Rattle.tables.specs.declared.flaw.Flaw.TheVariants.{Size, Length, Order}
 
--- the tables of n = `size` blocks a plane
+-- the tables of `size` left blocks and their right blocks
 pub record Lent (K : Type 0) : Type 0 where
   pub size : ℕ
   pub costs : List K
@@ -41,21 +42,16 @@ lent_code {K} code =
     (λ p. lent p.0 p.1.0 p.1.1.0 p.1.1.1.0 p.1.1.1.1.0 p.1.1.1.1.1)
     (λ _. refl)
 
--- the tables but the partners have the lengths that n blocks a plane ask for
-pub record HasRoom (n costs standing left right : ℕ) : Type 0 where
-  pub costs_long : costs ≡ places_of n
-  pub standing_long : standing ≡ places_of n
-  pub left_long : left ≡ n
-  pub right_long : right ≡ n
-
--- there are not too many blocks, and all tables but the partners have the lengths for them
-pub record IsReadable {K : Type 0} (t : Lent K) : Type 0 where
-  pub few : t.size ≤ MOST_BLOCKS
-  pub room : HasRoom t.size (length t.costs) (length t.standing) (length t.left) (length t.right)
+-- the tables but the partners have the lengths that their size asks for
+pub record HasRoom {K : Type 0} (t : Lent K) : Type 0 where
+  pub costs_long : length t.costs ≡ places_of t.size
+  pub standing_long : length t.standing ≡ places_of t.size
+  pub left_long : length t.left ≡ t.size
+  pub right_long : length t.right ≡ rights_of t.size
 
 -- all tables have the lengths that their size asks for
 pub record HasLengths {K : Type 0} (t : Lent K) : Type 0 where
-  pub room : HasRoom t.size (length t.costs) (length t.standing) (length t.left) (length t.right)
+  pub room : HasRoom t
   pub partners_long : length t.partners ≡ t.size
 
 module _ {K : Type 0} (kind : Ghosts K) (t : Lent K) where
@@ -70,14 +66,26 @@ module _ {K : Type 0} (kind : Ghosts K) (t : Lent K) where
   abbrev pub right_price : ℕ → List ℤ
   right_price = columns_at kind t.right
 
+  -- there are not too many blocks, the tables but the partners have room for them, and each price
+  -- is within 10^12 in each column
+  pub record ArePriced : Type 0 where
+    pub few : t.size ≤ MOST_BLOCKS
+    pub room : HasRoom t
+    pub left_near : Bounded kind PRICE_LIMIT t.size t.left
+    pub right_near : Bounded kind PRICE_LIMIT (rights_of t.size) t.right
+
   -- the pair tables are in order
   abbrev pub IsOrderly : Type 0
   IsOrderly = IsInOrder kind (places_of t.size) t.costs t.standing
 
   -- a call that pairs by cost can be made with them
-  abbrev pub IsUsable : Type 0
-  IsUsable = HasNoFlaw t.size (HasLengths t) IsOrderly
+  pub record IsUsable : Type 0 where
+    pub few : t.size ≤ MOST_BLOCKS
+    pub lengths : HasLengths t
+    pub in_order : IsOrderly
 
   -- it cannot, and this is the first reason
   abbrev pub IsUnusable : Flaw → Type 0
-  IsUnusable = IsFirstFlaw t.size (HasLengths t) IsOrderly
+  IsUnusable Size = MOST_BLOCKS < t.size
+  IsUnusable Length = (t.size ≤ MOST_BLOCKS) × (HasLengths t → ⊥)
+  IsUnusable Order = (t.size ≤ MOST_BLOCKS) × HasLengths t × (IsOrderly → ⊥)

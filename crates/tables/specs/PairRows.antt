@@ -1,33 +1,34 @@
 -- Rows of block sets made from lent tables: the standing pairs, and the tight ones.
-use Rattle.std.specs.Prelude.{◌≡◌, ℕ, ◌<◌, Bool, true, ◌&&◌, List, ℤ, IsTrue, ◌↔◌, nat_lt}
-use Rattle.std.specs.Ordering.{is_eq}
-use Rattle.cost.specs.Columns.{sums, lex}
+use Rattle.std.specs.Prelude.{◌≡◌, ℕ, ◌<◌, Bool, true, ◌&&◌, List, length, ℤ, IsTrue, ◌↔◌, nat_lt}
+use Rattle.cost.specs.declared.Cost.{Ghosts}
 use Rattle.blockset.specs.declared.BlockSet.{BlockSet}
-use Rattle.blockset.specs.declared.TheConstants.{SET_WIDTH}
 use Rattle.blockset.specs.Has.{has}
-use Rattle.pairing.specs.Grid.{Grid, Sane}
+use Rattle.pairing.specs.Grid.{Grid, right_count}
+use Rattle.pairing.specs.Places.{rights_of}
 use Rattle.pairing.specs.Prices.{TightPair}
 use Rattle.pairing.specs.Rows.{holds}
+use Rattle.tables.specs.Lent.{Lent, grid, left_price, right_price}
 
--- the set holds just the right blocks below n that pass the test; no set has room for a number from
--- its width on
+-- the set holds just the right blocks below a number that pass the test
 abbrev pub HoldsPassing : ℕ → (ℕ → Bool) → BlockSet → Type 0
-HoldsPassing n test set = (r : ℕ) → has set r ≡ (nat_lt r SET_WIDTH && (nat_lt r n && test r))
+HoldsPassing rights test set = (r : ℕ) → has set r ≡ (nat_lt r rights && test r)
 
 -- row l holds right block r exactly if there is such a block and the pair stands
 abbrev pub StandingRows : ℕ → (ℕ → ℕ → Bool) → List BlockSet → Type 0
-StandingRows n stands rows = (l r : ℕ) → l < n → holds rows l r ≡ (nat_lt r n && stands l r)
+StandingRows n stands rows =
+    (l r : ℕ) → l < n → holds rows l r ≡ (nat_lt r (rights_of n) && stands l r)
 
--- a pair stands and its two prices add up to its cost, as the kinds add: a sum stops at the ends of
--- the rail
-abbrev pub adds_up : Bool → (left right cost : List ℤ) → Bool
-adds_up stands left right cost = stands && is_eq (lex (sums left right) cost)
+-- left block l and right block r are joined by a tight edge, one of the equality subgraph: there is
+-- such a right block, the pair stands, and it costs just its two prices, so that its reduced cost
+-- is zero
+pub record IsTightEdge (g : Grid) (left right : ℕ → List ℤ) (l r : ℕ) : Type 0 where
+  pub inside : r < right_count g
+  pub stands : g.stands l r ≡ true
+  pub tight : TightPair g left right l r
 
--- row l holds right block r exactly if there is such a block, the pair stands, and its two prices
--- add up to its cost
-pub record TightRows (g : Grid) (left right : ℕ → List ℤ) (rows : List BlockSet) : Type 0 where
-  pub told : (l r : ℕ) → l < g.size
-      → holds rows l r ≡ (nat_lt r g.size && adds_up (g.stands l r) (left l) (right r) (g.cost l r))
-  -- where the costs are sane the rail makes no difference: the row holds just the tight pairs
-  pub tight : Sane g → (l r : ℕ) → l < g.size → r < g.size
-      → (IsTrue (holds rows l r) ↔ ((g.stands l r ≡ true) × TightPair g left right l r))
+-- the rows are those of the tables' tight edges
+pub record AreTightRows {K : Type 0} (kind : Ghosts K) (t : Lent K) (rows : List BlockSet)
+    : Type 0 where
+  pub long : length rows ≡ t.size
+  pub held : (l r : ℕ) → l < t.size → IsTrue (holds rows l r)
+      ↔ IsTightEdge (grid kind t) (left_price kind t) (right_price kind t) l r

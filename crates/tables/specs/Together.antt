@@ -5,7 +5,7 @@ use Rattle.blockset.specs.declared.TheConstants.{MOST_BLOCKS}
 use Rattle.cost.specs.declared.Cost.{Ghosts}
 use Rattle.cost.specs.declared.TheConstants.{PRICE_LIMIT}
 use Rattle.pairing.specs.Grid.{PerfectIn}
-use Rattle.pairing.specs.Places.{places_of}
+use Rattle.pairing.specs.Places.{places_of, rights_of}
 use Rattle.pairing.specs.Prices.{Valid}
 use Rattle.tables.specs.Said.{Bounded, IsInOrder}
 use Rattle.tables.specs.Lent.{Lent, grid, left_price, right_price}
@@ -28,5 +28,5 @@ module _ {K : Type 0} (kind : Ghosts K) where
     pub pair_tables : ArePairTables t.size t.costs t.standing
     pub perfect : PerfectIn (grid kind t) t.partners
     pub left_prices : ArePrices t.size t.left
-    pub right_prices : ArePrices t.size t.right
+    pub right_prices : ArePrices (rights_of t.size) t.right
     pub valid : Valid (grid kind t) (left_price kind t) (right_price kind t) t.partners

@@ -2,16 +2,14 @@
 
 ghost use Rattle.std.specs.Prelude.{◌≡◌, ◌≤◌, length, IfNone, IfSome};
 ghost use Rattle.blockset.specs.declared.TheConstants.{MOST_BLOCKS};
-ghost use Rattle.cost.specs.declared.TheConstants.{PRICE_LIMIT};
 ghost use Rattle.pairing.specs.Places.{places_of};
 ghost use Rattle.tables.specs.PairTables.{byte_of, says_stands};
-ghost use Rattle.tables.specs.PairRows.{StandingRows, TightRows};
-ghost use Rattle.tables.specs.Lent.{IsReadable, grid, left_price, right_price};
-ghost use Rattle.tables.specs.Said.{Bounded};
+ghost use Rattle.tables.specs.PairRows.{StandingRows, AreTightRows};
+ghost use Rattle.tables.specs.Lent.{ArePriced};
 ghost use Rattle.tables.specs.Sound.{IsSound};
 
 use crate::lent::Tables;
-use crate::rows::{fill_standing_rows, fill_tight_rows};
+use crate::rows::fill_standing_rows;
 use crate::sound::fill_sound_rows;
 use blockset::{BlockSet, SET_WIDTH};
 use cost::Cost;
@@ -46,79 +44,37 @@ impl PairRows {
     {
         let len = n as usize;
         let mut sets = [BlockSet::empty(); SET_WIDTH];
-        fill_standing_rows(standing, &mut sets[..len]);
+        fill_standing_rows(n, standing, &mut sets[..len]);
         PairRows { sets, len }
     }
 
-    /// The right blocks that are tight with each left block.
-    pub fn tight<K: Cost>(tables: &Tables<'_, K>) -> PairRows
-        requires { IsReadable tables.now }
-        ensures long { length result ≡ tables.now.size }
-        ensures rows { TightRows (grid K.Cost tables.now) (left_price K.Cost tables.now)
-            (right_price K.Cost tables.now) result }
-    {
-        let len = tables.size as usize;
-        let mut sets = [BlockSet::empty(); SET_WIDTH];
-        let rows = &mut sets[..len];
-        fill_tight_rows(
-            tables.costs,
-            tables.standing,
-            tables.left,
-            tables.right,
-            rows,
-        );
-        PairRows { sets, len }
-    }
-
-    /// The same, if all pairs are sound: the pair tables are in order, and no standing pair costs
-    /// less than its two prices. The prices are known to be within 10^12.
+    /// The right blocks that are tight with each left block, if all pairs are sound: the pair
+    /// tables are in order, and no standing pair costs less than its two prices. The prices are
+    /// known to be within 10^12.
     pub fn sound<K: Cost>(tables: &Tables<'_, K>) -> Option<PairRows>
-        requires readable { IsReadable tables.now }
-        requires left_near { Bounded K.Cost PRICE_LIMIT tables.now.size tables.now.left }
-        requires right_near { Bounded K.Cost PRICE_LIMIT tables.now.size tables.now.right }
+        requires { ArePriced K.Cost tables.now }
         ensures unsound { IfNone result (IsSound K.Cost tables.now → ⊥) }
         ensures sound { IfSome result (λ _. IsSound K.Cost tables.now) }
-        ensures long { IfSome result (λ rows. length rows ≡ tables.now.size) }
-        ensures rows { IfSome result (TightRows (grid K.Cost tables.now)
-            (left_price K.Cost tables.now) (right_price K.Cost tables.now)) }
+        ensures tight { IfSome result (AreTightRows K.Cost tables.now) }
     {
         let len = tables.size as usize;
         let mut sets = [BlockSet::empty(); SET_WIDTH];
-        let filled = &mut sets[..len];
-        if fill_sound_rows(
-            tables.costs,
-            tables.standing,
-            tables.left,
-            tables.right,
-            filled,
-        ) {
+        if fill_sound_rows(tables, &mut sets[..len]) {
             Some(PairRows { sets, len })
         } else {
             None
         }
     }
 
-    /// What `tight` answers, where all pairs are known to be sound and the prices within 10^12, as
-    /// they are once a sheet is settled: then no sum is stopped, and no pair needs a branch.
+    /// The same rows, where all pairs are known to be sound, as they are once a sheet is settled.
     pub fn tight_within<K: Cost>(tables: &Tables<'_, K>) -> PairRows
-        requires readable { IsReadable tables.now }
-        requires left_near { Bounded K.Cost PRICE_LIMIT tables.now.size tables.now.left }
-        requires right_near { Bounded K.Cost PRICE_LIMIT tables.now.size tables.now.right }
+        requires priced { ArePriced K.Cost tables.now }
         requires sound { IsSound K.Cost tables.now }
-        ensures long { length result ≡ tables.now.size }
-        ensures rows { TightRows (grid K.Cost tables.now) (left_price K.Cost tables.now)
-            (right_price K.Cost tables.now) result }
+        ensures { AreTightRows K.Cost tables.now result }
     {
         let len = tables.size as usize;
         let mut sets = [BlockSet::empty(); SET_WIDTH];
-        let tight = &mut sets[..len];
-        let _sound = fill_sound_rows(
-            tables.costs,
-            tables.standing,
-            tables.left,
-            tables.right,
-            tight,
-        );
+        let _sound = fill_sound_rows(tables, &mut sets[..len]);
         PairRows { sets, len }
     }
 

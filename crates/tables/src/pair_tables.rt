@@ -1,9 +1,11 @@
 //! The two pair tables that a caller lends: where a pair lies in them, and what they say of it.
+
 ghost use Rattle.std.specs.Prelude.{◌≡◌, ◌<◌, ◌≤◌, length, replicate, count_by};
 ghost use Rattle.cost.specs.declared.TheConstants.{COST_LIMIT};
 ghost use Rattle.cost.specs.Columns.{Within};
 ghost use Rattle.pairing.specs.Places.{place_of, places_of};
 ghost use Rattle.tables.specs.PairTables.{HavePlaces, have_places, says_stands, says_disturbed};
+ghost use Rattle.tables.specs.PairTables.{part_of};
 ghost use Rattle.tables.specs.PairTables.{in_order, costs_entered, standing_entered};
 ghost use Rattle.tables.specs.Said.{IsInOrder};
 
@@ -28,6 +30,16 @@ pub fn place(n: u16, left: u16, right: u16) -> usize
     ensures { result ≡ place_of n left right }
 {
     left as usize * n as usize + right as usize
+}
+
+/// The part of a pair table that belongs to left block `l` of n.
+pub fn part_of<T>(n: u16, l: usize, table: &[T]) -> &[T]
+    requires inside { l < n }
+    requires long { length table.now ≡ places_of n }
+    ensures { result.now ≡ part_of n l table.now }
+{
+    let start = l * n as usize;
+    &table[start..start + n as usize]
 }
 
 /// Whether a standing byte says that its pair stands.

@@ -1,18 +1,19 @@
 //! One pass over lent tables: whether their pairs are sound, and which of them are tight. What is
 //! wrong of a row is gathered, and asked for once the row is through.
 
-ghost use Rattle.std.specs.Prelude.{◌≡◌, ◌≤◌, length, IsTrue, ◌↔◌, IfNone, IfSome, slice_index};
+ghost use Rattle.std.specs.Prelude.{◌≡◌, ◌≤◌, length, IsTrue, ◌↔◌, IfNone, IfSome};
 ghost use Rattle.std.specs.Bool.{OnTrue};
 ghost use Rattle.std.specs.Ordering.{is_gt, is_eq};
-ghost use Rattle.blockset.specs.declared.TheConstants.{MOST_BLOCKS, SET_WIDTH};
+ghost use Rattle.blockset.specs.declared.TheConstants.{SET_WIDTH};
 ghost use Rattle.cost.specs.declared.TheConstants.{PRICE_LIMIT};
-ghost use Rattle.cost.specs.Columns.{Within, sums, lex};
-ghost use Rattle.tables.specs.PairTables.{says_stands};
-ghost use Rattle.tables.specs.Said.{columns_at, grid_of, Bounded};
-ghost use Rattle.tables.specs.Lent.{HasRoom};
-ghost use Rattle.tables.specs.PairRows.{HoldsPassing, adds_up, TightRows};
-ghost use Rattle.tables.specs.Sound.{IsSoundRow, AreSoundRows};
+ghost use Rattle.cost.specs.Columns.{Within, plus, lex};
+ghost use Rattle.tables.specs.Said.{Bounded};
+ghost use Rattle.tables.specs.Lent.{ArePriced};
+ghost use Rattle.tables.specs.PairRows.{HoldsPassing, AreTightRows};
+ghost use Rattle.tables.specs.Sound.{IsSound, IsSoundRow, is_tight_in};
 
+use crate::lent::Tables;
+use crate::pair_tables::part_of;
 use blockset::BlockSet;
 use cost::{COST_LIMIT, Cost};
 
@@ -22,9 +23,9 @@ fn compare_prices<K: Cost>(left: K, right: K, cost: K) -> (bool, bool)
     requires left_near { Within PRICE_LIMIT (K.meaning left) }
     requires right_near { Within PRICE_LIMIT (K.meaning right) }
     ensures beyond { result.0
-        ≡ is_gt (lex (sums (K.meaning left) (K.meaning right)) (K.meaning cost)) }
+        ≡ is_gt (lex (plus (K.meaning left) (K.meaning right)) (K.meaning cost)) }
     ensures tight { result.1
-        ≡ is_eq (lex (sums (K.meaning left) (K.meaning right)) (K.meaning cost)) }
+        ≡ is_eq (lex (plus (K.meaning left) (K.meaning right)) (K.meaning cost)) }
 {
     let sum = left.add_near(right);
     (cost.is_less_near(sum), cost.is_equal_near(sum))
@@ -38,13 +39,12 @@ fn sound_row<K: Cost>(costs: &[K], standing: &[u8], left: K, right: &[K]) -> Opt
     requires standing_long { length standing.now ≡ length right.now }
     requires left_near { Within PRICE_LIMIT (K.meaning left) }
     requires right_near { Bounded K.Cost PRICE_LIMIT (length right.now) right.now }
-    ensures unsound { IfNone result (IsSoundRow K.Cost (length right.now) costs.now standing.now
-        (K.meaning left) right.now → ⊥) }
-    ensures sound { IfSome result (λ _. IsSoundRow K.Cost (length right.now) costs.now
-        standing.now (K.meaning left) right.now) }
+    ensures unsound { IfNone result (IsSoundRow K.Cost costs.now standing.now (K.meaning left)
+        right.now (length right.now) → ⊥) }
+    ensures sound { IfSome result (λ _. IsSoundRow K.Cost costs.now standing.now
+        (K.meaning left) right.now (length right.now)) }
     ensures tight { IfSome result (HoldsPassing (length right.now)
-        (λ r. adds_up (says_stands (slice_index standing.now r)) (K.meaning left)
-        (columns_at K.Cost right.now r) (columns_at K.Cost costs.now r))) }
+        (is_tight_in K.Cost costs.now standing.now (K.meaning left) right.now)) }
 {
     // Each bit that some byte has, and not 0 if a standing pair has a fault.
     let mut seen = 0;
@@ -68,29 +68,16 @@ fn sound_row<K: Cost>(costs: &[K], standing: &[u8], left: K, right: &[K]) -> Opt
 
 /// Makes row l the set of the right blocks that are tight with left block l, and tells whether all
 /// pairs are sound. Where they are not, the rows mean nothing.
-pub fn fill_sound_rows<K: Cost>(
-    costs: &[K],
-    standing: &[u8],
-    left: &[K],
-    right: &[K],
-    rows: &mut [BlockSet],
-) -> bool
-    requires few { length rows.old ≤ MOST_BLOCKS }
-    requires room { HasRoom (length rows.old) (length costs.now) (length standing.now)
-        (length left.now) (length right.now) }
-    requires left_near { Bounded K.Cost PRICE_LIMIT (length left.now) left.now }
-    requires right_near { Bounded K.Cost PRICE_LIMIT (length right.now) right.now }
-    ensures sound { IsTrue result ↔ AreSoundRows K.Cost (length rows.old) costs.now standing.now
-        left.now right.now (length rows.old) }
-    ensures tight { OnTrue result
-        (TightRows (grid_of K.Cost (length rows.old) costs.now standing.now)
-        (columns_at K.Cost left.now) (columns_at K.Cost right.now) rows.new) }
+pub fn fill_sound_rows<K: Cost>(tables: &Tables<'_, K>, rows: &mut [BlockSet]) -> bool
+    requires priced { ArePriced K.Cost tables.now }
+    requires long { length rows.old ≡ tables.now.size }
+    ensures sound { IsTrue result ↔ IsSound K.Cost tables.now }
+    ensures tight { OnTrue result (AreTightRows K.Cost tables.now rows.new) }
 {
-    let n = rows.len();
     for (l, row) in rows.iter_mut().enumerate() {
-        let start = l * n;
-        let end = start + n;
-        match sound_row(&costs[start..end], &standing[start..end], left[l], right) {
+        let costs = part_of(tables.size, l, tables.costs);
+        let standing = part_of(tables.size, l, tables.standing);
+        match sound_row(costs, standing, tables.left[l], tables.right) {
             Some(tight) => *row = tight,
             None => return false,
         }

@@ -9,13 +9,16 @@ use Rattle.cost.proofs.Exact.{exact, plus-within, within_more}
 use Rattle.cost.proofs.Order.{lex_mirror}
 use Rattle.tables.proofs.sound.compare_prices.Goals as goal
 
--- the sum of two prices is near
-sum_near : (left right sum : List ℤ) → Within PRICE_LIMIT left → Within PRICE_LIMIT right
-    → sum ≡ sums left right → Within HALF_RAIL sum
-sum_near left right sum l r is = subst (Within HALF_RAIL)
-    (sym (is ∙ (exact PRICE_LIMIT PRICE_LIMIT left right (omega arith) l r).0))
-    (within_more (PRICE_LIMIT + PRICE_LIMIT) HALF_RAIL (plus left right) (omega arith)
-    (plus-within PRICE_LIMIT PRICE_LIMIT left right l r))
+-- the sum of two prices is exact, and near
+module _ (left right sum : List ℤ) (l : Within PRICE_LIMIT left) (r : Within PRICE_LIMIT right)
+    (is : sum ≡ sums left right) where
+  sum_exact : sum ≡ plus left right
+  sum_exact = is ∙ (exact PRICE_LIMIT PRICE_LIMIT left right (omega arith) l r).0
+
+  sum_near : Within HALF_RAIL sum
+  sum_near = subst (Within HALF_RAIL) (sym sum_exact)
+      (within_more (PRICE_LIMIT + PRICE_LIMIT) HALF_RAIL (plus left right) (omega arith)
+      (plus-within PRICE_LIMIT PRICE_LIMIT left right l r))
 
 less_reversed : (o : Ordering) → is_lt (ordering_reverse o) ≡ is_gt o
 less_reversed Less = refl
@@ -39,11 +42,13 @@ is_equal_near-requires g c = sum_near (g.K.Cost.meaning c.args.left)
 
 pub returns : goal.returns
 returns g c =
-    let cost = g.K.Cost.meaning c.args.cost in
-    let sum = g.K.Cost.meaning c.add_near-sum.result in
-    let is = c.add_near-sum.ensures in
-    let turned = lex_mirror sum cost (g.met.K.Cost.laws.column_count c.add_near-sum.result
-    ∙ sym (g.met.K.Cost.laws.column_count c.args.cost)) in
+    let meaning = g.K.Cost.meaning in
+    let wide = g.met.K.Cost.laws.column_count in
+    let cost = meaning c.args.cost in
+    let sum = meaning c.add_near-sum.result in
+    let is = sum_exact (meaning c.args.left) (meaning c.args.right) sum c.requires.left_near
+    c.requires.right_near c.add_near-sum.ensures in
+    let turned = lex_mirror sum cost (wide c.add_near-sum.result ∙ sym (wide c.args.cost)) in
     record {
       beyond = c.is_less_near.ensures ∙ ap is_lt turned ∙ less_reversed (lex sum cost)
           ∙ ap (λ z. is_gt (lex z cost)) is;
