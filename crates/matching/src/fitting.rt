@@ -36,8 +36,9 @@ impl fmt::Display for Unfit {
 
 impl Error for Unfit {}
 
-/// Whether a list of as many numbers as there are rows is a perfect pairing over them.
-fn pairs_each_row(rows: &[BlockSet], p: &[u16]) -> bool
+/// Whether a list of as many numbers as there are rows, at most 64, is a perfect pairing over
+/// them.
+pub fn pairs_each_row(rows: &[BlockSet], p: &[u16]) -> bool
     requires small { length rows.now ≤ MOST_BLOCKS }
     requires sized { length p.now ≡ length rows.now }
     ensures { IsTrue result ↔ Pairs rows.now p.now }

@@ -22,6 +22,6 @@ mod stepping;
 
 pub use augmenting::{Found, Shortfall, largest, pair_most};
 pub use chains::{Holders, Reach, exchange};
-pub use fitting::{Unfit, fit, is_pairing};
+pub use fitting::{Unfit, fit, is_pairing, pairs_each_row};
 pub use marking::{mark_all, marks};
 pub use stepping::{Step, advance, first, make_first, next};

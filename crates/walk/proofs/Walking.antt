@@ -13,7 +13,7 @@ use Rattle.matching.specs.declared.stepping.Step.{Step}
 use Rattle.matching.specs.declared.stepping.Step.TheVariants.{Next, End}
 use Rattle.matching.proofs.Nth.{nth_optimum}
 use Rattle.tables.specs.Lent.{Lent, grid}
-use Rattle.walk.specs.Certified.{Certified}
+use Rattle.walk.specs.Certified.{IsCertified}
 
 -- what a walk leaves in its list is an optimum pairing
 pub step_optimum : (g : Grid) (before after : List ℕ) (s : Step)
@@ -22,7 +22,7 @@ step_optimum g before after Next h = nth_optimum g (h.0 + 1) after h.2
 step_optimum g before after End h = subst (Optimum g) (sym h.3) (nth_optimum g h.0 before h.1)
 
 module _ {K : Type 0} (kind : Ghosts K) (t : Lent K) (rows : List BlockSet)
-    (known : Certified kind t rows) where
+    (known : IsCertified kind t rows) where
   pub follows : (before after : List ℕ) (s : Step) → Follows (pairings rows) before after s
       → Follows (optima (grid kind t)) before after s
   follows before after s h = subst (λ ps. Follows ps before after s) known.optima_are h

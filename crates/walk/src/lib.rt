@@ -12,15 +12,13 @@ ghost use Rattle.tables.specs.Lent.{lent, grid};
 ghost use Rattle.tables.specs.Together.{Together};
 
 mod certificate;
-#[cfg(test)]
-mod tests;
+mod fitting;
 
-pub use certificate::{
-    are_pair_tables, certify, holds_together, is_optimum, is_perfect, prices_within_limit,
-};
+pub use certificate::{certify, certify_fitting, prices_within_limit};
 use cost::Cost;
 pub use cost::PRICE_LIMIT;
-use matching::{Step, advance, is_pairing, make_first, mark_all};
+pub use fitting::{mark_fitting, start_fitting, step_fitting};
+use matching::Step;
 use std::error::Error;
 use std::fmt;
 use tables::{Tables, places};
@@ -60,9 +58,6 @@ pub fn start<K: Cost>(
     ensures optimum { OnOk result (Optimum (grid_of K.Cost n costs.now standing.now) walk.new) }
     ensures apart { OnErr result (walk.new ≡ walk.old) }
 {
-    if walk.len() != n as usize {
-        return Err(Apart);
-    }
     let tables = Tables {
         size: n,
         costs,
@@ -71,12 +66,10 @@ pub fn start<K: Cost>(
         left,
         right,
     };
-    let Some(rows) = certify(&tables) else {
+    if !tables.fit() || walk.len() != n as usize {
         return Err(Apart);
-    };
-    walk.copy_from_slice(partners);
-    make_first(rows.as_slice(), walk);
-    Ok(())
+    }
+    start_fitting(&tables, walk)
 }
 
 /// Writes the optimum pairing that comes after the one in the walk list, or answers `End` and
@@ -107,13 +100,10 @@ pub fn next<K: Cost>(
         left,
         right,
     };
-    let Some(rows) = certify(&tables) else {
-        return Err(Apart);
-    };
-    if !is_pairing(rows.as_slice(), walk) {
+    if !tables.fit() || walk.len() != n as usize {
         return Err(Apart);
     }
-    Ok(advance(rows.as_slice(), walk))
+    step_fitting(&tables, walk)
 }
 
 /// Writes 1 for each pair that some optimum pairing has, and 0 for every other pair: place l × n +
@@ -133,9 +123,6 @@ pub fn marks<K: Cost>(
         (MarksOf n (optima (grid_of K.Cost n costs.now standing.now)) table.new) }
     ensures apart { OnErr result (table.new ≡ table.old) }
 {
-    if table.len() != places(n) {
-        return Err(Apart);
-    }
     let tables = Tables {
         size: n,
         costs,
@@ -144,9 +131,8 @@ pub fn marks<K: Cost>(
         left,
         right,
     };
-    let Some(rows) = certify(&tables) else {
+    if !tables.fit() || table.len() != places(n) {
         return Err(Apart);
-    };
-    mark_all(rows.as_slice(), partners, table);
-    Ok(())
+    }
+    mark_fitting(&tables, table)
 }

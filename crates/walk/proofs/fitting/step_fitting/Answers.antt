@@ -1,0 +1,46 @@
+-- The pairings over the rows are the optimum ones, so what is none there is no optimum pairing, and
+-- a step there is one among them.
+use Rattle.std.proofs.Common.{sym, refl, subst}
+use Rattle.std.proofs.lemmas.Bool.{false≢true}
+use Rattle.std.proofs.lemmas.Bool.Decides.{not_from_Decides}
+use Rattle.pairing.specs.Rows.{Pairs, pairings}
+use Rattle.matching.specs.Answers.{Follows}
+use Rattle.tables.specs.Lent.{grid}
+use Rattle.walk.proofs.Judging.{optimum_over}
+use Rattle.walk.proofs.Walking.{follows, step_optimum}
+use Rattle.walk.proofs.fitting.step_fitting.Goals as goal
+
+pub returns-then-not-pairs_each_row-clause-accepted :
+    goal.returns-then-not-pairs_each_row-clause-accepted
+returns-then-not-pairs_each_row-clause-accepted g c =
+    let walk = c.args.walk.now in (
+      λ e. absurd (false≢true e),
+      λ h. absurd (not_from_Decides c.pairs_each_row.result c.pairs_each_row.ensures
+          c.if-not-pairs_each_row.true (subst (λ rs. Pairs rs walk) (sym c.as_slice.ensures.rows)
+          ((optimum_over g.K.Cost c.args.tables.now c.in-Some.rows c.in-Some.ensures.certified
+          walk).1 h.1))),
+    )
+
+pub returns-clause-accepted : goal.returns-clause-accepted
+returns-clause-accepted g c =
+    let walk = c.args.walk.now in
+    let known = c.in-Some.ensures.certified in (
+      λ _. (
+        known.together,
+        (optimum_over g.K.Cost c.args.tables.now c.in-Some.rows known walk).0
+            (subst (λ rs. Pairs rs walk) c.as_slice.ensures.rows
+            (c.pairs_each_row.ensures.0 c.if-not-pairs_each_row.false)),
+      ),
+      λ _. refl,
+    )
+
+pub returns-clause-steps : goal.returns-clause-steps
+returns-clause-steps g c =
+    follows g.K.Cost c.args.tables.now c.in-Some.rows c.in-Some.ensures.certified c.args.walk.now
+    c.advance.new.p c.advance.result
+    (subst (λ rs. Follows (pairings rs) c.args.walk.now c.advance.new.p c.advance.result)
+    c.as_slice-2.ensures.rows c.advance.ensures)
+
+pub returns-clause-optimum : goal.returns-clause-optimum
+returns-clause-optimum g c = step_optimum (grid g.K.Cost c.args.tables.now) c.args.walk.now
+    c.advance.new.p c.advance.result (returns-clause-steps g c)
