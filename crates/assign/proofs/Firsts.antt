@@ -13,12 +13,11 @@ use Rattle.pairing.proofs.Duality.{valid_alike}
 use Rattle.pairing.proofs.Listing.{perfects_are}
 use Rattle.matching.specs.Answers.{IsNth}
 use Rattle.matching.proofs.Nth.{contains_nth, nth_optimum}
-use Rattle.tables.specs.Lent.{Lent, lent, grid, left_price, right_price, IsUsable}
-use Rattle.tables.specs.PairRows.{TightRows}
+use Rattle.tables.specs.Lent.{Lent, lent, grid, left_price, right_price, IsUsable, ArePriced}
+use Rattle.tables.specs.PairRows.{AreTightRows}
 use Rattle.tables.specs.Together.{Together}
 use Rattle.tables.specs.Sound.{IsSound}
 use Rattle.tables.proofs.Orderly.{sane_in_order}
-use Rattle.tables.proofs.Sounding.{sound_if_valid}
 use Rattle.tables.proofs.Tightness.{pairs_optimum, pairings_are_optima}
 use Rattle.assign.specs.Answer.{Solved, Settled}
 
@@ -61,24 +60,29 @@ module _ {K : Type 0} (kind : Ghosts K) (wide : (x : K) → length (kind.meaning
     valid = s.prices.greatest.valid;
   }
 
+  pub priced : Solved kind t → ArePriced kind t
+  priced s = record {
+    few = usable.few;
+    room = usable.lengths.room;
+    left_near = s.prices.left_near;
+    right_near = s.prices.right_near;
+  }
+
   pub sound : Solved kind t → IsSound kind t
-  sound s = sound_if_valid kind t s.prices.left_near s.prices.right_near usable.in_order
-      t.partners s.prices.greatest.valid
+  sound s = record { in_order = usable.in_order; feasible = s.prices.greatest.valid.under }
 
   -- over the tight rows of solved tables, the pairings are the optimum ones
-  module _ (solved : Solved kind t) (rows : List BlockSet) (sized : length rows ≡ t.size)
-      (made : TightRows (grid kind t) (left_price kind t) (right_price kind t) rows) where
+  module _ (solved : Solved kind t) (rows : List BlockSet) (made : AreTightRows kind t rows) where
     are : (q : List ℕ) → Pairs rows q ↔ Optimum (grid kind t) q
-    are q = pairs_optimum (grid kind t) (left_price kind t) (right_price kind t) rows sane made
-        sized
-        t.partners q solved.optimum.perfect solved.prices.greatest.valid
+    are = pairs_optimum kind t rows made sane t.partners solved.optimum.perfect
+        solved.prices.greatest.valid
 
     pub paired : Pairs rows t.partners
     paired = (are t.partners).1 solved.optimum
 
     listed : pairings rows ≡ optima (grid kind t)
-    listed = pairings_are_optima (grid kind t) (left_price kind t) (right_price kind t) rows sane
-        made sized t.partners solved.optimum.perfect solved.prices.greatest.valid
+    listed = pairings_are_optima kind t rows made sane t.partners solved.optimum.perfect
+        solved.prices.greatest.valid
 
     pub settled : (q : List ℕ) → IsNth (pairings rows) 0 q
         → Settled kind (record t { partners = q })

@@ -6,7 +6,8 @@ use crate::line::Order;
 use assign::{Outcome, optimum, settle};
 use blockset::BlockSet;
 use std::alloc::{AllocError, Global};
-use tables::{place, tight_rows};
+use tables::{PairRows, place};
+use walk::certify;
 
 /// The tables of a sheet: costs and standing pairs, then what is found.
 #[derive(Drop)]
@@ -93,16 +94,27 @@ impl<K: Trial> Tables<K> {
         matches!(outcome, Ok(Outcome::Optimal))
     }
 
+    /// The rows of the tight pairs, if the tables hold together.
+    fn certify(&self) -> Option<PairRows> {
+        certify(&tables::Tables {
+            size: self.n,
+            costs: &self.costs,
+            standing: &self.standing,
+            partners: &self.partners,
+            left: &self.left,
+            right: &self.right,
+        })
+    }
+
     /// Appends the tight pairs and the first optimum pairing.
     fn tell_tight(&mut self, text: &mut String) -> Result<(), AllocError> {
-        let mut sets = [BlockSet::empty(); 64];
-        let rows = &mut sets[0..self.n.min(64) as usize];
-        let made = tight_rows(&self.costs, &self.standing, &self.left, &self.right, rows);
-        if made.is_err() || !self.settle() {
-            return text.push_str("\nno pairing of tight pairs\n");
-        }
+        let certified = self.certify();
+        let rows = match (certified, self.settle()) {
+            (Some(rows), true) => rows,
+            _ => return text.push_str("\nno pairing of tight pairs\n"),
+        };
         text.push_str("\ntight")?;
-        show_sets(rows, text)?;
+        show_sets(rows.as_slice(), text)?;
         text.push_str("\nfirst")?;
         show_numbers(&self.partners, text)?;
         text.push_str("\n")

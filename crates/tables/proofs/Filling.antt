@@ -80,8 +80,10 @@ module _ {X : Type 0} (n l : ℕ) (table : List X) (inside : l < n)
   pub slice_is_part : take (l * n + n - l * n) (drop (l * n) table) ≡ part_of n l table
   slice_is_part = ap (λ k. take k (drop (l * n) table)) (omega arith)
 
-  pub row_length : length (take (l * n + n - l * n) (drop (l * n) table)) ≡ n
-  row_length = ap length slice_is_part ∙ length-part_of
+pub row_length : {X : Type 0} (table : List X) (n l : ℕ) → l < n → length table ≡ places_of n
+    → length (take (l * n + n - l * n) (drop (l * n) table)) ≡ n
+row_length table n l inside whole = ap length (slice_is_part n l table inside whole)
+    ∙ length-part_of n l table inside whole
 
 module _ {K : Type 0} (kind : Ghosts K) (table : List K) where
   -- a value that was read from a table

@@ -13,7 +13,7 @@ use super::{OpenSheet, SettledSheet, Walk};
 use crate::fault::{Cause, Fault, Refusal};
 use cost::Cost;
 use tables::{Tables, place, places, stands};
-use walk::{certify, marks, start};
+use walk::{certify_fitting, mark_fitting, start_fitting};
 
 impl SettledSheet {
     /// A sheet that was just settled.
@@ -132,7 +132,7 @@ impl SettledSheet {
         if !tables.fit() || table.len() != places(n) {
             return Err(Cause::TableLength.at(0));
         }
-        marks(n, costs, standing, partners, left, right, table)?;
+        mark_fitting(&tables, table)?;
         Ok(())
     }
 
@@ -157,7 +157,7 @@ impl SettledSheet {
         if !tables.fit() || list.len() != n as usize {
             return Err(self.unstarted(Cause::TableLength.at(0)));
         }
-        match start(n, costs, standing, partners, left, right, list) {
+        match start_fitting(&tables, list) {
             Ok(()) => Ok(Walk { settled: self }),
             Err(apart) => Err(self.unstarted(Fault::from(apart))),
         }
@@ -192,7 +192,7 @@ fn check<K: Cost>(tables: &Tables<'_, K>) -> Result<(), Fault>
     if !tables.fit() {
         return Err(Cause::TableLength.at(0));
     }
-    if certify(tables).is_none() {
+    if certify_fitting(tables).is_none() {
         return Err(Cause::Inconsistent.at(0));
     }
     Ok(())

@@ -10,7 +10,7 @@ use super::{SettledSheet, Walk};
 use crate::fault::{Cause, Fault};
 use cost::Cost;
 use matching::Step;
-use walk::next;
+use walk::step_fitting;
 
 impl Walk {
     /// The number of left blocks, which is that of the right blocks too.
@@ -44,7 +44,7 @@ impl Walk {
         if !tables.fit() || list.len() != n as usize {
             return Err(Cause::TableLength.at(0));
         }
-        Ok(next(n, costs, standing, partners, left, right, list)?)
+        Ok(step_fitting(&tables, list)?)
     }
 
     /// Ends the walk, and gives the settled sheet back.

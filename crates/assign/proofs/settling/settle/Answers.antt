@@ -5,11 +5,11 @@ use Rattle.pairing.specs.Rows.{Pairs, pairings}
 use Rattle.matching.specs.Answers.{IsNth}
 use Rattle.tables.specs.Lent.{lent, IsUsable}
 use Rattle.assign.specs.Answer.{Solved, Settled}
-use Rattle.assign.proofs.Firsts.{usable_still, sound, paired, settled, together}
+use Rattle.assign.proofs.Firsts.{usable_still, priced, sound, paired, settled, together}
 use Rattle.assign.proofs.settling.settle.Goals as goal
 
-pub tight_within-rows-requires-clause-sound : goal.tight_within-rows-requires-clause-sound
-tight_within-rows-requires-clause-sound g c =
+pub tight_within-rows-requires : goal.tight_within-rows-requires
+tight_within-rows-requires g c =
     let n = c.args.n in
     let costs = c.args.costs.now in
     let standing = c.args.standing.now in
@@ -19,7 +19,11 @@ tight_within-rows-requires-clause-sound g c =
     let usable = usable_still g.K.Cost n costs standing c.args.partners.now c.optimum.new.partners
     c.args.left.now c.optimum.new.left c.args.right.now c.optimum.new.right known.0
     c.optimum.auto.partners c.optimum.auto.left c.optimum.auto.right in
-    sound g.K.Cost g.met.K.Cost.laws.column_count t usable known.1
+    let wide = g.met.K.Cost.laws.column_count in
+    record {
+      priced = priced g.K.Cost wide t usable known.1;
+      sound = sound g.K.Cost wide t usable known.1;
+    }
 
 pub make_first-requires-clause-pairs : goal.make_first-requires-clause-pairs
 make_first-requires-clause-pairs g c =
@@ -34,7 +38,7 @@ make_first-requires-clause-pairs g c =
     c.optimum.auto.partners c.optimum.auto.left c.optimum.auto.right in
     subst (λ rs. Pairs rs c.optimum.new.partners) (sym c.as_slice.ensures.rows)
     (paired g.K.Cost g.met.K.Cost.laws.column_count t usable known.1 c.tight_within-rows.result
-    c.tight_within-rows.ensures.long c.tight_within-rows.ensures.rows)
+    c.tight_within-rows.ensures)
 
 pub returns-in-Optimal : goal.returns-in-Optimal
 returns-in-Optimal g c =
@@ -57,8 +61,7 @@ returns-in-Optimal g c =
     subst (λ rs. IsNth (pairings rs) 0 c.make_first.new.p) c.as_slice.ensures.rows
     c.make_first.ensures in
     let done : Settled g.K.Cost new = settled g.K.Cost g.met.K.Cost.laws.column_count t usable
-    known.1 c.tight_within-rows.result c.tight_within-rows.ensures.long
-    c.tight_within-rows.ensures.rows c.make_first.new.p place in
+    known.1 c.tight_within-rows.result c.tight_within-rows.ensures c.make_first.new.p place in
     record {
       answers = search rules;
       together = λ _. together g.K.Cost g.met.K.Cost.laws.column_count new usable_new done;
