@@ -1,5 +1,6 @@
 #!/usr/bin/env python3
-"""Makes what crates/console and crates/console_steps must print of their files stdin.
+"""Makes what crates/console must print of its file stdin, and texts.py takes its runs of `console`
+from here.
 
 Run in the repository's root. It is written from docs/console.md, docs/sheet.md and
 docs/refusals.md alone, and finds optimum pairings by going through all perfect ones and the crowd
@@ -307,20 +308,29 @@ def random_session(rng):
     return ("\n".join(lines) + "\n").encode("utf-8", "surrogateescape")
 
 
-def main():
-    # the text of `help` is taken from the program: it is no answer
+def help_lines():
+    """The text of `help`, which is taken from the program: it is no answer."""
     source = open("crates/console_words/src/help.rt").read()
-    help_lines = source.split('"\\\n', 1)[1].split('";', 1)[0].splitlines()
+    return source.split('"\\\n', 1)[1].split('";', 1)[0].splitlines()
+
+
+def runs():
+    """A run of `console`: its words, its input, and what it has to print."""
+    typed = open("samples/two-columns.session", "rb").read()
+    yield "console", typed, printed(typed, help_lines())
+
+
+def main():
     if len(sys.argv) == 3:
         rng = random.Random(2026)
         for k in range(int(sys.argv[2])):
             typed = random_session(rng)
             open("%s/s%04d" % (sys.argv[1], k), "wb").write(typed)
-            open("%s/s%04d.stdout" % (sys.argv[1], k), "w").write(printed(typed, help_lines))
+            open("%s/s%04d.stdout" % (sys.argv[1], k), "w").write(printed(typed, help_lines()))
         return
-    for crate in ["console", "console_steps"]:
-        typed = open("crates/%s/stdin" % crate, "rb").read()
-        open("crates/%s/stdout" % crate, "w").write(printed(typed, help_lines))
+    typed = open("crates/console/stdin", "rb").read()
+    open("crates/console/stdout", "w").write(printed(typed, help_lines()))
 
 
-main()
+if __name__ == "__main__":
+    main()

@@ -1,9 +1,9 @@
-#!/usr/bin/env python3
-"""Makes the files of crates/orderfile_trial, order files, sound and damaged, and what each one
-states, and the input of crates/inspect_trial, which is longer than what is read of it.
+"""Order files, sound and damaged, one of which is longer than what is read of it, and what each one
+states.
 
-Run in the repository's root. It is written from docs/order-files.md and docs/refusals.md alone and
-shares nothing with the crates, so the comparison in the gate is one of two independent readers.
+It is written from docs/order-files.md and docs/refusals.md alone and shares nothing with the
+crates, so the comparison in the gate is one of two independent readers. texts.py takes its runs of
+`inspect` from here.
 """
 import random
 import struct
@@ -140,28 +140,10 @@ def long_file():
     return size(64) + b"".join(pairs) + END
 
 
-def write_trial(crate, files, told):
-    """Writes what a trial crate reads, each file behind its length, and what it has to print: what
-    is told of each file."""
-    with open("crates/%s/stdin" % crate, "wb") as out:
-        for data in files:
-            out.write(struct.pack(">I", len(data)) + data)
-    with open("crates/%s/stdout" % crate, "w") as out:
-        for data in files:
-            out.write(told(data))
-
-
-def main():
-    files = list(damaged()) + list(random_files(500))
-    write_trial("orderfile_trial", files, text)
+def runs():
+    """Runs of `inspect`: its words, its input, and what it has to print."""
+    for data in [*damaged(), *random_files(500)]:
+        yield "inspect", data, text(data)
     long = long_file()
     assert len(long) > CUT and len(first_fault(long)) == 2
-    with open("crates/inspect_trial/stdin", "wb") as out:
-        out.write(long)
-    with open("crates/inspect_trial/stdout", "w") as out:
-        out.write(text(long[:CUT]))
-    print(len(files), "files, and one of", len(long), "bytes")
-
-
-if __name__ == "__main__":
-    main()
+    yield "inspect", long, text(long[:CUT])

@@ -1,15 +1,13 @@
-#!/usr/bin/env python3
-"""Makes the files of crates/report_trial: order files, and the listing and the map of each; and
-those of crates/inspect_map_trial: a sample without a perfect pairing, and its map.
+"""Order files, and the listing and the map of each.
 
-Run in the repository's root. It is written from docs/order-files.md and docs/refusals.md alone, and
-finds optimum pairings by going through all perfect ones and the crowd set by its definition, so the
-comparison in the gate is with plain enumeration.
+It is written from docs/order-files.md and docs/refusals.md alone, and finds optimum pairings by
+going through all perfect ones and the crowd set by its definition, so the comparison in the gate is
+with plain enumeration. texts.py takes its runs of `listing` and `inspect map` from here.
 """
 import itertools
 import random
 
-from order_files import END, LIMIT, first_fault, pair, size, write_trial
+from order_files import END, LIMIT, first_fault, pair, size
 
 # a listing has at most so many pairings
 MOST = 1000
@@ -187,14 +185,10 @@ def random_sheets(count):
                         if source.random() < dense})
 
 
-def main():
-    files = list(sheets()) + list(refused()) + list(random_sheets(300))
-    write_trial("report_trial", files, lambda data: "".join(told(data)))
-    print(len(files), "files")
+def runs():
+    """Runs of `listing` and of `inspect map`: the words, the input, and what has to be printed."""
     crowded = open("samples/crowded.order", "rb").read()
-    open("crates/inspect_map_trial/stdin", "wb").write(crowded)
-    open("crates/inspect_map_trial/stdout", "w").write(told(crowded)[1])
-
-
-if __name__ == "__main__":
-    main()
+    for data in [crowded, *sheets(), *refused(), *random_sheets(300)]:
+        lines, table = told(data)
+        yield "listing", data, lines
+        yield "inspect map", data, table

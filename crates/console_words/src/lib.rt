@@ -1,8 +1,9 @@
 //! A sheet driven by typed lines: what a line asks for, what comes of it, and the answer in plain
 //! words.
 //!
-//! `converse` reads lines and writes the answer to each at once. `Console` is the same without
-//! input and output: it takes one line after the other and gives the text to write.
+//! `converse` reads lines and writes the answer to each at once, and `talk` is the whole program.
+//! `Console` is the same without input and output: it takes one line after the other and gives the
+//! text to write.
 #![tactic(auto)]
 
 mod answer_lines;
@@ -12,6 +13,7 @@ mod desk;
 mod help;
 mod lead;
 mod opening;
+mod program;
 mod request;
 mod sheet_size;
 mod table_name;
@@ -25,6 +27,7 @@ pub use console::{Console, converse};
 pub use desk::Desk;
 pub use lead::Lead;
 pub use opening::{ColumnCount, Opening};
+pub use program::{CONSOLE_USAGE, talk};
 pub use request::Request;
 pub use sheet_size::SheetSize;
 pub use table_name::TableName;

@@ -8,7 +8,8 @@ mod lists;
 mod solved;
 mod table;
 
-use report::{Command, WRONG_USAGE, explain, push_unmatched, read_input};
+use command::{Command, Streams, WRONG_USAGE};
+use report::{explain, push_unmatched, read_input};
 use sheet::Cause;
 use solved::{Trouble, solve};
 use std::alloc::{AllocError, Global};
@@ -46,33 +47,18 @@ fn reason(heap: Global, trouble: Trouble) -> Result<String, AllocError> {
 fn draw_input(rt: &HostRuntime) -> anyhow::Result<ExitCode> {
     let heap = rt.alloc();
     let file = read_input(heap, rt.stdin())?;
+    let mut to = Streams::of(rt);
     match solve(heap, file.as_slice()) {
-        Ok(solved) => {
-            rt.print(canvas::draw(heap, &solved)?)?;
-            Ok(ExitCode::SUCCESS)
-        }
-        Err(trouble) => {
-            rt.eprint(reason(heap, trouble)?)?;
-            Ok(ExitCode::from(REFUSED))
-        }
-    }
-}
-
-fn run(rt: &HostRuntime) -> anyhow::Result<ExitCode> {
-    let words = env::args(rt)?.collect::<Vec<String>>(rt.alloc())?;
-    match Command::asked(words.as_slice()) {
-        Some(Command::Run) => draw_input(rt),
-        Some(Command::Help) => {
-            rt.print(HELP)?;
-            Ok(ExitCode::SUCCESS)
-        }
-        None => {
-            rt.eprint(HELP)?;
-            Ok(ExitCode::from(WRONG_USAGE))
-        }
+        Ok(solved) => Ok(to.print(canvas::draw(heap, &solved)?.as_str())?),
+        Err(trouble) => Ok(to.complain(reason(heap, trouble)?.as_str(), REFUSED)?),
     }
 }
 
 fn main(rt: HostRuntime) -> anyhow::Result<ExitCode> {
-    run(&rt)
+    let words = env::args(&rt)?.collect::<Vec<String>>(rt.alloc())?;
+    match Command::asked(&words) {
+        Some(Command::Run) => draw_input(&rt),
+        Some(Command::Help) => Ok(Streams::of(&rt).print(HELP)?),
+        None => Ok(Streams::of(&rt).complain(HELP, WRONG_USAGE)?),
+    }
 }

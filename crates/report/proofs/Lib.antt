@@ -4,3 +4,4 @@ pub mod Lines
 pub mod Listed
 pub mod Accepting
 pub mod Drawn
+pub mod Inspecting

@@ -7,3 +7,4 @@ pub mod Refusing
 pub mod Asking
 pub mod Settlement
 pub mod Drawing
+pub mod Programs

@@ -1,10 +1,10 @@
 //! What a person asks of a program that tells order files: lines, a map, or what the program does.
 
-ghost use Rattle.std.specs.Prelude.{◌≡◌, ◌≤◌, ◌↔◌, Some, IfSome, codes, length};
-ghost use Rattle.std.specs.Prelude.{slice_get, string_bytes};
-ghost use Rattle.report.specs.Asking.{AsksHelp};
+ghost use Rattle.std.specs.Prelude.{◌≡◌, ◌≤◌, ◌↔◌, Some, length};
+ghost use Rattle.command.specs.Asking.{AsksHelp};
+ghost use Rattle.report.specs.Asking.{AsksMap};
 
-use crate::command::means_help;
+use command::means_help;
 
 /// What is asked of such a program.
 #[derive(Clone, Copy, PartialEq, Eq, Debug)]
@@ -25,8 +25,7 @@ impl Form {
     /// nothing that it knows.
     pub fn asked(words: &[String]) -> Option<Form>
         ensures lines { (result ≡ Some Lines) ↔ (length words.now ≤ 1) }
-        ensures map { (result ≡ Some Map) ↔ ((length words.now ≡ 2)
-            × IfSome (slice_get words.now 1) (λ word. string_bytes word ≡ codes "map")) }
+        ensures map { (result ≡ Some Map) ↔ AsksMap words.now }
         ensures help { (result ≡ Some Help) ↔ AsksHelp words.now }
     {
         match words {

@@ -9,18 +9,17 @@ ghost use Rattle.report.specs.Describing.{Describes};
 ghost use Rattle.report.specs.Text.{pair_line, cost_in, row_lines, all_lines, sheet_text, refusal};
 
 mod aligned;
-mod command;
 mod draw_file;
 mod form;
 mod fresh_tables;
 mod input;
 mod list_file;
 mod pairing_lines;
+mod programs;
 mod refusal_lines;
 mod sheet_map;
 mod words;
 
-pub use command::{Command, WRONG_USAGE};
 use cost::Plain;
 pub use draw_file::draw;
 pub use form::Form;
@@ -28,6 +27,7 @@ pub use input::{MOST_BYTES, describe_input, draw_input, list_input, read_input};
 pub use list_file::list;
 use orderfile::loading::{check, load};
 pub use pairing_lines::{MOST_PAIRINGS, cause_line, push_pairing_line, push_total_line};
+pub use programs::{INSPECT_USAGE, LISTING_USAGE, inspect, listing};
 pub use refusal_lines::{push_refusal, push_unmatched};
 use sheet::{Fault, OpenSheet};
 pub use sheet_map::Drawing;

@@ -1,10 +1,7 @@
 //! What the words of a command ask of a program that takes no other word than `--help`.
 
 ghost use Rattle.std.specs.Prelude.{◌≡◌, ◌≤◌, ◌↔◌, Some, IsTrue, length};
-ghost use Rattle.report.specs.Asking.{AsksHelp, MeansHelp};
-
-/// The status of a program that was asked for something else than it does.
-pub const WRONG_USAGE: u8 = 2;
+ghost use Rattle.command.specs.Asking.{AsksHelp, MeansHelp};
 
 /// What a program is asked for.
 #[derive(Clone, Copy, PartialEq, Eq, Debug)]
@@ -16,7 +13,7 @@ pub enum Command {
 }
 
 impl Command {
-    ghost use Rattle.report.specs.declared.command.Command.TheVariants.{Run, Help};
+    ghost use Rattle.command.specs.declared.command.Command.TheVariants.{Run, Help};
 
     /// What the words of a command ask for, of which the first is the program's name: the
     /// program's work with no other word, its help with `--help` or `-h` alone, and else nothing
@@ -34,7 +31,7 @@ impl Command {
 }
 
 /// Whether a word asks a program what it does.
-pub(crate) fn means_help(word: &str) -> bool
+pub fn means_help(word: &str) -> bool
     ensures { IsTrue result ↔ MeansHelp word.now }
 {
     word == "--help" || word == "-h"
