@@ -1,6 +1,7 @@
 //! The calls on a settled sheet over tables that were disturbed. Tables may hold together even so:
 //! other partners may be optimum too, and prices may stay valid. Each call is told by definition
-//! whether it is refused, and by which number; refused, it leaves every table as it was.
+//! whether it is refused, and by which number; refused, it leaves every table as it was. The calls
+//! of `walk` itself are made over the same tables.
 
 use crate::bench::Bench;
 use crate::book::fault;
@@ -74,6 +75,7 @@ struct Case<'a, K: Trial> {
 impl<K: Trial> Case<'_, K> {
     /// Makes each call over the tables.
     fn try_calls(&self, walk: Walk, bench: &mut Bench<'_>) -> anyhow::Result<()> {
+        self.try_walk()?;
         self.try_next(&walk, &mut bench.tally)?;
         let settled = walk.close();
         let blocks = self.lent.n.saturating_add(1);
@@ -96,14 +98,34 @@ impl<K: Trial> Case<'_, K> {
         }
     }
 
+    /// Why a step is refused from the list.
+    fn step_refusal(&self) -> Option<Cause> {
+        let unlisted = !self.optimum.pairings.contains(&self.lent.list);
+        let refusal = self.refusal(self.lent.list_fits());
+        refusal.or(unlisted.then_some(Cause::Inconsistent))
+    }
+
+    /// Makes each call of `walk` itself, whose refusals have no cause.
+    fn try_walk(&self) -> anyhow::Result<()> {
+        let mut lent = self.lent.clone()?;
+        let started = lent.start().ok();
+        let refused = self.refusal(lent.list_fits()).is_some();
+        ensure!(started.is_none() == refused, "{started:?} of a walk");
+        self.check_start(&lent, started)?;
+        let mut lent = self.lent.clone()?;
+        let step = lent.next().ok();
+        let refused = self.step_refusal().is_some();
+        ensure!(step.is_none() == refused, "{step:?} from the list");
+        self.check_next(&lent, step)?;
+        let mut lent = self.lent.clone()?;
+        let marked = lent.mark().ok();
+        let refused = self.refusal(lent.marks_fit()).is_some();
+        ensure!(marked.is_none() == refused, "{marked:?} of marks");
+        self.check_marks(&lent, marked)
+    }
+
     fn try_next(&self, walk: &Walk, tally: &mut Tally) -> anyhow::Result<()> {
         let mut lent = self.lent.clone()?;
-        let pairings = &self.optimum.pairings;
-        let at = pairings
-            .iter()
-            .position(|pairing| *pairing == self.lent.list);
-        let unlisted = at.is_none().then_some(Cause::Inconsistent);
-        let refusal = self.refusal(lent.list_fits()).or(unlisted);
         let outcome = walk.next(
             &lent.costs,
             &lent.standing,
@@ -112,12 +134,21 @@ impl<K: Trial> Case<'_, K> {
             &lent.right,
             &mut lent.list,
         );
+        self.check_next(&lent, judged(outcome, self.step_refusal(), tally)?)
+    }
+
+    /// Checks what a step wrote.
+    fn check_next(&self, lent: &Lent<K>, step: Option<Step>) -> anyhow::Result<()> {
+        let pairings = &self.optimum.pairings;
+        let at = pairings
+            .iter()
+            .position(|pairing| *pairing == self.lent.list);
         let next = at.and_then(|k| pairings.get(k.saturating_add(1)));
-        match (judged(outcome, refusal, tally)?, next) {
+        match (step, next) {
             (Some(Step::Next), Some(next)) => ensure!(lent.list == *next, "another next pairing"),
             (Some(Step::Next), None) => return Err(anyhow!("a walk goes on past its end")),
             (Some(Step::End), Some(_)) => return Err(anyhow!("a walk ends early")),
-            _ => ensure!(lent == *self.lent, "next wrote where it should not"),
+            _ => ensure!(*lent == *self.lent, "next wrote where it should not"),
         }
         Ok(())
     }
@@ -178,9 +209,14 @@ impl<K: Trial> Case<'_, K> {
             &lent.right,
             &mut lent.marks,
         );
-        match judged(outcome, refusal, tally)? {
+        self.check_marks(&lent, judged(outcome, refusal, tally)?)
+    }
+
+    /// Checks what marking wrote.
+    fn check_marks(&self, lent: &Lent<K>, marked: Option<()>) -> anyhow::Result<()> {
+        match marked {
             Some(()) => ensure!(lent.marks == self.optimum.marks, "other marks"),
-            None => ensure!(lent == *self.lent, "refused marks wrote"),
+            None => ensure!(*lent == *self.lent, "refused marks wrote"),
         }
         Ok(())
     }
@@ -200,14 +236,20 @@ impl<K: Trial> Case<'_, K> {
             Ok(walk) => (walk.close(), Ok(())),
             Err(refusal) => unmoved(refusal)?,
         };
-        match judged(outcome, refusal, tally)? {
+        self.check_start(&lent, judged(outcome, refusal, tally)?)?;
+        Ok(settled)
+    }
+
+    /// Checks what a start wrote.
+    fn check_start(&self, lent: &Lent<K>, started: Option<()>) -> anyhow::Result<()> {
+        match started {
             Some(()) => ensure!(
                 self.optimum.pairings.first() == Some(&lent.list),
                 "another first pairing"
             ),
-            None => ensure!(lent == *self.lent, "a refused start wrote"),
+            None => ensure!(*lent == *self.lent, "a refused start wrote"),
         }
-        Ok(settled)
+        Ok(())
     }
 
     /// Settles the tables anew: partners and prices are no matter then.
@@ -230,16 +272,10 @@ impl<K: Trial> Case<'_, K> {
             Err(refusal) => unmoved(refusal)?.1,
         };
         match judged(outcome, refusal, tally)? {
-            Some(()) => ensure!(self.is_settled(&lent), "settled otherwise"),
+            Some(()) => ensure!(self.optimum.settles(&lent), "settled otherwise"),
             None => ensure!(lent == *self.lent, "a refused settle wrote"),
         }
         Ok(())
-    }
-
-    fn is_settled(&self, lent: &Lent<K>) -> bool {
-        self.optimum.pairings.first() == Some(&lent.partners)
-            && lent.left == self.optimum.left
-            && lent.right == self.optimum.right
     }
 }
 

@@ -30,6 +30,8 @@ pub enum Pairs {
     Half,
     /// Two of five.
     Few,
+    /// Three of ten.
+    Fewest,
 }
 
 /// The rules by which a sheet is drawn.
@@ -40,7 +42,7 @@ pub struct Rules {
 }
 
 impl Rules {
-    /// How many rules there are: each of the costs with each of the pairs.
+    /// How many rules there are: each of the costs with each of the pairs but the fewest.
     pub const COUNT: u64 = 20;
 
     pub fn numbered(number: u64) -> Self {
@@ -131,6 +133,7 @@ impl Draw {
             Pairs::Most => drawn < 8,
             Pairs::Half => drawn < 5,
             Pairs::Few => drawn < 4,
+            Pairs::Fewest => drawn < 3,
         }
     }
 

@@ -23,6 +23,12 @@ pub type Two = TwoStep<Plain, Plain>;
 /// A two-step cost of a two-step cost and a plain one.
 pub type Nested = TwoStep<Two, Plain>;
 
+/// A two-step cost with a step that has no column.
+pub type TwoFree = TwoStep<TwoStep<Plain, Free>, Plain>;
+
+/// A two-step cost of a plain one and a two-step one.
+pub type ThreeRight = TwoStep<Plain, Two>;
+
 impl Trial for Plain {
     const NAME: &'static str = "plain";
 
@@ -60,5 +66,25 @@ impl Trial for TwoStep<TwoStep<Plain, Plain>, Plain> {
 
     fn made([first, second, third]: Columns) -> Nested {
         TwoStep(TwoStep(Plain(first), Plain(second)), Plain(third))
+    }
+}
+
+impl Trial for TwoStep<TwoStep<Plain, Free>, Plain> {
+    const NAME: &'static str = "two-free";
+
+    const COSTS: u8 = 4;
+
+    fn made([first, second, _]: Columns) -> TwoFree {
+        TwoStep(TwoStep(Plain(first), Free), Plain(second))
+    }
+}
+
+impl Trial for TwoStep<Plain, TwoStep<Plain, Plain>> {
+    const NAME: &'static str = "three-right";
+
+    const COSTS: u8 = 4;
+
+    fn made([first, second, third]: Columns) -> ThreeRight {
+        TwoStep(Plain(first), TwoStep(Plain(second), Plain(third)))
     }
 }

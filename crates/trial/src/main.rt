@@ -1,10 +1,12 @@
-//! Compares the calls on a sheet with plain enumeration of all orders of the right blocks, which
-//! shares nothing with them but the cost kinds, and prints what was compared. At the first answer
-//! that differs it prints the call and the sheet, and ends with an error.
+//! Compares the calls on a sheet, and those of `assign`, `walk` and `matching` below it, with plain
+//! enumeration of all orders of the right blocks, which shares nothing with them but the cost kinds
+//! and block sets, and prints what was compared. At the first answer that differs it ends with an
+//! error; where that is a call on a sheet, it prints the call and the sheet.
 //!
 //! Standard input is the seed of what is drawn.
 #![tactic(auto)]
 
+mod below;
 mod bench;
 mod book;
 mod disturbance;
@@ -13,6 +15,7 @@ mod draw;
 mod kinds;
 mod lent_tables;
 mod lists;
+mod matched;
 mod orders;
 mod plain_sheet;
 mod prices;
@@ -24,7 +27,7 @@ mod tally;
 use anyhow::Context;
 use bench::Bench;
 use cost::{Free, Plain};
-use kinds::{Nested, Trial, Two};
+use kinds::{Nested, ThreeRight, Trial, Two, TwoFree};
 use orders::Orders;
 use std::io;
 
@@ -41,6 +44,29 @@ fn try_kind<K: Trial>(rt: &HostRuntime, orders: &Orders, seed: u64) -> anyhow::R
     Ok(())
 }
 
+/// Tries a kind by random sheets alone, and prints what was compared.
+fn try_kind_at_random<K: Trial>(
+    rt: &HostRuntime,
+    orders: &Orders,
+    seed: u64,
+) -> anyhow::Result<()> {
+    let kind = K::NAME;
+    let mut bench = Bench::new(rt.alloc(), orders, seed);
+    sheets::try_random::<K>(rt, &mut bench)?;
+    let tally = bench.tally;
+    println!(rt; "{kind}\n{tally}")?;
+    Ok(())
+}
+
+/// Tries pairing without costs, and prints what was compared.
+fn try_without_costs(rt: &HostRuntime, orders: &Orders, seed: u64) -> anyhow::Result<()> {
+    let mut bench = Bench::new(rt.alloc(), orders, seed);
+    matched::try_matching(&mut bench)?;
+    let (sheets, pairings) = (bench.tally.below, bench.tally.walked);
+    println!(rt; "without costs\n  sheets {sheets}, pairings handed out {pairings}")?;
+    Ok(())
+}
+
 fn run(rt: &HostRuntime) -> anyhow::Result<()> {
     let input = io::read_to_string(rt.alloc(), rt.stdin())?;
     let seed = input
@@ -52,7 +78,10 @@ fn run(rt: &HostRuntime) -> anyhow::Result<()> {
     try_kind::<Plain>(rt, &orders, seed)?;
     try_kind::<Free>(rt, &orders, seed)?;
     try_kind::<Two>(rt, &orders, seed)?;
-    try_kind::<Nested>(rt, &orders, seed)
+    try_kind::<Nested>(rt, &orders, seed)?;
+    try_kind_at_random::<TwoFree>(rt, &orders, seed)?;
+    try_kind_at_random::<ThreeRight>(rt, &orders, seed)?;
+    try_without_costs(rt, &orders, seed)
 }
 
 fn main(rt: HostRuntime) -> anyhow::Result<()> {

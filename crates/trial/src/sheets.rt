@@ -1,6 +1,7 @@
 //! The sheets that are tried: all small ones, and random ones by each of the rules. Each is
 //! entered, read, settled, quoted, marked and walked to its end.
 
+use crate::below::try_below;
 use crate::bench::Bench;
 use crate::disturbed::try_disturbed;
 use crate::draw::Rules;
@@ -40,6 +41,7 @@ pub fn try_random<K: Trial>(rt: &impl Print, bench: &mut Bench<'_>) -> anyhow::R
         let rules = Rules::numbered(number / u64::from(MOST_BLOCKS));
         let sheet = Sheet::<K>::drawn(bench.heap, n, rules, &mut bench.draw)?;
         try_sheet(rt, bench, &sheet)?;
+        try_below(bench, &sheet)?;
         try_disturbed(rt, bench, &sheet)?;
     }
     Ok(())

@@ -4,6 +4,7 @@
 //! largest pairing is had so, since what it leaves out can be given the right blocks that are left.
 
 use crate::kinds::Trial;
+use crate::lent_tables::Lent;
 use crate::plain_sheet::{Sheet, pairs, place};
 use crate::prices::{left_prices, price, right_prices};
 use sheet::Shortfall;
@@ -52,6 +53,13 @@ impl<K: Trial> Optimum<K> {
             Some(pairing) => pairing.clone(),
             None => Ok(Vec::new(heap)),
         }
+    }
+
+    /// Whether tables have the first pairing as their partners, and the prices.
+    pub fn settles(&self, lent: &Lent<K>) -> bool {
+        self.pairings.first() == Some(&lent.partners)
+            && lent.left == self.left
+            && lent.right == self.right
     }
 
     /// What a cost exceeds two prices by.

@@ -17,6 +17,9 @@ pub struct Tally {
     pub calls: u64,
     pub lists: u64,
     pub disturbed: u64,
+    /// Sheets that were tried without a sheet's calls, and the pairings of their walks.
+    pub below: u64,
+    pub walked: u64,
     /// Refusals by their number, from 1 on.
     refusals: [u64; CAUSES],
 }
@@ -39,6 +42,8 @@ impl Tally {
             calls: 0,
             lists: 0,
             disturbed: 0,
+            below: 0,
+            walked: 0,
             refusals: [0; CAUSES],
         }
     }
@@ -53,6 +58,14 @@ impl Tally {
 
     pub fn count_disturbed(&mut self) {
         self.disturbed = self.disturbed.saturating_add(1);
+    }
+
+    pub fn count_below(&mut self) {
+        self.below = self.below.saturating_add(1);
+    }
+
+    pub fn count_walked(&mut self, pairings: u64) {
+        self.walked = self.walked.saturating_add(pairings);
     }
 
     pub fn count_call(&mut self, refused_by: Option<u8>) {
@@ -83,7 +96,7 @@ impl fmt::Display for Tally {
     fn fmt<W: fmt::Write>(&self, f: &mut fmt::Formatter<W>) -> fmt::Result {
         let (sheets, lists, disturbed) = (self.sheets, self.lists, self.disturbed);
         let (calls, settled, pairings) = (self.calls, self.settled, self.pairings);
-        let refusals = self.refusals;
+        let (below, walked, refusals) = (self.below, self.walked, self.refusals);
         writeln!(
             f,
             "  sheets of 1 to {MOST_BLOCKS} blocks a plane {sheets:?}"
@@ -96,6 +109,10 @@ impl fmt::Display for Tally {
             f,
             "  settled {settled} times, pairings handed out {pairings}"
         )?;
-        write!(f, "  refused by numbers 1 to {CAUSES} {refusals:?}")
+        writeln!(f, "  refused by numbers 1 to {CAUSES} {refusals:?}")?;
+        write!(
+            f,
+            "  below the calls of a sheet: sheets {below}, pairings handed out {walked}"
+        )
     }
 }
