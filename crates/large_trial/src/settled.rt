@@ -2,7 +2,8 @@
 //! no standing pair undercuts and that the pairs of partners meet, and no right price above zero.
 
 use crate::amount::Amount;
-use crate::kinds::Trial;
+use crate::kinds::Summed;
+use crate::lent_tables::Lent;
 use crate::shape::{BLOCKS, Shape};
 use anyhow::{Context, ensure};
 use sheet::{OpenSheet, SettledSheet, open};
@@ -16,48 +17,39 @@ pub const PAIRS: usize = 64 * 64;
 
 /// The tables of a sheet of a shape.
 #[derive(Drop)]
-pub struct Tables<K: Trial> {
+pub struct Shaped<K: Summed> {
     pub shape: Shape,
-    pub costs: Vec<K>,
-    pub standing: Vec<u8>,
-    pub partners: Vec<u16>,
-    pub left: Vec<K>,
-    pub right: Vec<K>,
+    pub lent: Lent<K>,
 }
 
-impl<K: Trial> Tables<K> {
+impl<K: Summed> Shaped<K> {
     pub fn new(heap: Global, shape: Shape) -> Result<Self, AllocError> {
-        let blocks = usize::from(BLOCKS);
-        Ok(Tables {
-            shape,
-            costs: vec![in heap; K::zero(); PAIRS]?,
-            standing: vec![in heap; 0u8; PAIRS]?,
-            partners: vec![in heap; 0u16; blocks]?,
-            left: vec![in heap; K::zero(); blocks]?,
-            right: vec![in heap; K::zero(); blocks]?,
-        })
+        let lent = Lent::new(heap, BLOCKS)?;
+        Ok(Shaped { shape, lent })
     }
 
     /// Enters all pairs of the shape, and settles the sheet.
     pub fn settle(&mut self) -> anyhow::Result<SettledSheet> {
-        let sheet = open(BLOCKS, &mut self.costs, &mut self.standing)?;
+        let sheet = open(BLOCKS, &mut self.lent.costs, &mut self.lent.standing)?;
         for left in 0..BLOCKS {
             self.enter_row(&sheet, left)?;
         }
+        let lent = &mut self.lent;
         Ok(sheet.settle(
-            &self.costs,
-            &self.standing,
-            &mut self.partners,
-            &mut self.left,
-            &mut self.right,
+            &lent.costs,
+            &lent.standing,
+            &mut lent.partners,
+            &mut lent.left,
+            &mut lent.right,
         )?)
     }
 
     fn enter_row(&mut self, sheet: &OpenSheet, left: u16) -> anyhow::Result<()> {
         for right in 0..BLOCKS {
             if let Some(columns) = self.shape.cell(left, right) {
-                let cost = K::made(columns);
-                sheet.enter(&mut self.costs, &mut self.standing, left, right, cost)?;
+                let cost = K::made(&mut &columns[..]);
+                let (costs, standing) = (&mut self.lent.costs, &mut self.lent.standing);
+                sheet.enter(costs, standing, left, right, cost)?;
             }
         }
         Ok(())
@@ -66,7 +58,7 @@ impl<K: Trial> Tables<K> {
     /// What a pair of the kind costs, if it stands.
     pub fn cost(&self, left: u16, right: u16) -> Option<Amount> {
         let columns = self.shape.cell(left, right)?;
-        Some(Amount::of(K::made(columns).columns()))
+        Some(K::made(&mut &columns[..]).amount())
     }
 
     /// What a list costs; an error where it is no pairing over standing pairs.
@@ -90,14 +82,17 @@ impl<K: Trial> Tables<K> {
 
     /// Checks that the prices prove the partners optimum: then all prices add up to their total.
     pub fn check_certificate(&self) -> anyhow::Result<Amount> {
-        let total = self.total(&self.partners)?;
-        let left = sum_of_prices(&self.left)?;
-        let right = sum_of_prices(&self.right)?;
+        let total = self.total(&self.lent.partners)?;
+        let left = sum_of_prices(&self.lent.left)?;
+        let right = sum_of_prices(&self.lent.right)?;
         ensure!(
             left.plus(right)? == total,
             "the prices do not add up to the total"
         );
-        ensure!(are_at_most_zero(&self.right), "a right price above zero");
+        ensure!(
+            are_at_most_zero(&self.lent.right),
+            "a right price above zero"
+        );
         for left in 0..BLOCKS {
             self.check_row(left)?;
         }
@@ -107,10 +102,10 @@ impl<K: Trial> Tables<K> {
     /// Checks the pairs of a left block: none costs less than its two prices, and that of the
     /// partner just as much.
     fn check_row(&self, left: u16) -> anyhow::Result<()> {
-        let partner = self.partners.get(usize::from(left)).copied();
-        let left_price = price(&self.left, left)?;
+        let partner = self.lent.partners.get(usize::from(left)).copied();
+        let left_price = price(&self.lent.left, left)?;
         for right in 0..BLOCKS {
-            let prices = left_price.plus(price(&self.right, right)?)?;
+            let prices = left_price.plus(price(&self.lent.right, right)?)?;
             if let Some(cost) = self.cost(left, right) {
                 ensure!(prices <= cost, "a pair costs less than its prices");
                 ensure!(
@@ -124,26 +119,26 @@ impl<K: Trial> Tables<K> {
 }
 
 /// A block's price.
-fn price<K: Trial>(prices: &[K], block: u16) -> anyhow::Result<Amount> {
+fn price<K: Summed>(prices: &[K], block: u16) -> anyhow::Result<Amount> {
     let price = prices
         .get(usize::from(block))
         .context("a price is missing")?;
-    Ok(Amount::of(price.columns()))
+    Ok(price.amount())
 }
 
-fn sum_of_prices<K: Trial>(prices: &[K]) -> anyhow::Result<Amount> {
+fn sum_of_prices<K: Summed>(prices: &[K]) -> anyhow::Result<Amount> {
     let mut sum = Amount::ZERO;
     for price in prices {
-        let amount = Amount::of(price.columns());
+        let amount = price.amount();
         ensure!(amount.is_within(PRICE_LIMIT), "a price beyond 10^12");
         sum = sum.plus(amount)?;
     }
     Ok(sum)
 }
 
-fn are_at_most_zero<K: Trial>(prices: &[K]) -> bool {
+fn are_at_most_zero<K: Summed>(prices: &[K]) -> bool {
     for price in prices {
-        if Amount::of(price.columns()) > Amount::ZERO {
+        if price.amount() > Amount::ZERO {
             return false;
         }
     }

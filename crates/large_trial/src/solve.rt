@@ -2,67 +2,30 @@
 
 use crate::draw::Pair;
 use crate::kinds::Trial;
+use crate::lent_tables::Lent;
 use crate::line::Order;
 use assign::{Outcome, optimum, settle};
 use blockset::BlockSet;
 use std::alloc::{AllocError, Global};
-use tables::{PairRows, place};
+use tables::{PairRows, Tables};
 use walk::certify;
 
-/// The tables of a sheet: costs and standing pairs, then what is found.
-#[derive(Drop)]
-struct Tables<K: Trial> {
-    n: u16,
-    costs: Vec<K>,
-    standing: Vec<u8>,
-    partners: Vec<u16>,
-    left: Vec<K>,
-    right: Vec<K>,
-}
-
-/// A table of n zeros.
-fn zeros<K: Trial>(heap: Global, n: u16) -> Result<Vec<K>, AllocError> {
-    let mut table = Vec::new(heap);
-    for _ in 0..n {
-        table.push(K::zero())?;
-    }
-    Ok(table)
-}
-
-impl<K: Trial> Tables<K> {
-    /// The tables of n blocks a plane, with no pair in them yet.
-    fn new(heap: Global, n: u16) -> Result<Self, AllocError> {
-        Ok(Tables {
-            n,
-            costs: Vec::new(heap),
-            standing: Vec::new(heap),
-            partners: vec![in heap; 0u16; n as usize]?,
-            left: zeros(heap, n)?,
-            right: zeros(heap, n)?,
-        })
-    }
-
-    /// Makes the pairs of a left block.
-    fn add_row(&mut self, order: Order, left: u16) -> Result<(), AllocError> {
-        for right in 0..self.n {
-            let mut pair = Pair::new(order, left, right);
-            self.standing.push(u8::from(pair.stands()))?;
-            self.costs.push(K::made(&mut pair))?;
+impl<K: Trial> Lent<K> {
+    /// Makes all pairs of a sheet.
+    fn fill(&mut self, order: Order) {
+        let cells = self.costs.iter_mut().zip(self.standing.iter_mut());
+        for (place, (cost, byte)) in cells.enumerate() {
+            let pair = Pair::at(order, place);
+            *cost = K::made(&mut &pair.columns()[..]);
+            *byte = u8::from(pair.stands());
         }
-        Ok(())
-    }
-
-    /// The cost of the pair of a left block.
-    fn cost(&self, left: u16) -> Option<K> {
-        let right = self.partners.get(left as usize)?;
-        self.costs.get(place(self.n, left, *right)).copied()
     }
 
     /// What the pairing costs.
     fn total(&self) -> K {
         let mut total = K::zero();
-        for left in 0..self.n {
-            if let Some(cost) = self.cost(left) {
+        for (left, right) in (0..self.n).zip(&self.partners) {
+            if let Some(cost) = self.cost(left, *right) {
                 total = total.add(cost);
             }
         }
@@ -96,7 +59,7 @@ impl<K: Trial> Tables<K> {
 
     /// The rows of the tight pairs, if the tables hold together.
     fn certify(&self) -> Option<PairRows> {
-        certify(&tables::Tables {
+        certify(&Tables {
             size: self.n,
             costs: &self.costs,
             standing: &self.standing,
@@ -145,28 +108,20 @@ fn show_numbers(numbers: &[u16], text: &mut String) -> Result<(), AllocError> {
     Ok(())
 }
 
-/// Makes all pairs of a sheet.
-fn tables_of<K: Trial>(heap: Global, order: Order) -> Result<Tables<K>, AllocError> {
-    let mut tables = Tables::new(heap, order.n)?;
-    for left in 0..order.n {
-        tables.add_row(order, left)?;
-    }
-    Ok(tables)
-}
-
 /// What is found out about a sheet of a cost kind, as text.
 pub fn solve<K: Trial>(heap: Global, order: Order) -> anyhow::Result<String> {
     let mut text = String::new(heap);
-    let mut tables = tables_of::<K>(heap, order)?;
+    let mut lent = Lent::<K>::new(heap, order.n)?;
+    lent.fill(order);
     match optimum(
         order.n,
-        &tables.costs,
-        &tables.standing,
-        &mut tables.partners,
-        &mut tables.left,
-        &mut tables.right,
+        &lent.costs,
+        &lent.standing,
+        &mut lent.partners,
+        &mut lent.left,
+        &mut lent.right,
     ) {
-        Ok(Outcome::Optimal) => tables.tell(&mut text)?,
+        Ok(Outcome::Optimal) => lent.tell(&mut text)?,
         Ok(Outcome::Unmatched(shortfall)) => {
             let (crowd, short) = (shortfall.crowd, shortfall.short);
             write!(text, "unmatched {crowd:016x} {short}\n")?;

@@ -1,8 +1,8 @@
 //! The walk through the first optimum pairings of a settled sheet, each of which is checked.
 
 use crate::amount::Amount;
-use crate::kinds::Trial;
-use crate::settled::{PAIRS, Tables};
+use crate::kinds::Summed;
+use crate::settled::{PAIRS, Shaped};
 use crate::shape::BLOCKS;
 use anyhow::ensure;
 use sheet::{SettledSheet, Step, Walk};
@@ -35,35 +35,35 @@ impl fmt::Display for Seen {
 }
 
 /// Marks and walks a settled sheet.
-pub fn walk_through<K: Trial>(
+pub fn walk_through<K: Summed>(
     heap: Global,
     settled: SettledSheet,
-    tables: &Tables<K>,
+    shaped: &Shaped<K>,
 ) -> anyhow::Result<Seen> {
-    let total = tables.check_certificate()?;
+    let (total, lent) = (shaped.check_certificate()?, &shaped.lent);
     let mut marks = vec![in heap; 7u8; PAIRS]?;
     settled.marks(
-        &tables.costs,
-        &tables.standing,
-        &tables.partners,
-        &tables.left,
-        &tables.right,
+        &lent.costs,
+        &lent.standing,
+        &lent.partners,
+        &lent.left,
+        &lent.right,
         &mut marks,
     )?;
     let mut list = vec![in heap; 0u16; usize::from(BLOCKS)]?;
     let walk = settled.start(
-        &tables.costs,
-        &tables.standing,
-        &tables.partners,
-        &tables.left,
-        &tables.right,
+        &lent.costs,
+        &lent.standing,
+        &lent.partners,
+        &lent.left,
+        &lent.right,
         &mut list,
     )?;
     ensure!(
-        list == tables.partners,
+        list == lent.partners,
         "the first pairing is not the partners"
     );
-    let pairings = walk_on(&walk, tables, &mut list, total, &marks)?;
+    let pairings = walk_on(&walk, shaped, &mut list, total, &marks)?;
     Ok(Seen {
         total,
         marked: marks.iter().filter(|mark| **mark == 1).count(),
@@ -74,23 +74,24 @@ pub fn walk_through<K: Trial>(
 
 /// Goes on to the end of a walk, or until the pairings suffice, and counts them; one more where the
 /// walk has not ended.
-fn walk_on<K: Trial>(
+fn walk_on<K: Summed>(
     walk: &Walk,
-    tables: &Tables<K>,
+    shaped: &Shaped<K>,
     list: &mut Vec<u16>,
     total: Amount,
     marks: &[u8],
 ) -> anyhow::Result<usize> {
+    let lent = &shaped.lent;
     for pairings in 1..PAIRINGS + 1 {
-        ensure!(tables.total(list)? == total, "a pairing of another total");
+        ensure!(shaped.total(list)? == total, "a pairing of another total");
         ensure!(are_marked(list, marks), "a pair of a pairing is not marked");
         let before = list.clone()?;
         let step = walk.next(
-            &tables.costs,
-            &tables.standing,
-            &tables.partners,
-            &tables.left,
-            &tables.right,
+            &lent.costs,
+            &lent.standing,
+            &lent.partners,
+            &lent.left,
+            &lent.right,
             list,
         )?;
         if let Step::End = step {

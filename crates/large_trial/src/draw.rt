@@ -2,9 +2,7 @@
 //! pairs of them.
 
 use crate::line::{Costs, Order, Pairs};
-
-/// The largest cost of a column.
-const MOST: i64 = 1_000_000_000;
+use crate::shape::{MOST, end};
 
 /// Number `k` of the sequence splitmix64 that starts at `seed`.
 fn random(seed: u64, k: u64) -> u64 {
@@ -14,22 +12,22 @@ fn random(seed: u64, k: u64) -> u64 {
     z ^ (z >> 31)
 }
 
-/// A pair of a sheet, and how many columns of its cost have been made.
+/// A pair of a sheet.
 #[derive(Clone, Copy)]
 pub struct Pair {
     order: Order,
     left: u16,
     right: u16,
-    column: u16,
 }
 
 impl Pair {
-    pub fn new(order: Order, left: u16, right: u16) -> Self {
+    /// The pair at a place of the pair tables.
+    pub fn at(order: Order, place: usize) -> Self {
+        let n = usize::from(order.n).max(1);
         Pair {
             order,
-            left,
-            right,
-            column: 0,
+            left: (place / n) as u16,
+            right: (place % n) as u16,
         }
     }
 
@@ -52,22 +50,28 @@ impl Pair {
         }
     }
 
-    /// The next column of the cost; any number where the pair does not stand.
-    pub fn next_column(&mut self) -> i64 {
-        let drawn = self.number(self.column);
-        let value = if self.stands() {
-            self.value(drawn)
+    /// The columns of the cost; any numbers where the pair does not stand.
+    pub fn columns(self) -> [i64; 4] {
+        [
+            self.column(0),
+            self.column(1),
+            self.column(2),
+            self.column(3),
+        ]
+    }
+
+    fn column(self, column: u16) -> i64 {
+        let drawn = self.number(column);
+        if self.stands() {
+            self.value(drawn, i64::from(column))
         } else {
             i64::from_le_bytes(drawn.to_le_bytes())
-        };
-        self.column = self.column.wrapping_add(1);
-        value
+        }
     }
 
     /// What the rule of the sheet makes of a random number.
-    fn value(self, drawn: u64) -> i64 {
+    fn value(self, drawn: u64, column: i64) -> i64 {
         let (left, right) = (i64::from(self.left), i64::from(self.right));
-        let column = i64::from(self.column);
         match self.order.costs {
             Costs::Wide => between(drawn, 1_000_000_000),
             Costs::Small => between(drawn, 3),
@@ -77,11 +81,11 @@ impl Pair {
             Costs::Equal => 7,
             Costs::High => MOST,
             Costs::Low => -MOST,
-            Costs::Checks => extreme((left + right + column) % 2 == 0),
-            Costs::ByLeft => extreme((left + column) % 2 == 0),
-            Costs::ByRight => extreme((right + column) % 2 == 0),
-            Costs::Corner => extreme((left < right) == (column % 2 == 0)),
-            Costs::Signs => extreme(drawn % 2 == 0),
+            Costs::Checks => end((left + right + column) % 2 == 0),
+            Costs::ByLeft => end((left + column) % 2 == 0),
+            Costs::ByRight => end((right + column) % 2 == 0),
+            Costs::Corner => end((left < right) == (column % 2 == 0)),
+            Costs::Signs => end(drawn % 2 == 0),
             Costs::Edge if drawn % 2 == 0 => MOST - (drawn / 2 % 4) as i64,
             Costs::Edge => (drawn / 2 % 4) as i64 - MOST,
             Costs::Products => (left + 1) * (right + 1),
@@ -94,9 +98,4 @@ impl Pair {
 /// A number from `-most` to `most`.
 fn between(drawn: u64, most: u32) -> i64 {
     (drawn % (2 * u64::from(most) + 1)) as i64 - i64::from(most)
-}
-
-/// One of the two ends of what a cost can be.
-fn extreme(high: bool) -> i64 {
-    if high { MOST } else { -MOST }
 }

@@ -1,12 +1,12 @@
 //! The sheets that are built to hurt: what each pair of 64 left and 64 right blocks costs.
 
-use crate::kinds::Columns;
+use crate::amount::Columns;
 
 /// How many blocks a plane has.
 pub const BLOCKS: u16 = 64;
 
 /// The largest cost of a column.
-const MOST: i64 = 1_000_000_000;
+pub const MOST: i64 = 1_000_000_000;
 
 /// A rule for the costs of a sheet, and for which of its pairs stand.
 #[derive(Clone, Copy, Debug)]
@@ -41,7 +41,8 @@ pub const SHAPES: [Shape; 8] = [
     Shape::Corner,
 ];
 
-fn end(high: bool) -> i64 {
+/// One of the two ends of what a cost can be.
+pub fn end(high: bool) -> i64 {
     if high { MOST } else { -MOST }
 }
 

@@ -1,9 +1,11 @@
 //! Costs, prices and their sums as the trial itself reckons them: three whole numbers, added one by
 //! one and ordered by the first that differs. A sum that does not fit is an error of the trial.
 
-use crate::kinds::Columns;
 use anyhow::Context;
 use std::fmt;
+
+/// The columns of a cost; those that its kind does not have are 0.
+pub type Columns = [i64; 3];
 
 #[derive(Clone, Copy, PartialEq, Eq, PartialOrd, Ord)]
 pub struct Amount {
