@@ -1,10 +1,10 @@
 #!/usr/bin/env python3
-"""Solves the sheets of crates/assign_trial on its own, to compare with.
+"""Solves the sheets that crates/large_trial/stdin names on its own, to compare with.
 
     tools/assignments.py < LINES              prints what has to be printed of the sheets that the
-                                              lines name
+                                              lines name, behind what large_trial prints of its own
     tools/assignments.py --random COUNT SEED  prints lines that name random sheets
-    tools/assignments.py --lines              prints the lines of crates/assign_trial/stdin
+    tools/assignments.py --lines              prints the lines of crates/large_trial/stdin
 
 It shares nothing with the crates, which add one row at a time along cheapest chains. Here a pairing
 of any cost is made better by exchanges along negative cycles, until a Bellman-Ford pass over all
@@ -12,7 +12,7 @@ pairs finds none; the distances are then the greatest prices. A crowd set is mad
 without which the largest pairings stay as large, one by one. A cost of several columns is one exact
 number, in which each column has 80 binary digits.
 
-A line is `KIND N SEED COSTS PAIRS`; crates/assign_trial/src/line.rt tells the words.
+A line is `KIND N SEED COSTS PAIRS`; crates/large_trial/src/line.rt tells the words.
 """
 import random
 import sys

@@ -1,5 +1,5 @@
-//! Settling and walking below the calls of a sheet: all optimum pairings in turn, and the pairs that
-//! occur in them, in three cost kinds.
+//! Settling and walking below the calls of a sheet: all optimum pairings in turn, and the pairs
+//! that occur in them, in three cost kinds.
 
 use assign::{Outcome, settle};
 use cost::{Cost, Free, Plain, TwoStep};
