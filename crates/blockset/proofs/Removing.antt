@@ -4,6 +4,7 @@ use Rattle.std.proofs.Common.{◌≡◌, ℕ, ◌<◌, Bool, true, false, not, �
 use Rattle.std.proofs.Common.{⊎_elim}
 use Rattle.std.proofs.lemmas.Bool.{cases_Bool, both_ways, and_parts, and_from, not-true}
 use Rattle.std.proofs.lemmas.Bool.{not_from_false, ne_eqb, eq-eqb}
+use Rattle.blockset.specs.declared.TheConstants.{SET_WIDTH}
 use Rattle.blockset.specs.Sets.{members}
 use Rattle.blockset.proofs.Members.{members_less}
 
@@ -24,5 +25,5 @@ module _ (rest rest' : ℕ → Bool) (c : ℕ)
   out_of = ⊎_elim (λ (t : rest' c ≡ true). absurd ((still_in c t).1 refl)) (λ t. t)
       (cases_Bool (rest' c))
 
-  pub fewer : c < 64 → rest c ≡ true → members 64 rest' < members 64 rest
-  fewer h t = members_less 64 rest rest' c h (λ j s. (still_in j s).0) t out_of
+  pub fewer : c < SET_WIDTH → rest c ≡ true → members SET_WIDTH rest' < members SET_WIDTH rest
+  fewer h t = members_less SET_WIDTH rest rest' c h (λ j s. (still_in j s).0) t out_of

@@ -7,10 +7,11 @@ use Rattle.std.proofs.Common.{◌∙◌, arith}
 use Rattle.std.proofs.lemmas.Int.{ints}
 use Rattle.std.proofs.lemmas.Bool.{leb-true, le-leb, cases_lt}
 use Rattle.std.proofs.ByRecursion.{Decides-by_and}
+use Rattle.cost.specs.declared.TheConstants.{RAIL}
 use Rattle.cost.specs.Columns.{rail_of, Within, within, columnwise, zeros, plus, minus}
 use Rattle.cost.specs.Laws.{IsExact}
 
-pub rail_of_same : (z : ℤ) → nat_abs z ≤ 1000000000000000 → rail_of z ≡ z
+pub rail_of_same : (z : ℤ) → nat_abs z ≤ RAIL → rail_of z ≡ z
 rail_of_same (pos n) h = ap pos (omega arith)
 rail_of_same (negsuc n) h = ap negsuc (omega arith)
 
@@ -38,7 +39,7 @@ module _ (f : ℤ → ℤ → ℤ) (small : (x y : ℤ) → nat_abs (f x y) ≤ 
   columnwise-within a b (x ∷ xs) (y ∷ ys) h k =
       (omega (arith, small x y, h.0, k.0), columnwise-within a b xs ys h.1 k.1)
 
-  pub columnwise_exact : (a b : ℕ) (xs ys : List ℤ) → a + b ≤ 1000000000000000 → Within a xs
+  pub columnwise_exact : (a b : ℕ) (xs ys : List ℤ) → a + b ≤ RAIL → Within a xs
       → Within b ys → columnwise (λ x y. rail_of (f x y)) xs ys ≡ columnwise f xs ys
   columnwise_exact a b [] ys l h k = refl
   columnwise_exact a b (x ∷ xs) [] l h k = refl
@@ -56,7 +57,7 @@ pub minus-within : (a b : ℕ) (xs ys : List ℤ) → Within a xs → Within b y
     → Within (a + b) (minus xs ys)
 minus-within = columnwise-within ◌-ℤ◌ abs_minus
 
-pub exact : IsExact 1000000000000000
+pub exact : IsExact RAIL
 exact a b xs ys l h k = (
   columnwise_exact ◌+ℤ◌ abs_plus a b xs ys l h k,
   columnwise_exact ◌-ℤ◌ abs_minus a b xs ys l h
@@ -64,18 +65,18 @@ exact a b xs ys l h k = (
 )
 
 -- beyond that the rail stops a sum: one column at its end, and 1 more
-too_far : IsExact 1000000000000001 → ⊥
+too_far : IsExact (RAIL + 1) → ⊥
 too_far h =
-    let stopped : ◌≡◌ {A = List ℤ} (pos 1000000000000000 ∷ []) (pos 1000000000000001 ∷ []) =
-    (h 1000000000000000 1 (pos 1000000000000000 ∷ []) (pos 1 ∷ []) (omega arith)
+    let stopped : ◌≡◌ {A = List ℤ} (pos RAIL ∷ []) (pos (RAIL + 1) ∷ []) =
+    (h RAIL 1 (pos RAIL ∷ []) (pos 1 ∷ []) (omega arith)
     (omega arith, tt) (omega arith, tt)).0 in
-    let same_size : sum_by nat_abs (pos 1000000000000000 ∷ []) ≡
-    sum_by nat_abs (pos 1000000000000001 ∷ []) = ap (sum_by nat_abs) stopped in
+    let same_size : sum_by nat_abs (pos RAIL ∷ []) ≡
+    sum_by nat_abs (pos (RAIL + 1) ∷ []) = ap (sum_by nat_abs) stopped in
     omega arith
 
-pub most : (reach : ℕ) → IsExact reach → reach ≤ 1000000000000000
+pub most : (reach : ℕ) → IsExact reach → reach ≤ RAIL
 most reach h =
-    elim (cases_lt 1000000000000000 reach) [
+    elim (cases_lt RAIL reach) [
       | inl l ↦ absurd (too_far (λ a b xs ys fits. h a b xs ys (omega arith)))
       | inr l ↦ l
     ]

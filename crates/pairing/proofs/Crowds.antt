@@ -112,217 +112,6 @@ around_tells n stands X r =
       λ w. d.1 (w.0, w.1, and_from _ _ w.2 w.3),
     )
 
-module _ (n : ℕ) (stands : ℕ → ℕ → Bool) (p : List ℕ) (out : ℕ → Bool)
-    (part : Partial n stands p out) where
-  -- a step from a left block to the one whose right block it stands with
-  edge : ℕ → ℕ → Bool
-  edge m x = not (out x) && stands m (at p x)
-
-  edge_parts : (m x : ℕ) → edge m x ≡ true → (out x ≡ false) × (stands m (at p x) ≡ true)
-  unfolding edge
-  edge_parts m x e = let b = and_parts (not (out x)) (stands m (at p x)) e in
-      (not-true (out x) b.0, b.1)
-
-  edge_from : (m x : ℕ) → out x ≡ false → stands m (at p x) ≡ true → edge m x ≡ true
-  unfolding edge
-  edge_from m x f t = and_from (not (out x)) (stands m (at p x)) (not_from_false (out x) f) t
-
-  module _ (D : ℕ → Bool) (rank : ℕ → ℕ) (c : Closure n out edge D rank) where
-    reached_in : (l : ℕ) → Reached n stands p out l → D l ≡ true
-    reached_in _ (free l i t) = c.has l i t
-    reached_in _ (onward l m w i f t) = c.closed l m (reached_inside n stands p out l w) i
-        (reached_in l w) (edge_from l m f t)
-
-    in_reached : (l : ℕ) → l < n → D l ≡ true → Reached n stands p out l
-    in_reached l i d =
-        reached_all n out edge D rank c (Reached n stands p out) (λ y j s. free y j s)
-        (λ x y i j w e. let b = edge_parts x y e in onward x y w j b.0 b.1) (suc (rank l)) l i
-        (omega arith) d
-
-    -- the way back, while the left blocks of F are left out
-    back : (F : ℕ → Bool) (top : ℕ) → ((x : ℕ) → rank x < top → out x ≡ false → F x ≡ false)
-        → (x : ℕ) → x < n → D x ≡ true → rank x < top
-        → (out x ≡ true)
-        ⊎ ((F x ≡ false) × ((m : ℕ) × (m < n) × (D m ≡ true) × (stands m (at p x) ≡ true)
-        × (rank m < rank x)))
-    back F top less x i d low = elim (c.back x i d) [
-      | inl s ↦ inl s
-      | inr w ↦ let b = edge_parts w.0 x w.3 in inr (less x low b.0, (w.0, w.1, w.2, b.1, w.4))
-    ]
-
-    -- a free right block that a reached left block stands with: one more pair, of a left block f
-    -- that was left out
-    augment : (l r : ℕ) → l < n → D l ≡ true → r < n → stands l r ≡ true
-        → ((x : ℕ) → x < n → out x ≡ false → at p x ≡ r → ⊥)
-        → (q : List ℕ) × (f : ℕ) × (f < n) × (out f ≡ true)
-        × Partial n stands q (λ x. out x && not (eqb x f))
-    augment l r i d j t unheld =
-        fill n stands p out out D rank (suc (rank l)) (back out (suc (rank l)) (λ x _ f. f))
-        (suc (rank l)) p r l
-        (record {
-          part = part;
-          inside = j;
-          free = unheld;
-          taker = i;
-          wants = t;
-          member = d;
-          under =
-              omega arith;
-          ahead = λ x _ _. refl;
-        }) (omega arith)
-
-    larger : (l r : ℕ) → l < n → D l ≡ true → r < n → stands l r ≡ true
-        → ((x : ℕ) → x < n → out x ≡ false → at p x ≡ r → ⊥)
-        → (q : List ℕ) × (out' : ℕ → Bool) × Partial n stands q out'
-        × (members n out ≡ suc (members n out'))
-    larger l r i d j t unheld =
-        let w = augment l r i d j t unheld in
-        (w.0, λ x. out x && not (eqb x w.1), w.4, members_without n out w.1 w.2 w.3)
-
-    -- a reached left block is left out by a pairing that leaves as many out
-    loosen : (l : ℕ) → l < n → D l ≡ true → (q : List ℕ) × (out' : ℕ → Bool)
-        × Partial n stands q out' × (members n out' ≡ members n out) × (out' l ≡ true)
-    loosen l i d =
-        let F : ℕ → Bool = λ x. eqb x l || out x in
-        let less : (x : ℕ) → rank x < rank l → out x ≡ false → F x ≡ false = λ x low f. let ne =
-        ne_eqb x l (λ e. omega (arith, ap rank e)) in grind arith in
-        elim (c.back l i d) [
-          | inl t ↦ (p, out, part, refl, t)
-          | inr w ↦
-              let b = edge_parts w.0 l w.3 in
-              let small : (x : ℕ) → F x ≡ false → (out x ≡ false) × (x ≡ l → ⊥) =
-              λ x f. (
-                grind arith,
-                λ e. both_ways (F x) f
-                    (or_left (eqb x l) (out x) (eq-eqb x l e)),
-              ) in
-              let q = fill n stands p out F D rank (rank l) (back F (rank l) less) (suc (rank w.0))
-              p (at p l) w.0 (record {
-                part = record {
-                  len = part.len;
-                  below = λ x j f. part.below x j (small x f).0;
-                  standing = λ x j f. part.standing x j (small x f).0;
-                  once = λ x y j k f e. part.once x y j k (small x f).0 (small y e).0;
-                };
-                inside = part.below l i b.0;
-                free = λ x j f e. (small x f).1 (part.once x l j i (small x f).0 b.0 e);
-                taker = w.1;
-                wants = b.1;
-                member = w.2;
-                under = w.4;
-                ahead = λ x _ _. refl;
-              }) (omega arith) in
-              let f = q.1 in
-              let apart : l ≡ f → ⊥ = apart_by out l f b.0 q.3 in
-              let up : members n F ≡ suc (members n out) = members_with n out F l i b.0
-              (λ j. refl) in
-              let down = members_without n F f q.2 (or_right (eqb f l) (out f) q.3) in (
-                q.0,
-                λ x. F x && not (eqb x f),
-                q.4,
-                omega arith,
-                let e = eq-eqb l l refl in let s =
-                    ne_eqb l f apart in grind arith,
-              )
-        ]
-
-    -- ---- where no free right block is left
-
-    module _ (held : (l r : ℕ) → l < n → D l ≡ true → r < n → stands l r ≡ true
-        → Held n p out r) where
-      Y : ℕ → Bool
-      Y = around n stands D
-
-      shut : Shut n stands D Y
-      unfolding Y
-      shut l r i j d t = (around_tells n stands D r).1 (l, i, d, t)
-
-      -- each block of Y is a reached left block's
-      holder : (r : ℕ) → r < n → Y r ≡ true → (m : ℕ) × (m < n) × (out m ≡ false) × (at p m ≡ r)
-          × (D m ≡ true)
-      unfolding Y
-      holder r j y =
-          let w = (around_tells n stands D r).0 y in
-          let h = held w.0 r w.1 w.2 j w.3 in (
-            h.0,
-            h.1,
-            h.2,
-            h.3,
-            c.closed w.0 h.0 w.1 h.1 w.2
-                (edge_from w.0 h.0 h.2 (ap (stands w.0) h.3 ∙ w.3)),
-          )
-
-      -- right blocks below n only
-      Z : ℕ → Bool
-      Z r = Y r && some_below n (λ x. eqb x r)
-
-      in_Z : (r : ℕ) → Z r ≡ true → (r < n) × (Y r ≡ true)
-      unfolding Z
-      in_Z r z =
-          let b = and_parts (Y r) (some_below n (λ x. eqb x r)) z in
-          let w = (some_tells n (λ x. eqb x r)).0 b.1 in
-          (subst (λ x. x < n) (eqb-true w.0 r w.2) w.1, b.0)
-
-      Z_is : (r : ℕ) → r < n → Y r ≡ Z r
-      unfolding Z
-      Z_is r j = let e = (some_tells n (λ x. eqb x r)).1 (r, j, eq-eqb r r refl) in grind arith
-
-      held_le : members n Y ≤ members n (λ l. D l && not (out l))
-      held_le =
-          omega (
-            arith,
-            members_like n Z Y Z_is,
-            inject_le n n Z (λ l. D l && not (out l)) (λ r z. let a = in_Z r z in
-                (holder r a.0 a.1).0)
-                (λ r z i. let a = in_Z r z in let h = holder r a.0 a.1 in
-                (h.1, and_from _ _ h.4 (not_from_false (out h.0) h.2)))
-                (λ r s z y i j e. let a = in_Z r z in let b = in_Z s y in sym (holder r a.0 a.1).3
-                ∙ ap (at p) e ∙ (holder s b.0 b.1).3),
-          )
-
-      out_in : (l : ℕ) → l < n → (D l && out l) ≡ out l
-      out_in l i =
-          elim (cases_Bool (out l)) [
-            | inl t ↦ (let d = c.has l i t in grind arith)
-            | inr f ↦
-                grind arith
-          ]
-
-      short : members n D ≡ members n Y + members n out
-      short = omega (
-        arith,
-        members_split n D out,
-        members_like n out (λ l. D l && out l) out_in,
-        held_le,
-        left_out_le n stands D Y shut p out part,
-      )
-
-      most : (q : List ℕ) (G : ℕ → Bool) → Partial n stands q G → members n out ≤ members n G
-      most q G g =
-          omega (
-            arith,
-            short,
-            left_out_le n stands D Y shut q G g,
-            out_of_set n stands D Y shut q G
-                g,
-          )
-
-      only_reached : (q : List ℕ) (G : ℕ → Bool) → Partial n stands q G
-          → members n G ≤ members n out → (l : ℕ) → l < n → G l ≡ true → D l ≡ true
-      only_reached q G g le l i t =
-          let none = members_none n (λ l. G l && not (D l))
-          (omega (
-            arith,
-            short,
-            left_out_le n stands D Y shut q G g,
-            members_split n G D,
-            members_like n (λ l. D l && G l) (λ l. G l && D l) (λ l _. and_comm (G l) (D l)),
-          )) l i
-          in
-          grind arith
-
--- ---- the theorems
-
 module _ (n : ℕ) (stands : ℕ → ℕ → Bool) where
   fewest : (p : List ℕ) (out : ℕ → Bool) → Largest n stands p out → (q : List ℕ) (G : ℕ → Bool)
       → Partial n stands q G → members n out ≤ members n G
@@ -347,92 +136,277 @@ module _ (n : ℕ) (stands : ℕ → ℕ → Bool) where
         λ w. d.1 (w.0, w.1, and_from _ _ (not_from_false (out w.0) w.2) (eq-eqb (at p w.0) r w.3)),
       )
 
-  module _ (p : List ℕ) (out : ℕ → Bool) (part : Partial n stands p out) where
-    D : ℕ → Bool
-    D = (closure n out (edge n stands p out part)).0
+module _ (n : ℕ) (stands : ℕ → ℕ → Bool) (p : List ℕ) (out : ℕ → Bool)
+    (part : Partial n stands p out) where
+  -- a step from a left block to the one whose right block it stands with
+  edge : ℕ → ℕ → Bool
+  edge m x = not (out x) && stands m (at p x)
 
-    rank : ℕ → ℕ
-    rank = (closure n out (edge n stands p out part)).1
+  edge_parts : (m x : ℕ) → edge m x ≡ true → (out x ≡ false) × (stands m (at p x) ≡ true)
+  unfolding edge
+  edge_parts m x e = let b = and_parts (not (out x)) (stands m (at p x)) e in
+      (not-true (out x) b.0, b.1)
 
-    is : Closure n out (edge n stands p out part) D rank
-    unfolding D rank
-    is = (closure n out (edge n stands p out part)).2
+  edge_from : (m x : ℕ) → out x ≡ false → stands m (at p x) ≡ true → edge m x ≡ true
+  unfolding edge
+  edge_from m x f t = and_from (not (out x)) (stands m (at p x)) (not_from_false (out x) f) t
 
-    stuck_held : Stuck n stands p out → (l r : ℕ) → l < n → D l ≡ true → r < n → stands l r ≡ true
-        → Held n p out r
-    stuck_held s l r i d j t = s l r (in_reached n stands p out part D rank is l i d) j t
+  -- what is reached, with a shorter way back from each
+  found : (D : ℕ → Bool) × (rank : ℕ → ℕ) × Closure n out edge D rank
+  found = closure n out edge
 
-    pub stuck_largest : Stuck n stands p out → Largest n stands p out
-    stuck_largest s = largest_from p out part (most n stands p out part D rank is (stuck_held s))
+  D : ℕ → Bool
+  D = found.0
 
-    -- a right block that a reached left block stands with is held, or another pairing leaves fewer
-    -- out
-    held_or : (l r : ℕ) → l < n → D l ≡ true → r < n → stands l r ≡ true
-        → Held n p out r ⊎ ((q : List ℕ) × (out' : ℕ → Bool) × Partial n stands q out'
-        × (members n out ≡ suc (members n out')))
-    held_or l r i d j t = elim (cases_Bool (some_below n (λ x. not (out x) && eqb (at p x) r))) [
-      | inl e ↦ inl ((held_tells p out r).0 e)
-      | inr e ↦
-          inr (larger n stands p out part D rank is l r i d j t
-          (λ x k f s. both_ways _ e ((held_tells p out r).1 (x, k, f, s))))
-    ]
+  rank : ℕ → ℕ
+  rank = found.1
 
-    largest_held : Largest n stands p out → (l r : ℕ) → l < n → D l ≡ true → r < n
-        → stands l r ≡ true → Held n p out r
-    largest_held h l r i d j t =
-        elim (held_or l r i d j t)
-        [ inl w ↦ w | inr w ↦ absurd (omega (arith, w.3, fewest p out h w.0 w.1 w.2)) ]
+  is : Closure n out edge D rank
+  unfolding D rank
+  is = found.2
 
-    pub largest_stuck : Largest n stands p out → Stuck n stands p out
-    largest_stuck h l r w j t = largest_held h l r (reached_inside n stands p out l w)
-        (reached_in n stands p out part D rank is l w) j t
+  reached_in : (l : ℕ) → Reached n stands p out l → D l ≡ true
+  reached_in _ (free l i t) = is.has l i t
+  reached_in _ (onward l m w i f t) = is.closed l m (reached_inside n stands p out l w) i
+      (reached_in l w) (edge_from l m f t)
 
-    -- whether some chain ends at a free right block
-    open_step : ℕ → ℕ → Bool
-    open_step l r = (D l && stands l r) && not (some_below n (λ x. not (out x) && eqb (at p x) r))
+  in_reached : (l : ℕ) → l < n → D l ≡ true → Reached n stands p out l
+  in_reached l i d =
+      reached_all n out edge D rank is (Reached n stands p out) (λ y j s. free y j s)
+      (λ x y i j w e. let b = edge_parts x y e in onward x y w j b.0 b.1) (suc (rank l)) l i
+      (omega arith) d
 
-    better : some_below n (λ l. some_below n (open_step l)) ≡ true → (q : List ℕ)
-        × (out' : ℕ → Bool) × Partial n stands q out' × (members n out ≡ suc (members n out'))
-    unfolding open_step
-    better e =
-        let w = (some_tells n (λ l. some_below n (open_step l))).0 e in
-        let v = (some_tells n (open_step w.0)).0 w.2 in
-        let a = and_parts (D w.0 && stands w.0 v.0)
-        (not (some_below n (λ x. not (out x) && eqb (at p x) v.0))) v.2 in
-        let b = and_parts (D w.0) (stands w.0 v.0) a.0 in
-        larger n stands p out part D rank is w.0 v.0 w.1 b.0 v.1 b.1
-        (λ x k f s. both_ways _ (not-true _ a.1) ((held_tells p out v.0).1 (x, k, f, s)))
+  -- the way back, while the left blocks of F are left out
+  back : (F : ℕ → Bool) (top : ℕ) → ((x : ℕ) → rank x < top → out x ≡ false → F x ≡ false)
+      → (x : ℕ) → x < n → D x ≡ true → rank x < top
+      → (out x ≡ true)
+      ⊎ ((F x ≡ false) × ((m : ℕ) × (m < n) × (D m ≡ true) × (stands m (at p x) ≡ true)
+      × (rank m < rank x)))
+  back F top less x i d low = elim (is.back x i d) [
+    | inl s ↦ inl s
+    | inr w ↦ let b = edge_parts w.0 x w.3 in inr (less x low b.0, (w.0, w.1, w.2, b.1, w.4))
+  ]
 
-    no_better : some_below n (λ l. some_below n (open_step l)) ≡ false → Stuck n stands p out
-    unfolding open_step
-    no_better e l r w j t =
-        let i = reached_inside n stands p out l w in
-        let d = reached_in n stands p out part D rank is l w in
-        elim (cases_Bool (some_below n (λ x. not (out x) && eqb (at p x) r))) [
-          | inl h ↦ (held_tells p out r).0 h
-          | inr h ↦
-              let v = (some_tells n (open_step l)).1
-              (r, j, and_from _ _ (and_from _ _ d t) (not_from_false _ h)) in
-              absurd (both_ways _ e ((some_tells n (λ l. some_below n (open_step l))).1 (l, i, v)))
+  -- the exchange along an augmenting path, from its end l and r on: one more pair, of a left block
+  -- f that was left out
+  pub augmented : (l r : ℕ) → Reached n stands p out l → r < n → stands l r ≡ true
+      → ((x : ℕ) → x < n → out x ≡ false → at p x ≡ r → ⊥)
+      → (q : List ℕ) × (f : ℕ) × (f < n) × (out f ≡ true)
+      × Partial n stands q (λ x. out x && not (eqb x f))
+  augmented l r w j t unheld =
+      fill n stands p out out D rank (suc (rank l)) (back out (suc (rank l)) (λ x _ f. f))
+      (suc (rank l)) p r l
+      (record {
+        part = part;
+        inside = j;
+        free = unheld;
+        taker = reached_inside n stands p out l w;
+        wants = t;
+        member = reached_in l w;
+        under = omega arith;
+        ahead = λ x _ _. refl;
+      }) (omega arith)
+
+  -- a reached left block is left out by a pairing that leaves as many out
+  loosen : (l : ℕ) → l < n → D l ≡ true → (q : List ℕ) × (out' : ℕ → Bool)
+      × Partial n stands q out' × (members n out' ≡ members n out) × (out' l ≡ true)
+  loosen l i d =
+      let F : ℕ → Bool = λ x. eqb x l || out x in
+      let less : (x : ℕ) → rank x < rank l → out x ≡ false → F x ≡ false = λ x low f. let ne =
+      ne_eqb x l (λ e. omega (arith, ap rank e)) in grind arith in
+      elim (is.back l i d) [
+        | inl t ↦ (p, out, part, refl, t)
+        | inr w ↦
+            let b = edge_parts w.0 l w.3 in
+            let small : (x : ℕ) → F x ≡ false → (out x ≡ false) × (x ≡ l → ⊥) =
+            λ x f. (
+              grind arith,
+              λ e. both_ways (F x) f
+                  (or_left (eqb x l) (out x) (eq-eqb x l e)),
+            ) in
+            let q = fill n stands p out F D rank (rank l) (back F (rank l) less) (suc (rank w.0))
+            p (at p l) w.0 (record {
+              part = record {
+                len = part.len;
+                below = λ x j f. part.below x j (small x f).0;
+                standing = λ x j f. part.standing x j (small x f).0;
+                once = λ x y j k f e. part.once x y j k (small x f).0 (small y e).0;
+              };
+              inside = part.below l i b.0;
+              free = λ x j f e. (small x f).1 (part.once x l j i (small x f).0 b.0 e);
+              taker = w.1;
+              wants = b.1;
+              member = w.2;
+              under = w.4;
+              ahead = λ x _ _. refl;
+            }) (omega arith) in
+            let f = q.1 in
+            let apart : l ≡ f → ⊥ = apart_by out l f b.0 q.3 in
+            let up : members n F ≡ suc (members n out) = members_with n out F l i b.0
+            (λ j. refl) in
+            let down = members_without n F f q.2 (or_right (eqb f l) (out f) q.3) in (
+              q.0,
+              λ x. F x && not (eqb x f),
+              q.4,
+              omega arith,
+              let e = eq-eqb l l refl in let s =
+                  ne_eqb l f apart in grind arith,
+            )
+      ]
+
+  -- ---- where no free right block is left
+
+  module _ (stuck : Stuck n stands p out) where
+    Y : ℕ → Bool
+    Y = around n stands D
+
+    shut : Shut n stands D Y
+    unfolding Y
+    shut l r i j d t = (around_tells n stands D r).1 (l, i, d, t)
+
+    -- each block of Y is a reached left block's
+    holder : (r : ℕ) → r < n → Y r ≡ true → (m : ℕ) × (m < n) × (out m ≡ false) × (at p m ≡ r)
+        × (D m ≡ true)
+    unfolding Y
+    holder r j y =
+        let w = (around_tells n stands D r).0 y in
+        let h = stuck w.0 r (in_reached w.0 w.1 w.2) j w.3 in (
+          h.0,
+          h.1,
+          h.2,
+          h.3,
+          is.closed w.0 h.0 w.1 h.1 w.2
+              (edge_from w.0 h.0 h.2 (ap (stands w.0) h.3 ∙ w.3)),
+        )
+
+    -- right blocks below n only
+    Z : ℕ → Bool
+    Z r = Y r && some_below n (λ x. eqb x r)
+
+    in_Z : (r : ℕ) → Z r ≡ true → (r < n) × (Y r ≡ true)
+    unfolding Z
+    in_Z r z =
+        let b = and_parts (Y r) (some_below n (λ x. eqb x r)) z in
+        let w = (some_tells n (λ x. eqb x r)).0 b.1 in
+        (subst (λ x. x < n) (eqb-true w.0 r w.2) w.1, b.0)
+
+    Z_is : (r : ℕ) → r < n → Y r ≡ Z r
+    unfolding Z
+    Z_is r j = let e = (some_tells n (λ x. eqb x r)).1 (r, j, eq-eqb r r refl) in grind arith
+
+    held_le : members n Y ≤ members n (λ l. D l && not (out l))
+    held_le =
+        omega (
+          arith,
+          members_like n Z Y Z_is,
+          inject_le n n Z (λ l. D l && not (out l)) (λ r z. let a = in_Z r z in
+              (holder r a.0 a.1).0)
+              (λ r z i. let a = in_Z r z in let h = holder r a.0 a.1 in
+              (h.1, and_from _ _ h.4 (not_from_false (out h.0) h.2)))
+              (λ r s z y i j e. let a = in_Z r z in let b = in_Z s y in sym (holder r a.0 a.1).3
+              ∙ ap (at p) e ∙ (holder s b.0 b.1).3),
+        )
+
+    out_in : (l : ℕ) → l < n → (D l && out l) ≡ out l
+    out_in l i =
+        elim (cases_Bool (out l)) [
+          | inl t ↦ (let d = is.has l i t in grind arith)
+          | inr f ↦
+              grind arith
         ]
 
-    -- the exchange along an augmenting path, from its end l and r on
-    pub augmented : (l r : ℕ) → Reached n stands p out l → r < n → stands l r ≡ true
-        → ((x : ℕ) → x < n → out x ≡ false → at p x ≡ r → ⊥)
-        → (q : List ℕ) × (f : ℕ) × (f < n) × (out f ≡ true)
-        × Partial n stands q (λ x. out x && not (eqb x f))
-    augmented l r w = augment n stands p out part D rank is l r (reached_inside n stands p out l w)
-        (reached_in n stands p out part D rank is l w)
+    short : members n D ≡ members n Y + members n out
+    short = omega (
+      arith,
+      members_split n D out,
+      members_like n out (λ l. D l && out l) out_in,
+      held_le,
+      left_out_le n stands D Y shut p out part,
+    )
 
+    most : (q : List ℕ) (G : ℕ → Bool) → Partial n stands q G → members n out ≤ members n G
+    most q G g =
+        omega (
+          arith,
+          short,
+          left_out_le n stands D Y shut q G g,
+          out_of_set n stands D Y shut q G
+              g,
+        )
+
+    only_reached : (q : List ℕ) (G : ℕ → Bool) → Partial n stands q G
+        → members n G ≤ members n out → (l : ℕ) → l < n → G l ≡ true → D l ≡ true
+    only_reached q G g le l i t =
+        let none = members_none n (λ l. G l && not (D l))
+        (omega (
+          arith,
+          short,
+          left_out_le n stands D Y shut q G g,
+          members_split n G D,
+          members_like n (λ l. D l && G l) (λ l. G l && D l) (λ l _. and_comm (G l) (D l)),
+        )) l i
+        in
+        grind arith
+
+  -- ---- where one is left, or not
+
+  pub stuck_largest : Stuck n stands p out → Largest n stands p out
+  stuck_largest s = largest_from n stands p out part (most s)
+
+  -- a chain that ends at r, which is free: a pairing that leaves one fewer out
+  larger : (l r : ℕ) → Reached n stands p out l → r < n → stands l r ≡ true
+      → some_below n (λ x. not (out x) && eqb (at p x) r) ≡ false
+      → (q : List ℕ) × (out' : ℕ → Bool) × Partial n stands q out'
+      × (members n out ≡ suc (members n out'))
+  larger l r w j t e =
+      let v = augmented l r w j t
+      (λ x k f s. both_ways _ e ((held_tells n stands p out r).1 (x, k, f, s))) in
+      (v.0, λ x. out x && not (eqb x v.1), v.4, members_without n out v.1 v.2 v.3)
+
+  pub largest_stuck : Largest n stands p out → Stuck n stands p out
+  largest_stuck h l r w j t =
+      elim (cases_Bool (some_below n (λ x. not (out x) && eqb (at p x) r))) [
+        | inl e ↦ (held_tells n stands p out r).0 e
+        | inr e ↦ let v = larger l r w j t e in
+            absurd (omega (arith, v.3, fewest n stands p out h v.0 v.1 v.2))
+      ]
+
+  -- some chain ends at a free right block, or none does
+  open_step : ℕ → ℕ → Bool
+  open_step l r = (D l && stands l r) && not (some_below n (λ x. not (out x) && eqb (at p x) r))
+
+  better_or_stuck : ((q : List ℕ) × (out' : ℕ → Bool) × Partial n stands q out'
+      × (members n out ≡ suc (members n out'))) ⊎ Stuck n stands p out
+  unfolding open_step
+  better_or_stuck = elim (cases_Bool (some_below n (λ l. some_below n (open_step l)))) [
+    | inl e ↦
+        let w = (some_tells n (λ l. some_below n (open_step l))).0 e in
+        let v = (some_tells n (open_step w.0)).0 w.2 in
+        let a = and_parts (D w.0 && stands w.0 v.0) _ v.2 in
+        let b = and_parts (D w.0) (stands w.0 v.0) a.0 in
+        inl (larger w.0 v.0 (in_reached w.0 w.1 b.0) v.1 b.1 (not-true _ a.1))
+    | inr e ↦ inr (λ l r w j t. elim
+        (cases_Bool (some_below n (λ x. not (out x) && eqb (at p x) r))) [
+          | inl h ↦ (held_tells n stands p out r).0 h
+          | inr h ↦
+              let step = and_from _ _ (and_from _ _ (reached_in l w) t) (not_from_false _ h) in
+              let some = (some_tells n (open_step l)).1 (r, j, step) in
+              absurd (both_ways _ e ((some_tells n (λ l. some_below n (open_step l))).1
+              (l, reached_inside n stands p out l w, some)))
+        ])
+  ]
+
+-- ---- the theorems
+
+module _ (n : ℕ) (stands : ℕ → ℕ → Bool) where
   -- augment as long as it goes
   enlarge : (k : ℕ) (p : List ℕ) (out : ℕ → Bool) → Partial n stands p out → members n out < k
       → (q : List ℕ) × (out' : ℕ → Bool) × Largest n stands q out'
   enlarge zero p out part low = absurd (omega arith)
-  enlarge (suc k) p out part low =
-      elim (cases_Bool (some_below n (λ l. some_below n (open_step p out part l)))) [
-        | inl e ↦ let w = better p out part e in enlarge k w.0 w.1 w.2 (omega (arith, w.3))
-        | inr e ↦ (p, out, stuck_largest p out part (no_better p out part e))
-      ]
+  enlarge (suc k) p out part low = elim (better_or_stuck n stands p out part) [
+    | inl w ↦ enlarge k w.0 w.1 w.2 (omega (arith, w.3))
+    | inr s ↦ (p, out, stuck_largest n stands p out part s)
+  ]
 
   -- nothing paired
   nothing : Partial n stands (replicate n 0) (λ _. true)
@@ -447,70 +421,65 @@ module _ (n : ℕ) (stands : ℕ → ℕ → Bool) where
   largest_exists = enlarge (suc (members n (λ _. true))) (replicate n 0) (λ _. true) nothing
       (omega arith)
 
-  module _ (p : List ℕ) (out : ℕ → Bool) (h : Largest n stands p out) where
-    crowd_in : (l : ℕ) → IsInCrowd n stands l → D p out h.part l ≡ true
-    crowd_in l w =
-        only_reached n stands p out h.part (D p out h.part) (rank p out h.part) (is p out h.part)
-        (largest_held p out h.part h) w.pairing w.out w.largest.part
-        (fewest w.pairing w.out w.largest p out h.part) l w.inside w.left_out
+module _ (n : ℕ) (stands : ℕ → ℕ → Bool) (p : List ℕ) (out : ℕ → Bool)
+    (h : Largest n stands p out) where
+  stuck : Stuck n stands p out
+  stuck = largest_stuck n stands p out h.part h
 
-    in_crowd : (l : ℕ) → l < n → D p out h.part l ≡ true → IsInCrowd n stands l
-    in_crowd l i d =
-        let w = loosen n stands p out h.part (D p out h.part) (rank p out h.part) (is p out h.part)
-        l i d in
-        record {
-          pairing = w.0;
-          out = w.1;
-          largest =
-              largest_from w.0 w.1 w.2 (λ q G g. omega (arith, w.3, fewest p out h q G g));
-          inside =
-              i;
-          left_out = w.4;
-        }
+  crowd_in : (l : ℕ) → IsInCrowd n stands l → D n stands p out h.part l ≡ true
+  crowd_in l w = only_reached n stands p out h.part stuck w.pairing w.out w.largest.part
+      (fewest n stands w.pairing w.out w.largest p out h.part) l w.inside w.left_out
 
-    pub reached_crowd : (l : ℕ) → Reached n stands p out l ↔ IsInCrowd n stands l
-    reached_crowd l = (
-      λ w. in_crowd l (reached_inside n stands p out l w)
-          (reached_in n stands p out h.part (D p out h.part) (rank p out h.part) (is p out h.part) l
-          w),
-      λ w. in_reached n stands p out h.part (D p out h.part) (rank p out h.part) (is p out h.part) l
-          w.inside (crowd_in l w),
+  in_crowd : (l : ℕ) → l < n → D n stands p out h.part l ≡ true → IsInCrowd n stands l
+  in_crowd l i d =
+      let w = loosen n stands p out h.part l i d in
+      record {
+        pairing = w.0;
+        out = w.1;
+        largest = largest_from n stands w.0 w.1 w.2
+            (λ q G g. omega (arith, w.3, fewest n stands p out h q G g));
+        inside = i;
+        left_out = w.4;
+      }
+
+  pub reached_crowd : (l : ℕ) → Reached n stands p out l ↔ IsInCrowd n stands l
+  reached_crowd l = (
+    λ w. in_crowd l (reached_inside n stands p out l w) (reached_in n stands p out h.part l w),
+    λ w. in_reached n stands p out h.part l w.inside (crowd_in l w),
+  )
+
+  module _ (X : ℕ → Bool) (crowd : CrowdSet n stands X) where
+    reached : ℕ → Bool
+    reached = D n stands p out h.part
+
+    X_is : (l : ℕ) → l < n → X l ≡ reached l
+    unfolding reached
+    X_is l i = same_from_decides (X l) (reached l) (crowd l) (in_crowd l i, crowd_in l)
+
+    around_is : (r : ℕ) → r < n → around n stands X r ≡ around n stands reached r
+    around_is r j = same_from_decides (around n stands X r) (around n stands reached r)
+        (around_tells n stands X r)
+        (Decides-like _ (λ w. (w.0, w.1, X_is w.0 w.1 ∙ w.2, w.3))
+        (λ w. (w.0, w.1, sym (X_is w.0 w.1) ∙ w.2, w.3)) (around_tells n stands reached r))
+
+    crowd_short : members n X ≡ members n (around n stands X) + members n out
+    unfolding Y reached
+    crowd_short = omega (
+      arith,
+      short n stands p out h.part stuck,
+      members_like n reached X X_is,
+      members_like n (around n stands reached) (around n stands X) around_is,
     )
 
-    module _ (X : ℕ → Bool) (crowd : CrowdSet n stands X) where
-      X_is : (l : ℕ) → l < n → X l ≡ D p out h.part l
-      X_is l i = same_from_decides (X l) (D p out h.part l) (crowd l) (in_crowd l i, crowd_in l)
-
-      around_is : (r : ℕ) → r < n → around n stands X r ≡ around n stands (D p out h.part) r
-      around_is r j = same_from_decides (around n stands X r) (around n stands (D p out h.part) r)
-          (around_tells n stands X r)
-          (Decides-like _ (λ w. (w.0, w.1, X_is w.0 w.1 ∙ w.2, w.3))
-          (λ w. (w.0, w.1, sym (X_is w.0 w.1) ∙ w.2, w.3))
-          (around_tells n stands (D p out h.part) r))
-
-      pub crowd_short : members n X ≡ members n (around n stands X) + members n out
-      unfolding Y
-      crowd_short =
-          let s = short n stands p out h.part (D p out h.part) (rank p out h.part) (is p out h.part)
-          (largest_held p out h.part h) in
-          omega (
-            arith,
-            s,
-            members_like n (D p out h.part) X X_is,
-            members_like n
-                (around n stands (D p out h.part)) (around n stands X) around_is,
-          )
-
-      none_out : members n out ≡ 0 ↔ ((q : List ℕ) × Perfect n stands q)
-      none_out = (
-        λ z. (p, partial_perfect n stands p out h.part (members_none n out z)),
-        λ w. omega (
-          arith,
-          members_no n,
-          fewest p out h w.0 (λ _. false)
-              (perfect_partial n stands w.0 w.1),
-        ),
-      )
+  none_out : members n out ≡ 0 ↔ ((q : List ℕ) × Perfect n stands q)
+  none_out = (
+    λ z. (p, partial_perfect n stands p out h.part (members_none n out z)),
+    λ w. omega (
+      arith,
+      members_no n,
+      fewest n stands p out h w.0 (λ _. false) (perfect_partial n stands w.0 w.1),
+    ),
+  )
 
 pub largest_if_stuck : LargestIfStuck
 largest_if_stuck = record {
@@ -527,12 +496,11 @@ enough : (n : ℕ) (stands : ℕ → ℕ → Bool)
 unfolding Y
 enough n stands all =
     let w = largest_exists n stands in
-    let h = w.2 in
-    let s = short n stands w.0 w.1 h.part (D n stands w.0 w.1 h.part) (rank n stands w.0 w.1 h.part)
-    (is n stands w.0 w.1 h.part) (largest_held n stands w.0 w.1 h.part h) in (
+    let part = w.2.part in
+    let s = short n stands w.0 w.1 part (stuck n stands w.0 w.1 w.2) in (
       w.0,
-      partial_perfect n stands w.0 w.1 h.part
-          (members_none n w.1 (omega (arith, s, all (D n stands w.0 w.1 h.part)))),
+      partial_perfect n stands w.0 w.1 part
+          (members_none n w.1 (omega (arith, s, all (D n stands w.0 w.1 part)))),
     )
 
 pub hall : (many few : ℕ) → Hall many few (leb many few)
@@ -546,4 +514,4 @@ hall many few = record {
 pub short_by : ShortBy
 short_by n stands p out X h crowd =
     let s = crowd_short n stands p out h X crowd in
-    (omega (arith, s), s, none_out n stands p out h X crowd)
+    (omega (arith, s), s, none_out n stands p out h)

@@ -6,9 +6,10 @@
 -- pairing costs the same exactly if none of its pairs exceeds its prices, that is, if it is tight.
 -- Greatest prices: each of two such systems is at least the other, so their right prices weigh the
 -- same, and are the same.
-use Rattle.std.proofs.Common.{◌≡◌, ℕ, ◌<◌, true, List, length, ℤ, ◌+ℤ◌, ◌-ℤ◌, ◌≤ℤ◌}
+use Rattle.std.proofs.Common.{◌≡◌, ℕ, ◌+◌, ◌*◌, ◌<◌, true, List, length, ℤ, ◌+ℤ◌, ◌-ℤ◌, ◌≤ℤ◌}
 use Rattle.std.proofs.Common.{sym, ap, ◌∙◌, arith}
 use Rattle.std.proofs.lemmas.Int.{ints}
+use Rattle.cost.specs.declared.TheConstants.{RAIL}
 use Rattle.cost.specs.Columns.{minus}
 use Rattle.cost.proofs.Exact.{minus-within, within_more, length-columnwise}
 use Rattle.cost.specs.Weights.{weight}
@@ -130,8 +131,8 @@ module _ (g : Grid) (s : Sane g) (left right : ℕ → List ℤ) (p : List ℕ) 
       length-columnwise ◌-ℤ◌ (g.cost l r) (right r) (c.sized ∙ sym w.sized) ∙ c.sized in
       same_from (left l) (minus (g.cost l r) (right r)) (a.sized ∙ sym sized)
       (value_light g.columns (left l) a)
-      (within_more 2000000000000000 4000000000000000000 (minus (g.cost l r) (right r)) (omega arith)
-      (minus-within 1000000000000000 1000000000000000 (g.cost l r) (right r) c.on_rail w.on_rail))
+      (within_more (RAIL + RAIL) (4000 * RAIL) (minus (g.cost l r) (right r)) (omega arith)
+      (minus-within RAIL RAIL (g.cost l r) (right r) c.on_rail w.on_rail))
       (omega (arith, ints))
 
 module _ (g : Grid) (s : Sane g) (left right left' right' : ℕ → List ℤ) (p q : List ℕ)

@@ -4,6 +4,7 @@
 -- the grids can change places. Their sizes and columns are taken as the very same first.
 use Rattle.std.proofs.Common.{◌≡◌, ℕ, zero, suc, ◌<◌, ◌≤◌, Bool, true, List, length, ℤ, sym}
 use Rattle.std.proofs.Common.{refl, ap, ◌∙◌, subst, ap₂, ltb, ◌&&◌, arith}
+use Rattle.cost.specs.declared.TheConstants.{COST_LIMIT}
 use Rattle.cost.specs.Columns.{Within, plus}
 use Rattle.pairing.specs.Grid.{Grid, Sane, at, PerfectIn, total_of, total, Upto, Optimum}
 use Rattle.pairing.specs.Prices.{Valid, Greatest}
@@ -38,7 +39,7 @@ module _ (n columns : ℕ) (s t : ℕ → ℕ → Bool) (c d : ℕ → ℕ → L
     sized = λ l r i j k. let u = e l r i j ∙ k in
         subst (λ xs. length xs ≡ columns) (f l r i j u) (h.sized l r i j u);
     small = λ l r i j k. let u = e l r i j ∙ k in
-        subst (Within 1000000000) (f l r i j u) (h.small l r i j u);
+        subst (Within COST_LIMIT) (f l r i j u) (h.small l r i j u);
   }
 
   costs_like : (p : List ℕ) → PerfectIn from p → (k : ℕ) → k ≤ n

@@ -9,6 +9,8 @@ use Rattle.std.specs.Ordering.{is_eq}
 use Rattle.std.specs.Cmp.{Equal-is}
 use Rattle.std.proofs.lemmas.Bool.{and_parts, or_cases, eqb-true, leb-true, ltb-true, both_ways}
 use Rattle.std.proofs.lemmas.Bool.{true≢false, not-true}
+use Rattle.blockset.specs.declared.TheConstants.{MOST_BLOCKS}
+use Rattle.cost.specs.declared.TheConstants.{RAIL, COST_LIMIT}
 use Rattle.cost.specs.Columns.{within, zeros, plus, lex}
 use Rattle.cost.proofs.Exact.{within_tells}
 use Rattle.cost.proofs.Order.{lex_same}
@@ -43,26 +45,26 @@ level_same xs ys e =
 -- ---- a sane grid
 abbrev sane_pair : Grid → ℕ → ℕ → Bool
 sane_pair g l r =
-    implies (g.stands l r) (eqb (length (g.cost l r)) g.columns && within 1000000000 (g.cost l r))
+    implies (g.stands l r) (eqb (length (g.cost l r)) g.columns && within COST_LIMIT (g.cost l r))
 
 abbrev pub sane : Grid → Bool
-sane g = leb g.size 64 && all_below g.size (λ l. all_below g.size (sane_pair g l))
+sane g = leb g.size MOST_BLOCKS && all_below g.size (λ l. all_below g.size (sane_pair g l))
 
 pub sane_is : (g : Grid) → sane g ≡ true → Sane g
 sane_is g e =
-    let b = and_parts (leb g.size 64) (all_below g.size (λ l. all_below g.size (sane_pair g l))) e
-    in
+    let b = and_parts (leb g.size MOST_BLOCKS)
+    (all_below g.size (λ l. all_below g.size (sane_pair g l))) e in
     record {
-      few = leb-true g.size 64 b.0;
+      few = leb-true g.size MOST_BLOCKS b.0;
       sized = λ l r i j t. eqb-true (length (g.cost l r)) g.columns (each b.1 l r i j t).0;
-      small = λ l r i j t. (within_tells 1000000000 (g.cost l r)).0 (each b.1 l r i j t).1;
+      small = λ l r i j t. (within_tells COST_LIMIT (g.cost l r)).0 (each b.1 l r i j t).1;
     }
   where
     each : all_below g.size (λ l. all_below g.size (sane_pair g l)) ≡ true → (l r : ℕ) → l < g.size
         → r < g.size → g.stands l r ≡ true
-        → (eqb (length (g.cost l r)) g.columns ≡ true) × (within 1000000000 (g.cost l r) ≡ true)
+        → (eqb (length (g.cost l r)) g.columns ≡ true) × (within COST_LIMIT (g.cost l r) ≡ true)
     each e l r i j t =
-        and_parts (eqb (length (g.cost l r)) g.columns) (within 1000000000 (g.cost l r))
+        and_parts (eqb (length (g.cost l r)) g.columns) (within COST_LIMIT (g.cost l r))
         (implied (g.stands l r) _
         (passes g.size (sane_pair g l)
         (passes g.size (λ l. all_below g.size (sane_pair g l)) e l i) r j) t)
@@ -70,15 +72,15 @@ sane_is g e =
 -- ---- the greatest prices
 module _ (g : Grid) (left right : ℕ → List ℤ) (p : List ℕ) (rank : List ℕ) where
   abbrev value : List ℤ → Bool
-  value xs = eqb (length xs) g.columns && within 1000000000000000 xs
+  value xs = eqb (length xs) g.columns && within RAIL xs
 
   value_is : (xs : List ℤ) → value xs ≡ true → Value g.columns xs
   value_is xs e =
-      let b = and_parts (eqb (length xs) g.columns) (within 1000000000000000 xs) e in
+      let b = and_parts (eqb (length xs) g.columns) (within RAIL xs) e in
       record {
         sized = eqb-true (length xs) g.columns b.0;
         on_rail =
-            (within_tells 1000000000000000 xs).0 b.1;
+            (within_tells RAIL xs).0 b.1;
       }
 
   abbrev under_test : ℕ → ℕ → Bool

@@ -7,6 +7,7 @@ use Rattle.std.proofs.Common.{◌≡◌, ℕ, zero, suc, ◌+◌, ◌*◌, ◌<�
 use Rattle.std.proofs.Common.{◌+ℤ◌, ◌≤ℤ◌, sym, ap, ◌∙◌, arith}
 use Rattle.std.proofs.lemmas.Int.{ints}
 use Rattle.std.proofs.lemmas.List.{length-replicate}
+use Rattle.cost.specs.declared.TheConstants.{RAIL, COST_LIMIT}
 use Rattle.cost.specs.Columns.{Within, zeros, plus}
 use Rattle.cost.proofs.Exact.{plus-within, zeros_within, within_more, length-columnwise}
 use Rattle.cost.specs.Weights.{weight, IsLight}
@@ -16,7 +17,7 @@ use Rattle.pairing.specs.Prices.{Value, TightPair}
 use Rattle.pairing.proofs.Sums.{sum_z}
 
 pub value_light : (columns : ℕ) (xs : List ℤ) → Value columns xs → IsLight xs
-value_light columns xs v = within_more 1000000000000000 4000000000000000000 xs (omega arith)
+value_light columns xs v = within_more RAIL (4000 * RAIL) xs (omega arith)
     v.on_rail
 
 pub zeros_sized : (columns : ℕ) → length (zeros columns) ≡ columns
@@ -43,15 +44,15 @@ module _ (columns : ℕ) (xs ys : List ℤ) (v : Value columns xs) (w : Value co
   plus_sized = length-columnwise ◌+ℤ◌ xs ys (v.sized ∙ sym w.sized) ∙ v.sized
 
   plus_light : IsLight (plus xs ys)
-  plus_light = within_more 2000000000000000 4000000000000000000 (plus xs ys) (omega arith)
-      (plus-within 1000000000000000 1000000000000000 xs ys v.on_rail w.on_rail)
+  plus_light = within_more (RAIL + RAIL) (4000 * RAIL) (plus xs ys) (omega arith)
+      (plus-within RAIL RAIL xs ys v.on_rail w.on_rail)
 
 pub value_low : (columns : ℕ) (xs : List ℤ) → Value columns xs → Upto xs (zeros columns)
     → weight xs ≤ℤ pos 0
 value_low columns xs v u =
     let e = weight_zeros columns in
     let h = value_upto columns xs (zeros columns) v
-    (record { sized = zeros_sized columns; on_rail = zeros_within 1000000000000000 columns }) u
+    (record { sized = zeros_sized columns; on_rail = zeros_within RAIL columns }) u
     in
     omega (arith, ints)
 
@@ -62,7 +63,7 @@ module _ (g : Grid) (s : Sane g) where
   cost_value l r i j t =
       record {
         sized = s.sized l r i j t;
-        on_rail = within_more 1000000000 1000000000000000
+        on_rail = within_more COST_LIMIT RAIL
             (g.cost l r) (omega arith) (s.small l r i j t);
       }
 
@@ -76,12 +77,12 @@ module _ (g : Grid) (s : Sane g) where
         length-columnwise ◌+ℤ◌ (total_of g p k) (g.cost k (at p k)) (ih ∙ sym c) ∙ ih
 
     -- the costs of the first k pairs together are within k times the limit of one
-    pub total-within : (k : ℕ) → k ≤ g.size → Within (k * 1000000000) (total_of g p k)
+    pub total-within : (k : ℕ) → k ≤ g.size → Within (k * COST_LIMIT) (total_of g p k)
     total-within zero b = zeros_within 0 g.columns
     total-within (suc k) b =
-        within_more (k * 1000000000 + 1000000000) (suc k * 1000000000) (total_of g p (suc k))
+        within_more (k * COST_LIMIT + COST_LIMIT) (suc k * COST_LIMIT) (total_of g p (suc k))
         (omega arith)
-        (plus-within (k * 1000000000) 1000000000 (total_of g p k) (g.cost k (at p k))
+        (plus-within (k * COST_LIMIT) COST_LIMIT (total_of g p k) (g.cost k (at p k))
         (total-within k (omega arith))
         (s.small k (at p k) (omega arith) (h.below k (omega arith)) (h.standing k (omega arith))))
 
@@ -99,7 +100,7 @@ module _ (g : Grid) (s : Sane g) where
     pub total_value : Value g.columns (total g p)
     total_value = record {
       sized = total_sized g.size (omega arith);
-      on_rail = within_more (g.size * 1000000000) 1000000000000000 (total g p)
+      on_rail = within_more (g.size * COST_LIMIT) RAIL (total g p)
           (omega (arith, s.few)) (total-within g.size (omega arith));
     }
 

@@ -2,6 +2,7 @@
 use Rattle.std.proofs.Common.{◌/◌, ◌^◌, ◌&&◌, eqb, sym, ap, ◌∙◌, arith}
 use lib.Bits.{and_mask}
 use Rattle.std.proofs.lemmas.Bool.{le-ltb}
+use Rattle.blockset.specs.declared.TheConstants.{SET_WIDTH}
 use Rattle.blockset.specs.Sets.{bit}
 use Rattle.blockset.specs.Has.{has}
 use Rattle.blockset.proofs.Bits.{bit_is}
@@ -17,5 +18,5 @@ returns-then-block-lt-SET_WIDTH c =
 pub returns-else-block-lt-SET_WIDTH : goal.returns-else-block-lt-SET_WIDTH
 unfolding has
 returns-else-block-lt-SET_WIDTH c =
-    let e = le-ltb c.args.block 64 c.if-block-lt-SET_WIDTH.false in
+    let e = le-ltb c.args.block SET_WIDTH c.if-block-lt-SET_WIDTH.false in
     e ∙ sym (ap (λ b. b && bit c.args.self.0 c.args.block) e)

@@ -1,5 +1,6 @@
 -- The operation on numbers works bit by bit.
 use Rattle.std.proofs.Common.{ltb, ◌∙◌, arith}
+use Rattle.blockset.specs.declared.TheConstants.{SET_WIDTH}
 use Rattle.blockset.specs.Sets.{bit}
 use Rattle.blockset.specs.Has.{has}
 use Rattle.blockset.proofs.Holding.{bits_without, and_less}
@@ -10,4 +11,4 @@ unfolding has
 returns c j =
     let a = c.args.self.0 in
     let b = c.args.other.0 in
-    bits_without a b j (omega arith) ∙ and_less (ltb j 64) (bit a j) (bit b j)
+    bits_without a b j (omega arith) ∙ and_less (ltb j SET_WIDTH) (bit a j) (bit b j)

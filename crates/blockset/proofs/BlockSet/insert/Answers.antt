@@ -4,6 +4,7 @@ use Rattle.std.proofs.Common.{◌^◌, ◌&&◌, ◌||◌, eqb, ltb, ap, ◌∙�
 use Rattle.std.proofs.Math.Bool.{or_comm, and-or_distrib_left}
 use lib.Bits.{bit_or}
 use Rattle.std.proofs.lemmas.Nat.{one_shl}
+use Rattle.blockset.specs.declared.TheConstants.{SET_WIDTH}
 use Rattle.blockset.specs.Sets.{bit}
 use Rattle.blockset.specs.Has.{has}
 use Rattle.blockset.proofs.Bits.{bit-or, bit-pow}
@@ -14,7 +15,8 @@ unfolding has
 returns-then-block-lt-SET_WIDTH c j =
     let a = c.args.self.now.0 in
     let i = c.args.block in
-    ap (λ m. ltb j 64 && bit (bit_or a m) j) (one_shl i 64 c.if-block-lt-SET_WIDTH.true)
-    ∙ ap (λ x. ltb j 64 && x) (bit-or a (2 ^ i) j ∙ ap (λ x. bit a j || x) (bit-pow i j)
+    ap (λ m. ltb j SET_WIDTH && bit (bit_or a m) j)
+    (one_shl i SET_WIDTH c.if-block-lt-SET_WIDTH.true)
+    ∙ ap (λ x. ltb j SET_WIDTH && x) (bit-or a (2 ^ i) j ∙ ap (λ x. bit a j || x) (bit-pow i j)
     ∙ or_comm (bit a j) (eqb j i))
-    ∙ and-or_distrib_left (ltb j 64) (eqb j i) (bit a j)
+    ∙ and-or_distrib_left (ltb j SET_WIDTH) (eqb j i) (bit a j)

@@ -1,6 +1,7 @@
 -- A number without bits is 0.
 use Rattle.std.proofs.Common.{sym, ap, ◌∙◌, arith}
 use Rattle.std.proofs.lemmas.Bool.{eqb-true, eq-eqb}
+use Rattle.blockset.specs.declared.TheConstants.{SET_WIDTH}
 use Rattle.blockset.specs.Sets.{bit}
 use Rattle.blockset.proofs.Bits.{none_set, bit-zero}
 use Rattle.blockset.proofs.Holding.{has-bit}
@@ -11,5 +12,5 @@ returns c =
     let s = c.args.self in (
       λ e j. has-bit s j (omega arith) ∙ ap (λ m. bit m j) (eqb-true s.0 0 e) ∙ bit-zero j,
       λ f. eq-eqb s.0 0
-          (none_set 64 s.0 (omega arith) (λ j. sym (has-bit s j (omega arith)) ∙ f j)),
+          (none_set SET_WIDTH s.0 (omega arith) (λ j. sym (has-bit s j (omega arith)) ∙ f j)),
     )

@@ -1,5 +1,6 @@
 -- The bits that are set are the members.
 use Rattle.std.proofs.Common.{sym, ◌∙◌, arith}
+use Rattle.blockset.specs.declared.TheConstants.{SET_WIDTH}
 use Rattle.blockset.specs.Sets.{bit}
 use Rattle.blockset.specs.Has.{has}
 use Rattle.blockset.proofs.Bits.{ones_members}
@@ -10,5 +11,5 @@ use Rattle.blockset.proofs.BlockSet.len.Goals as goal
 pub returns : goal.returns
 returns c =
     let s = c.args.self in
-    ones_members 64 s.0 (omega arith)
-    ∙ sym (members_like 64 (bit s.0) (has s) (λ j _. has-bit s j (omega arith)))
+    ones_members SET_WIDTH s.0 (omega arith)
+    ∙ sym (members_like SET_WIDTH (bit s.0) (has s) (λ j _. has-bit s j (omega arith)))

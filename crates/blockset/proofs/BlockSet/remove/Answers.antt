@@ -8,6 +8,7 @@ use lib.Pow.{pow-lt}
 use Rattle.std.proofs.lemmas.Nat.{one_shl}
 use Rattle.std.proofs.lemmas.Bool.{cases_Bool}
 use Rattle.std.proofs.lemmas.Bool.Decides.{nat_tests}
+use Rattle.blockset.specs.declared.TheConstants.{SET_WIDTH}
 use Rattle.blockset.specs.Sets.{bit}
 use Rattle.blockset.specs.Has.{has}
 use Rattle.blockset.specs.declared.BlockSet.{BlockSet}
@@ -20,15 +21,15 @@ unfolding has
 returns-then-block-lt-SET_WIDTH c j =
     let a = c.args.self.now.0 in
     let i = c.args.block in
-    ap (λ m. ltb j 64 && bit (bit_and a (18446744073709551615 - m)) j)
-    (one_shl i 64 c.if-block-lt-SET_WIDTH.true)
+    ap (λ m. ltb j SET_WIDTH && bit (bit_and a (2 ^ 64 - 1 - m)) j)
+    (one_shl i SET_WIDTH c.if-block-lt-SET_WIDTH.true)
     ∙ bits_without a (2 ^ i) j (pow-lt c.if-block-lt-SET_WIDTH.true)
-    ∙ ap (λ x. ltb j 64 && (bit a j && not x)) (bit-pow i j)
-    ∙ sym (and_assoc (ltb j 64) (bit a j) (not (eqb j i)))
+    ∙ ap (λ x. ltb j SET_WIDTH && (bit a j && not x)) (bit-pow i j)
+    ∙ sym (and_assoc (ltb j SET_WIDTH) (bit a j) (not (eqb j i)))
 
-no_block : (s : BlockSet) (i j : ℕ) → 64 ≤ i → has s j ≡ (has s j && not (eqb j i))
+no_block : (s : BlockSet) (i j : ℕ) → SET_WIDTH ≤ i → has s j ≡ (has s j && not (eqb j i))
 no_block s i j h = elim (cases_Bool (has s j)) [
-  | inl t ↦ let low : j < 64 = has_block s j t in let e : eqb j i ≡ false =
+  | inl t ↦ let low : j < SET_WIDTH = has_block s j t in let e : eqb j i ≡ false =
       grind (arith, nat_tests) in grind arith
   | inr f ↦ grind arith
 ]
