@@ -1,24 +1,25 @@
 -- A set of one block.
 -- Idea: its test is that of one number, so all is told by that number.
-use Rattle.std.proofs.Common.{◌≡◌, ℕ, ◌<◌, true, false, ◌&&◌, eqb, ltb, sym, refl, ap, ◌∙◌}
-use Rattle.std.proofs.Common.{inl, inr}
+use Rattle.std.proofs.Common.{◌≡◌, ℕ, ◌<◌, true, false, ◌&&◌, ◌==◌, nat_lt, sym, refl, ap, ◌∙◌, inl}
+use Rattle.std.proofs.Common.{inr}
 use Rattle.std.proofs.lemmas.Bool.{cases_eq, cases_Bool, both_ways, and_parts, and_from, lt-ltb}
 use Rattle.std.proofs.lemmas.Bool.{eqb-true, eq-eqb}
+use Rattle.blockset.specs.declared.TheConstants.{SET_WIDTH}
 use Rattle.blockset.specs.declared.BlockSet.{BlockSet}
 use Rattle.blockset.specs.Has.{has}
 use Rattle.matching.specs.Exchange.{without}
 use Rattle.matching.proofs.Exchanging.{without_itself, without_other}
 
 pub record IsAlone (s : BlockSet) (l : ℕ) : Type 0 where
-  pub small : l < 64
-  pub is : (j : ℕ) → has s j ≡ (ltb j 64 && eqb j l)
+  pub small : l < SET_WIDTH
+  pub is : (j : ℕ) → has s j ≡ (nat_lt j SET_WIDTH && j == l)
 
 module _ {s : BlockSet} {l : ℕ} (a : IsAlone s l) where
   pub one_in : has s l ≡ true
   one_in = a.is l ∙ and_from _ _ (lt-ltb l 64 a.small) (eq-eqb l l refl)
 
   pub one_is : (j : ℕ) → has s j ≡ true → j ≡ l
-  one_is j t = eqb-true j l (and_parts (ltb j 64) (eqb j l) (sym (a.is j) ∙ t)).1
+  one_is j t = eqb-true j l (and_parts (nat_lt j SET_WIDTH) (j == l) (sym (a.is j) ∙ t)).1
 
   pub one_not : (j : ℕ) → (j ≡ l → ⊥) → has s j ≡ false
   one_not j ne = elim (cases_Bool (has s j)) [ inl t ↦ absurd (ne (one_is j t)) | inr f ↦ f ]

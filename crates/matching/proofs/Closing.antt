@@ -4,8 +4,8 @@
 -- from i to m and on to j there are four ways, and in each of them the old closure at m, where m is
 -- not k, gives one of the two ways from i to j. When all right blocks had their round, each step of
 -- a chain is one more pair.
-use Rattle.std.proofs.Common.{◌≡◌, ℕ, ◌+◌, ◌<◌, ◌≤◌, Bool, true, ◌&&◌, ◌||◌, ◌⊎◌, List}
-use Rattle.std.proofs.Common.{ltb, Decides, sym, ap, ◌∙◌, subst, inl, inr, arith}
+use Rattle.std.proofs.Common.{◌≡◌, ℕ, ◌+◌, ◌<◌, ◌≤◌, Bool, true, ◌&&◌, ◌||◌, ◌⊎◌, List, nat_lt, ◌↔◌}
+use Rattle.std.proofs.Common.{IsTrue, sym, ap, ◌∙◌, subst, inl, inr, arith}
 use Rattle.std.proofs.lemmas.Bool.{cases_eq, and_parts, and_from, or_cases, or_left, or_right}
 use Rattle.std.proofs.lemmas.Bool.{lt-ltb}
 use Rattle.std.proofs.lemmas.Bool.{ltb-true}
@@ -29,13 +29,13 @@ pub record Closing (n : ℕ) (tight : ℕ → ℕ → Bool) (p : List ℕ) (k : 
 
 module _ {n : ℕ} {tight : ℕ → ℕ → Bool} {p : List ℕ} (h : Perfect n tight p) where
   pub closing_start : {leads : ℕ → ℕ → Bool}
-      → ((l c : ℕ) → l < n → leads (at p l) c ≡ (tight l c && ltb c n))
+      → ((l c : ℕ) → l < n → leads (at p l) c ≡ (tight l c && nat_lt c n))
       → Closing n tight p 0 leads
   closing_start {leads = leads} is = record {
     steps = λ l c i j t. is l c i ∙ and_from (tight l c) _ t (lt-ltb c n j);
     chains = λ i j low t.
         let o = onto n tight p h i low in
-        let both = and_parts (tight o.0 j) (ltb j n)
+        let both = and_parts (tight o.0 j) (nat_lt j n)
         (sym (is o.0 j o.1) ∙ ap (λ x. leads x j) o.2 ∙ t) in (
           ltb-true j n both.1,
           step o.0 j (omega arith) o.1 (subst (Chain n 0 tight p i) (sym o.2) here) both.0,
@@ -100,7 +100,7 @@ module _ {n : ℕ} {tight : ℕ → ℕ → Bool} {p : List ℕ} (h : Perfect n 
 
     -- at the end the pairs are just the chains from right blocks that are had
     pub closing_done : n ≤ k → (l c : ℕ) → l < n → c < n
-        → Decides (leads (at p l) c) (Chain n 0 tight p (at p l) c)
+        → (IsTrue (leads (at p l) c) ↔ (Chain n 0 tight p (at p l) c))
     closing_done all l c i j =
         (λ t. (s.chains (at p l) c (h.below l i) t).1, λ w. follow c w j)
       where

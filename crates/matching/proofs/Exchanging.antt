@@ -3,8 +3,8 @@
 -- take it: the state that the pairing crate calls a hole. A left block of `out` has rank 0, any
 -- other one more than the rank of its right block, so ranks fall along the chain and what comes
 -- later is still as it was. The holders tell of every right block but the free one.
-use Rattle.std.proofs.Common.{◌≡◌, ℕ, suc, ◌<◌, ◌≤◌, Bool, true, false, cond, ◌||◌, ◌⊎◌, List}
-use Rattle.std.proofs.Common.{length, set, sym, refl, ap, ◌∙◌, subst, inl, inr, arith}
+use Rattle.std.proofs.Common.{◌≡◌, ℕ, suc, ◌<◌, ◌≤◌, Bool, true, false, if◌then◌else◌, ◌||◌, ◌⊎◌}
+use Rattle.std.proofs.Common.{List, length, slice_set, sym, refl, ap, ◌∙◌, subst, inl, inr, arith}
 use Rattle.std.proofs.lemmas.List.{get_or-set_same, get_or-set_other, length-set}
 use Rattle.std.proofs.lemmas.Bool.Decides.{nat_tests}
 use Rattle.std.proofs.lemmas.Bool.{cases_eq, cases_Bool, or_left, or_right, both_ways, cond-true}
@@ -33,7 +33,7 @@ module _ (p : List ℕ) (out : ℕ → Bool) (x : Reach) where
   passed l = out l || has x.reached (at p l)
 
   abbrev pub height : ℕ → ℕ
-  height l = cond (out l) 0 (suc (at x.rank (at p l)))
+  height l = if out l then 0 else suc (at x.rank (at p l))
 
   -- the pairing q with a hole at `block`, and what has changed in it since `goal` was reached
   pub record Exchanging (goal : ℕ) (q : List ℕ) (block : ℕ) : Type 0 where
@@ -61,7 +61,7 @@ module _ {p : List ℕ} {out : ℕ → Bool} {x : Reach} {goal block : ℕ} {q :
   taker = at x.from block
 
   abbrev given : List ℕ
-  given = set q taker block
+  given = slice_set q taker block
 
   height_out : (l : ℕ) → out l ≡ true → height p out x l ≡ 0
   height_out l t = cond-true (out l) 0 (suc (at x.rank (at p l))) t
@@ -134,7 +134,7 @@ module _ {p : List ℕ} {out : ℕ → Bool} {x : Reach} {goal block : ℕ} {q :
       (high : (c : ℕ) → has x.reached c ≡ true → k ≤ at x.from c) (wide : length p ≤ length h.owner)
     where
       abbrev told : Holders
-      told = record { held = h.held; owner = set h.owner block taker }
+      told = record { held = h.held; owner = slice_set h.owner block taker }
 
       row_here : (c : ℕ) → c ≡ block → at told.owner c ≡ taker
       row_here c e = ap (at told.owner) e

@@ -4,8 +4,9 @@
 -- chains. Since the step from the right block of a left block to any one of its row is a chain too,
 -- these are just the right blocks of its row that are in one class with its own: strongly connected
 -- with it.
-use Rattle.std.proofs.Common.{◌≡◌, ℕ, ◌+◌, ◌<◌, ◌≤◌, Bool, true, false, cond, ◌&&◌, ◌⊎◌, rules}
-use Rattle.std.proofs.Common.{List, length, Decides, sym, refl, ap, ◌∙◌, subst, inl, inr, arith}
+use Rattle.std.proofs.Common.{◌≡◌, ℕ, ◌+◌, ◌<◌, ◌≤◌, Bool, true, false, if◌then◌else◌, ◌&&◌, ◌⊎◌}
+use Rattle.std.proofs.Common.{rules, List, length, ◌↔◌, IsTrue, sym, refl, ap, ◌∙◌, subst, inl, inr}
+use Rattle.std.proofs.Common.{arith}
 use Rattle.std.proofs.Math.Bool.{and-false}
 use borrow.Rule.Slice.PartMut.{put_mid}
 use Rattle.std.proofs.lemmas.List.{places}
@@ -39,7 +40,7 @@ AreClasses n led classes = (i : ℕ) → i < n
 -- a class is noted
 pub classes_more : (n : ℕ) (led before after : List BlockSet) (class : ℕ → Bool)
     → IsClass n led class → AreClasses n led before
-    → ((i j : ℕ) → holds after i j ≡ cond (class i) (class j) (holds before i j))
+    → ((i j : ℕ) → holds after i j ≡ (if class i then class j else holds before i j))
     → AreClasses n led after
 classes_more n led before after class c old is i a = elim (cases_Bool (class i)) [
   | inl t ↦ inr (λ j b. is i j ∙ cond-true (class i) _ _ t ∙ c i j a b t)
@@ -54,10 +55,10 @@ module _ (rows : List BlockSet) {p : List ℕ} (h : Pairs rows p) (led : List Bl
   abbrev Leads : ℕ → ℕ → Type 0
   Leads i j = Chain (length rows) 0 (holds rows) p i j
 
-  tells : (i j : ℕ) → i < length rows → j < length rows → Decides (holds led i j) (Leads i j)
+  tells : (i j : ℕ) → i < length rows → j < length rows → IsTrue (holds led i j) ↔ Leads i j
   tells i j a b =
       let o = onto (length rows) (holds rows) p h i a in
-      subst (λ x. Decides (holds led x j) (Leads x j)) o.2 (leads o.0 j o.1 b)
+      subst (λ x. (IsTrue (holds led x j) ↔ Leads x j)) o.2 (leads o.0 j o.1 b)
 
   lead_on : (i m j : ℕ) → i < length rows → m < length rows → j < length rows
       → holds led i m ≡ true → holds led m j ≡ true → holds led i j ≡ true

@@ -4,13 +4,13 @@
 -- that can be. So no augmenting path is left and the pairing is largest; and the left blocks that
 -- were reached are the crowd set, which is short of as many right blocks as left blocks are left
 -- out: these are theorems of the pairing crate.
-use Rattle.std.proofs.Common.{◌≡◌, ℕ, zero, suc, ◌<◌, ◌≤◌, Bool, true, ◌&&◌, ◌||◌, ◌⊎◌}
-use Rattle.std.proofs.Common.{ltb, List, length, Decides, sym, refl, ap, ◌∙◌, subst, inl, inr}
-use Rattle.std.proofs.Common.{arith}
+use Rattle.std.proofs.Common.{◌≡◌, ℕ, zero, suc, ◌<◌, ◌≤◌, Bool, true, ◌&&◌, ◌||◌, ◌⊎◌, nat_lt}
+use Rattle.std.proofs.Common.{List, length, ◌↔◌, IsTrue, sym, refl, ap, ◌∙◌, subst, inl, inr, arith}
 use Rattle.std.proofs.lemmas.Bool.Decides.{Decides-at, Decides-like}
 use Rattle.std.proofs.lemmas.Bool.{cases_Bool, both_ways, and_parts, and_from, or_cases, or_left}
 use Rattle.std.proofs.lemmas.Bool.{or_right, lt-ltb, ltb-true, cond-true, cond-false}
 use mathlib.Core.Path.{fun_ext}
+use Rattle.blockset.specs.declared.TheConstants.{MOST_BLOCKS, SET_WIDTH}
 use Rattle.blockset.specs.declared.BlockSet.{BlockSet}
 use Rattle.blockset.specs.Has.{has, IsEmpty}
 use Rattle.blockset.specs.Sets.{members, bit}
@@ -24,21 +24,21 @@ use Rattle.matching.specs.declared.chains.Bounds.{Bounds}
 use Rattle.matching.specs.declared.chains.Holders.{Holders}
 use Rattle.matching.specs.declared.chains.Reach.{Reach}
 use Rattle.matching.specs.Exchange.{without, GivesDistinct, Holding, Exchanged}
-use Rattle.matching.specs.Search.{along, IsReach, IsComplete}
+use Rattle.matching.specs.Search.{is_along, IsReach, IsComplete}
 use Rattle.matching.proofs.Exchanging.{without_from}
 
 -- all right blocks below n are offered, and all are live
 pub record IsWide (n : ℕ) (b : Bounds) : Type 0 where
-  pub offer : (j : ℕ) → has b.offer j ≡ (ltb j 64 && ltb j n)
-  pub live : (j : ℕ) → has b.live j ≡ (ltb j 64 && ltb j n)
+  pub offer : (j : ℕ) → has b.offer j ≡ (nat_lt j SET_WIDTH && nat_lt j n)
+  pub live : (j : ℕ) → has b.live j ≡ (nat_lt j SET_WIDTH && nat_lt j n)
 
-along-holds : (rows : List BlockSet) (b : Bounds) (l c : ℕ) → along rows b l c ≡ true
+along-holds : (rows : List BlockSet) (b : Bounds) (l c : ℕ) → is_along rows b l c ≡ true
     → holds rows l c ≡ true
 along-holds rows b l c a = (and_parts (holds rows l c) _ a).0
 
 -- a pairing so far: over the rows, with `out` left out, and the holders are those of it
 pub record Pairing (rows : List BlockSet) (p : List ℕ) (out : BlockSet) (h : Holders) : Type 0 where
-  pub few : length rows ≤ 64
+  pub few : length rows ≤ MOST_BLOCKS
   pub part : Partial (length rows) (holds rows) p (has out)
   pub inside : (l : ℕ) → has out l ≡ true → l < length rows
   pub holders : Holding 0 p (has out) h
@@ -93,9 +93,9 @@ module _ {rows : List BlockSet} {p : List ℕ} {b : Bounds} {h : Holders} {x : R
     owner_below c t = omega (arith, s.holders.high c t, s.part.len)
 
     -- the search goes along every pair to a right block below n
-    wide_along : (l c : ℕ) → c < length rows → holds rows l c ≡ true → along rows b l c ≡ true
+    wide_along : (l c : ℕ) → c < length rows → holds rows l c ≡ true → is_along rows b l c ≡ true
     wide_along l c i y =
-        let in_both : (ltb c 64 && ltb c (length rows)) ≡ true =
+        let in_both : (nat_lt c SET_WIDTH && nat_lt c (length rows)) ≡ true =
         and_from _ _ (lt-ltb c 64 (omega (arith, s.few))) (lt-ltb c (length rows) i) in
         and_from (holds rows l c) _ y (elim (cases_Bool (has b.roots l)) [
           | inl t ↦ cond-true _ _ _ t ∙ wide.offer c ∙ in_both
@@ -116,7 +116,7 @@ module _ {rows : List BlockSet} {p : List ℕ} {b : Bounds} {h : Holders} {x : R
                 let whose : at h.owner (at p l) ≡ l =
                 s.part.once (at h.owner (at p l)) l (owner_below (at p l) had) i
                 (s.holders.inside (at p l) had) f (s.holders.owner (at p l) had) in
-                d.onward (at p l) c t had (subst (λ k. along rows b k c ≡ true) (sym whose) on)
+                d.onward (at p l) c t had (subst (λ k. is_along rows b k c ≡ true) (sym whose) on)
           ]
         ]
 
@@ -149,15 +149,16 @@ module _ {rows : List BlockSet} {p : List ℕ} {b : Bounds} {h : Holders} {x : R
     ]
 
     module _ (X : ℕ → Bool)
-        (is : (l : ℕ) → X l ≡ (has b.roots l || (ltb l (length p) && has x.reached (at p l)))) where
-      crowd_reached : (l : ℕ) → Decides (X l) (IsReached l)
+        (is : (l : ℕ) → X l
+        ≡ (has b.roots l || (nat_lt l (length p) && has x.reached (at p l)))) where
+      crowd_reached : (l : ℕ) → IsTrue (X l) ↔ IsReached l
       crowd_reached l = (
         λ t. elim (cases_Bool (has b.roots l)) [
           | inl o ↦ free l (s.inside l o) o
           | inr f ↦ elim (or_cases (has b.roots l) _ (sym (is l) ∙ t)) [
             | inl o ↦ absurd (both_ways (has b.roots l) f o)
             | inr a ↦
-                let both = and_parts (ltb l (length p)) (has x.reached (at p l)) a in
+                let both = and_parts (nat_lt l (length p)) (has x.reached (at p l)) a in
                 let c = at p l in
                 onward (at x.from c) l (from_reached (suc (at x.rank c)) c (omega arith) both.1)
                 (omega (arith, ltb-true l (length p) both.0, s.part.len)) f
@@ -173,7 +174,7 @@ module _ {rows : List BlockSet} {p : List ℕ} {b : Bounds} {h : Holders} {x : R
 
       -- so the crowd set and its shortage are known, where some left block is left out
       pub unpaired : (crowd short : ℕ) → ((l : ℕ) → bit crowd l ≡ X l)
-          → short ≡ members 64 (has b.roots) → (IsEmpty b.roots → ⊥)
+          → short ≡ members SET_WIDTH (has b.roots) → (IsEmpty b.roots → ⊥)
           → Unpaired (length rows) (holds rows) crowd short
       unpaired crowd short bits counted some =
           let crowd_set : CrowdSet (length rows) (holds rows) (bit crowd) = λ l.

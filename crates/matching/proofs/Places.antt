@@ -2,8 +2,8 @@
 -- Idea: the list holds just the pairings and ascends, so what comes later in order stands later.
 -- The first pairing has none before it, so it stands at place 0; between the places of a pairing
 -- and of the next one nothing can stand; and behind the last one nothing stands.
-use Rattle.std.proofs.Common.{◌≡◌, ℕ, ◌+◌, ◌<◌, ◌⊎◌, List, [], length, get_or, sym, refl, ◌∙◌}
-use Rattle.std.proofs.Common.{subst, inl, inr, arith}
+use Rattle.std.proofs.Common.{◌≡◌, ℕ, ◌+◌, ◌<◌, ◌⊎◌, List, [], length, slice_index_or, sym, refl}
+use Rattle.std.proofs.Common.{◌∙◌, subst, inl, inr, arith}
 use Rattle.std.proofs.lemmas.List.{get_or_default}
 use Rattle.std.proofs.lemmas.Bool.{cases_lt, cases_order}
 use Rattle.blockset.specs.declared.BlockSet.{BlockSet}
@@ -16,7 +16,7 @@ use Rattle.matching.proofs.Order.{IsNext}
 
 module _ (rows : List BlockSet) where
   abbrev there : ℕ → List ℕ
-  there i = get_or (pairings rows) i []
+  there i = slice_index_or (pairings rows) i []
 
   pairs_at : (i : ℕ) → i < length (pairings rows) → Pairs rows (there i)
   pairs_at i h =

@@ -3,10 +3,12 @@
 -- a left block that has a reached right block leads to a reached one already, unless that left
 -- block is pending; so when none is pending the search is complete. A right block that is reached
 -- gets the number of those before it as its rank, which is above the ranks of all of them.
-use Rattle.std.proofs.Common.{◌≡◌, ℕ, suc, ◌<◌, ◌≤◌, true, false, not, ◌&&◌, ◌||◌, eqb, ltb}
-use Rattle.std.proofs.Common.{◌⊎◌, Option, List, length, set, sym, ap, ◌∙◌, subst, inl, inr, arith}
+use Rattle.std.proofs.Common.{◌≡◌, ℕ, suc, ◌<◌, ◌≤◌, true, false, not, ◌&&◌, ◌||◌, ◌==◌, nat_lt}
+use Rattle.std.proofs.Common.{◌⊎◌, Option, List, length, slice_set, sym, ap, ◌∙◌, subst, inl, inr}
+use Rattle.std.proofs.Common.{arith}
 use Rattle.std.proofs.lemmas.List.{get_or-set_same, get_or-set_other, length-set}
 use Rattle.std.proofs.lemmas.Bool.{cases_eq, both_ways, and_from, and_parts, not_from_false, ne_eqb}
+use Rattle.blockset.specs.declared.TheConstants.{MOST_BLOCKS, SET_WIDTH}
 use Rattle.blockset.specs.declared.BlockSet.{BlockSet}
 use Rattle.blockset.specs.Has.{has, IsLeast}
 use Rattle.blockset.specs.Sets.{members}
@@ -15,40 +17,40 @@ use Rattle.pairing.specs.Grid.{at}
 use Rattle.matching.specs.declared.chains.Bounds.{Bounds}
 use Rattle.matching.specs.declared.chains.Holders.{Holders}
 use Rattle.matching.specs.declared.chains.Reach.{Reach}
-use Rattle.matching.specs.Search.{along, IsReach}
+use Rattle.matching.specs.Search.{is_along, IsReach}
 use Rattle.matching.proofs.Inserting.{inserted, new_in, old_in, old_from}
 
 -- where the search stands: what it has reached, and the left blocks that are still to be looked at
 pub record Searching (rows : List BlockSet) (b : Bounds) (h : Holders) (x : Reach)
     (pending : BlockSet) : Type 0 where
   pub ways : IsReach rows b h x
-  pub sized_from : length x.from ≡ 64
-  pub sized_rank : length x.rank ≡ 64
+  pub sized_from : length x.from ≡ SET_WIDTH
+  pub sized_rank : length x.rank ≡ SET_WIDTH
   pub inside : (l : ℕ) → has pending l ≡ true → l < length rows
   pub waiting : (l : ℕ) → has pending l ≡ true → (has b.roots l ≡ true)
       ⊎ ((d : ℕ) × (has x.reached d ≡ true) × (has h.held d ≡ true) × (at h.owner d ≡ l))
-  pub rooted : (l c : ℕ) → has b.roots l ≡ true → along rows b l c ≡ true
+  pub rooted : (l c : ℕ) → has b.roots l ≡ true → is_along rows b l c ≡ true
       → (has x.reached c ≡ true) ⊎ (has pending l ≡ true)
   pub onward : (d c : ℕ) → has x.reached d ≡ true → has h.held d ≡ true
-      → along rows b (at h.owner d) c ≡ true
+      → is_along rows b (at h.owner d) c ≡ true
       → (has x.reached c ≡ true) ⊎ (has pending (at h.owner d) ≡ true)
   pub no_goal : (c : ℕ) → has x.reached c ≡ true → has b.goals c ≡ false
 
 -- the left block l that is looked at leads to the right block c, which is reached next
 pub record Reaching (rows : List BlockSet) (b : Bounds) (x : Reach) (pending : BlockSet) (l c : ℕ)
     (reached : BlockSet) : Type 0 where
-  pub few : length rows ≤ 64
+  pub few : length rows ≤ MOST_BLOCKS
   pub waits : has pending l ≡ true
   pub inside : c < length rows
-  pub leads : along rows b l c ≡ true
+  pub leads : is_along rows b l c ≡ true
   pub new : has x.reached c ≡ false
-  pub is : (j : ℕ) → has reached j ≡ (eqb j c || has x.reached j)
+  pub is : (j : ℕ) → has reached j ≡ (j == c || has x.reached j)
 
 pub reaching : {rows : List BlockSet} {b : Bounds} {x : Reach} {pending : BlockSet} {l c : ℕ}
-    {reached : BlockSet} → length rows ≤ 64
-    → ((m d : ℕ) → along rows b m d ≡ true → d < length rows) → IsLeast pending l
-    → (c < 64) × (along rows b l c ≡ true) × (has x.reached c ≡ false)
-    → ((j : ℕ) → has reached j ≡ ((ltb j 64 && eqb j c) || has x.reached j))
+    {reached : BlockSet} → length rows ≤ MOST_BLOCKS
+    → ((m d : ℕ) → is_along rows b m d ≡ true → d < length rows) → IsLeast pending l
+    → (c < SET_WIDTH) × (is_along rows b l c ≡ true) × (has x.reached c ≡ false)
+    → ((j : ℕ) → has reached j ≡ ((nat_lt j SET_WIDTH && j == c) || has x.reached j))
     → Reaching rows b x pending l c reached
 reaching {x = x} {l = l} {c = c} {reached = reached} few inside least found put = record {
   few = few;
@@ -63,8 +65,8 @@ reaching {x = x} {l = l} {c = c} {reached = reached} few inside least found put 
 abbrev pub reached_next : Reach → (l c : ℕ) → BlockSet → Reach
 reached_next x l c reached = record {
   reached = reached;
-  from = set x.from c l;
-  rank = set x.rank c (members 64 (has x.reached));
+  from = slice_set x.from c l;
+  rank = slice_set x.rank c (members SET_WIDTH (has x.reached));
   goal = x.goal;
 }
 
@@ -72,8 +74,8 @@ module _ {rows : List BlockSet} {b : Bounds} {h : Holders} {x : Reach} {pending 
     (s : Searching rows b h x pending) where
   -- left block l leads to nothing new
   pub search_retired : (l : ℕ) (pending' : BlockSet)
-      → ((c : ℕ) → along rows b l c ≡ true → has x.reached c ≡ true)
-      → ((j : ℕ) → has pending' j ≡ (has pending j && not (eqb j l)))
+      → ((c : ℕ) → is_along rows b l c ≡ true → has x.reached c ≡ true)
+      → ((j : ℕ) → has pending' j ≡ (has pending j && not (j == l)))
       → Searching rows b h x pending'
   search_retired l pending' closed is = record {
     ways = s.ways;
@@ -87,13 +89,13 @@ module _ {rows : List BlockSet} {b : Bounds} {h : Holders} {x : Reach} {pending 
   }
     where
       was : (j : ℕ) → has pending' j ≡ true → has pending j ≡ true
-      was j t = (and_parts (has pending j) (not (eqb j l)) (sym (is j) ∙ t)).0
+      was j t = (and_parts (has pending j) (not (j == l)) (sym (is j) ∙ t)).0
 
-      leads : (j c : ℕ) → along rows b j c ≡ true
+      leads : (j c : ℕ) → is_along rows b j c ≡ true
           → (has x.reached c ≡ true) ⊎ (has pending j ≡ true)
           → (has x.reached c ≡ true) ⊎ (has pending' j ≡ true)
       leads j c a is_or = elim (cases_eq j l) [
-        | inl e ↦ inl (closed c (subst (λ m. along rows b m c ≡ true) e a))
+        | inl e ↦ inl (closed c (subst (λ m. is_along rows b m c ≡ true) e a))
         | inr ne ↦ elim is_or [
           | inl t ↦ inl t
           | inr t ↦
@@ -114,7 +116,7 @@ module _ {rows : List BlockSet} {b : Bounds} {h : Holders} {x : Reach} {pending 
     apart : (j : ℕ) → has x.reached j ≡ true → j ≡ c → ⊥
     apart j t e = both_ways (has x.reached j) (ap (has x.reached) e ∙ r.new) t
 
-    pub search_grown : members 64 (has reached) ≡ suc (members 64 (has x.reached))
+    pub search_grown : members SET_WIDTH (has reached) ≡ suc (members SET_WIDTH (has x.reached))
     search_grown = members_with 64 (has x.reached) (has reached) c (omega (arith, r.inside, r.few))
         r.new r.is
 
@@ -124,15 +126,16 @@ module _ {rows : List BlockSet} {b : Bounds} {h : Holders} {x : Reach} {pending 
     from_old : (j : ℕ) → (j ≡ c → ⊥) → at next.from j ≡ at x.from j
     from_old j ne = get_or-set_other x.from c j l 0 ne
 
-    rank_here : at next.rank c ≡ members 64 (has x.reached)
-    rank_here = get_or-set_same x.rank c (members 64 (has x.reached)) 0
+    rank_here : at next.rank c ≡ members SET_WIDTH (has x.reached)
+    rank_here = get_or-set_same x.rank c (members SET_WIDTH (has x.reached)) 0
         (omega (arith, s.sized_rank, r.inside, r.few))
 
     rank_old : (j : ℕ) → (j ≡ c → ⊥) → at next.rank j ≡ at x.rank j
-    rank_old j ne = get_or-set_other x.rank c j (members 64 (has x.reached)) 0 ne
+    rank_old j ne = get_or-set_other x.rank c j (members SET_WIDTH (has x.reached)) 0 ne
 
     -- one that was reached before has a lesser rank
-    rank_less : (j : ℕ) → has x.reached j ≡ true → at next.rank j < members 64 (has x.reached)
+    rank_less : (j : ℕ) → has x.reached j ≡ true
+        → at next.rank j < members SET_WIDTH (has x.reached)
     rank_less j t = omega (arith, rank_old j (apart j t), s.ways.ranked j t)
 
     Back : ℕ → ℕ → Type 0
@@ -140,7 +143,7 @@ module _ {rows : List BlockSet} {b : Bounds} {h : Holders} {x : Reach} {pending 
         ⊎ ((d : ℕ) × (has reached d ≡ true) × (has h.held d ≡ true) × (at h.owner d ≡ m)
         × (at next.rank d < k))
 
-    back_here : Back l (members 64 (has x.reached))
+    back_here : Back l (members SET_WIDTH (has x.reached))
     unfolding Back
     back_here = elim (s.waiting l r.waits) [
       | inl t ↦ inl t
@@ -194,7 +197,7 @@ module _ {rows : List BlockSet} {b : Bounds} {h : Holders} {x : Reach} {pending 
     }
 
     -- no more right blocks are reached than there are
-    pub search_least : members 64 (has reached) ≤ length rows
+    pub search_least : members SET_WIDTH (has reached) ≤ length rows
     search_least = omega (
       arith,
       members-within 64 (length rows) (has reached) r.few (search_ways x.goal).small,
@@ -211,7 +214,7 @@ module _ {rows : List BlockSet} {b : Bounds} {h : Holders} {x : Reach} {pending 
     search_more {pending' = pending'} free keeps add only = record {
       ways = search_ways x.goal;
       sized_from = length-set x.from c l ∙ s.sized_from;
-      sized_rank = length-set x.rank c (members 64 (has x.reached)) ∙ s.sized_rank;
+      sized_rank = length-set x.rank c (members SET_WIDTH (has x.reached)) ∙ s.sized_rank;
       inside = λ j t. elim (only j t) [ inl e ↦ s.inside j e | inr e ↦ e.2 ];
       waiting = λ j t. elim (only j t) [
         | inl e ↦ elim (s.waiting j e) [ inl f ↦ inl f | inr w ↦ inr (w.0, more w.0 w.1, w.2, w.3) ]

@@ -3,12 +3,13 @@
 -- their left blocks to one that is live. So a chain from a shut one never comes to the right block
 -- that l has, which is live; by the theorem on chains l cannot be sent there. Where a search comes
 -- to that right block, the exchange gives l the one right block that it was offered.
-use Rattle.std.proofs.Common.{◌≡◌, ℕ, ◌+◌, ◌<◌, ◌≤◌, Bool, true, false, not, ◌&&◌, ◌||◌, eqb, ltb}
-use Rattle.std.proofs.Common.{◌⊎◌, List, length, sym, refl, ap, ◌∙◌, subst, inl, inr, arith}
+use Rattle.std.proofs.Common.{◌≡◌, ℕ, ◌+◌, ◌<◌, ◌≤◌, Bool, true, false, not, ◌&&◌, ◌||◌, ◌==◌}
+use Rattle.std.proofs.Common.{nat_lt, ◌⊎◌, List, length, sym, refl, ap, ◌∙◌, subst, inl, inr, arith}
 use Rattle.std.proofs.lemmas.Bool.Decides.{nat_tests}
 use Rattle.std.proofs.lemmas.Bool.{cases_eq, cases_lt, cases_Bool, both_ways, and_parts, and_from}
 use Rattle.std.proofs.lemmas.Bool.{or_cases, or_left, or_right, not-true, not_from_false}
 use Rattle.std.proofs.lemmas.Bool.{cond-true, cond-false, ltb-false}
+use Rattle.blockset.specs.declared.TheConstants.{MOST_BLOCKS, SET_WIDTH}
 use Rattle.blockset.specs.declared.BlockSet.{BlockSet}
 use Rattle.blockset.specs.Has.{has, IsEmpty, IsLeast}
 use Rattle.blockset.specs.Sets.{members}
@@ -22,20 +23,20 @@ use Rattle.matching.specs.declared.chains.Holders.{Holders}
 use Rattle.matching.specs.declared.chains.Reach.{Reach}
 use Rattle.matching.specs.Exchange.{without, GivesDistinct, Holding, AreHoldersFrom, Ways}
 use Rattle.matching.specs.Exchange.{Exchanged}
-use Rattle.matching.specs.Search.{along, IsReach, IsComplete}
+use Rattle.matching.specs.Search.{is_along, IsReach, IsComplete}
 use Rattle.matching.specs.Improving.{IsImproved, IsUnimproved}
 use Rattle.matching.proofs.Alone.{IsAlone, one_in, one_is, one_not, one_other, none_left}
 use Rattle.matching.proofs.Held.{after_alone, all_back, ways_from}
 
 -- l's row, the right blocks that are live, and those below a floor
 abbrev pub candidate : (rows : List BlockSet) (l floor : ℕ) (live : BlockSet) → ℕ → Bool
-candidate rows l floor live c = (holds rows l c && has live c) && not (ltb c floor)
+candidate rows l floor live c = (holds rows l c && has live c) && not (nat_lt c floor)
 
 -- left block l is to be sent to a right block from floor on: what is kept while one after the other
 -- of the candidates is tried
 pub record Trying (rows : List BlockSet) (l floor : ℕ) (p : List ℕ) (h : Holders)
     (live candidates : BlockSet) : Type 0 where
-  pub few : length rows ≤ 64
+  pub few : length rows ≤ MOST_BLOCKS
   pub pairs : Pairs rows p
   pub room : l < length rows
   pub holders : AreHoldersFrom (l + 1) p h
@@ -55,9 +56,9 @@ pub record Sending (rows : List BlockSet) (l : ℕ) (p : List ℕ) (b : Bounds) 
 
 -- before the first search all right blocks of left blocks from l on are live
 pub trying_start : {rows : List BlockSet} {l floor : ℕ} {p : List ℕ} {h : Holders}
-    {live candidates : BlockSet} → length rows ≤ 64 → Pairs rows p → l < length rows
+    {live candidates : BlockSet} → length rows ≤ MOST_BLOCKS → Pairs rows p → l < length rows
     → AreHoldersFrom (l + 1) p h → (goals : BlockSet)
-    → ((j : ℕ) → has goals j ≡ (ltb j 64 && eqb j (at p l)))
+    → ((j : ℕ) → has goals j ≡ (nat_lt j SET_WIDTH && j == at p l))
     → ((j : ℕ) → has live j ≡ (has h.held j || has goals j))
     → ((j : ℕ) → has candidates j ≡ candidate rows l floor live j)
     → Trying rows l floor p h live candidates
@@ -117,7 +118,7 @@ module _ {rows : List BlockSet} {l floor : ℕ} {p : List ℕ} {h : Holders}
       ]))
       (not_from_false _ (high (at q l) up))
     where
-      high : (x : ℕ) → floor ≤ x → ltb x floor ≡ false
+      high : (x : ℕ) → floor ≤ x → nat_lt x floor ≡ false
       high x le = grind (arith, nat_tests)
 
   -- so no pairing has one below the least candidate
@@ -143,7 +144,7 @@ module _ {rows : List BlockSet} {l floor : ℕ} {p : List ℕ} {h : Holders}
   above : {r : ℕ} → IsLeast candidates r
       → (holds rows l r ≡ true) × (has live r ≡ true) × (floor ≤ r)
   above {r = r} first =
-      let a = and_parts (holds rows l r && has live r) (not (ltb r floor))
+      let a = and_parts (holds rows l r && has live r) (not (nat_lt r floor))
       (sym (t.left r) ∙ first.1) in
       let b = and_parts (holds rows l r) (has live r) a.0 in
       (b.0, b.1, ltb-false r floor (not-true _ a.1))
@@ -159,16 +160,16 @@ module _ {rows : List BlockSet} {l floor : ℕ} {p : List ℕ} {h : Holders}
   }
 
   pub sending : {r own : ℕ} {alone offer goals : BlockSet} → IsLeast candidates r → at p l ≡ own
-      → ((j : ℕ) → has alone j ≡ (ltb j 64 && eqb j l))
-      → ((j : ℕ) → has offer j ≡ (ltb j 64 && eqb j r))
-      → ((j : ℕ) → has goals j ≡ (ltb j 64 && eqb j own))
+      → ((j : ℕ) → has alone j ≡ (nat_lt j SET_WIDTH && j == l))
+      → ((j : ℕ) → has offer j ≡ (nat_lt j SET_WIDTH && j == r))
+      → ((j : ℕ) → has goals j ≡ (nat_lt j SET_WIDTH && j == own))
       → Sending rows l p (record { roots = alone; offer = offer; live = live; goals = goals }) r
   sending first e alone-is offer-is goals-are = record {
     roots = record { small = omega (arith, t.few, t.room); is = alone-is };
     offer = record { small = first.0; is = offer-is };
     goals = record {
       small = omega (arith, t.few, t.pairs.below l t.room);
-      is = λ j. goals-are j ∙ ap (λ x. ltb j 64 && eqb j x) (sym e);
+      is = λ j. goals-are j ∙ ap (λ x. nat_lt j SET_WIDTH && j == x) (sym e);
     };
     stands = (above first).0;
     live = (above first).1;
@@ -181,7 +182,7 @@ module _ {rows : List BlockSet} {l r floor : ℕ} {p : List ℕ} {b : Bounds} {h
   hold : Holding l p (has b.roots) h
   hold = after_alone f.roots t.holders
 
-  pub along_inside : (m c : ℕ) → along rows b m c ≡ true → c < length rows
+  pub along_inside : (m c : ℕ) → is_along rows b m c ≡ true → c < length rows
   along_inside m c a =
       let e = (and_parts (holds rows m c) _ a).1 in
       let v = t.within c (elim (cases_Bool (has b.roots m)) [
@@ -192,11 +193,11 @@ module _ {rows : List BlockSet} {l r floor : ℕ} {p : List ℕ} {b : Bounds} {h
 
   -- a pair of another left block to a live right block
   along_live : (m c : ℕ) → (m ≡ l → ⊥) → holds rows m c ≡ true → has b.live c ≡ true
-      → along rows b m c ≡ true
+      → is_along rows b m c ≡ true
   along_live m c ne x o =
       and_from (holds rows m c) _ x (cond-false _ _ _ (one_not f.roots m ne) ∙ o)
 
-  along_offer : along rows b l r ≡ true
+  along_offer : is_along rows b l r ≡ true
   along_offer = and_from (holds rows l r) _ f.stands
       (cond-true _ _ _ (one_in f.roots) ∙ one_in f.offer)
 
@@ -248,10 +249,12 @@ module _ {rows : List BlockSet} {l r floor : ℕ} {p : List ℕ} {b : Bounds} {h
           (ap (λ y. has x.reached (at p y)) e ∙ own-not d) seen in
           let had = hold.all m le (omega (arith, t.pairs.len)) (one_not f.roots m ne) in
           let whose : at h.owner (at p m) ≡ m =
-          t.pairs.once (at h.owner (at p m)) m (omega (arith, hold.high (at p m) had, t.pairs.len)) lt
+          t.pairs.once (at h.owner (at p m)) m
+          (omega (arith, hold.high (at p m) had, t.pairs.len)) lt
           (hold.owner (at p m) had) in
           d.onward (at p m) (at p k) seen had
-          (subst (λ j. along rows b j (at p k) ≡ true) (sym whose) (along_live m (at p k) ne ok o))
+          (subst (λ j. is_along rows b j (at p k) ≡ true) (sym whose)
+          (along_live m (at p k) ne ok o))
 
       pub trying_more : Trying rows l floor p h live' candidates'
       trying_more = record {
@@ -269,7 +272,7 @@ module _ {rows : List BlockSet} {l r floor : ℕ} {p : List ℕ} {b : Bounds} {h
             | inl y ↦ gone (at p k) (shut_on m k le lt z f' ok y)
           ]
         ];
-        left = λ j. narrowed (holds rows l j) (has b.live j) (not (ltb j floor))
+        left = λ j. narrowed (holds rows l j) (has b.live j) (not (nat_lt j floor))
             (has candidates j) (has x.reached j) (has live' j) (has candidates' j) (t.left j)
             (live-is j) (left j);
       }
@@ -280,7 +283,7 @@ module _ {rows : List BlockSet} {l r floor : ℕ} {p : List ℕ} {b : Bounds} {h
 
       -- and the candidate is none any more
       pub fewer : IsLeast candidates r
-          → members 64 (has candidates') < members 64 (has candidates)
+          → members SET_WIDTH (has candidates') < members SET_WIDTH (has candidates)
       fewer first =
           let out : has candidates' r ≡ false =
           (let e₁ = left r in
@@ -295,8 +298,8 @@ module _ {rows : List BlockSet} {l r floor : ℕ} {p : List ℕ} {b : Bounds} {h
       all = none_left f.roots paired e.was_out
 
       by : (m : ℕ) → has x.reached (at q m) ≡ true → at x.from (at q m) ≡ m
-          → along rows b m (at q m) ≡ true
-      by m y z = subst (λ k. along rows b k (at q m) ≡ true) z (w.by (at q m) y)
+          → is_along rows b m (at q m) ≡ true
+      by m y z = subst (λ k. is_along rows b k (at q m) ≡ true) z (w.by (at q m) y)
 
       came : (m : ℕ) → m < length rows → ((m ≡ paired → ⊥) × (at q m ≡ at p m))
           ⊎ ((has x.reached (at q m) ≡ true) × (at x.from (at q m) ≡ m))

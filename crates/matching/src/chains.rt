@@ -10,7 +10,7 @@ ghost use Rattle.pairing.specs.Grid.{at};
 ghost use Rattle.pairing.specs.Rows.{rights_in};
 ghost use Rattle.matching.specs.Exchange.{without, GivesDistinct, Holding, AreHoldersFrom, Ways};
 ghost use Rattle.matching.specs.Exchange.{Exchanged};
-ghost use Rattle.matching.specs.Search.{along, IsReach, HasEnded};
+ghost use Rattle.matching.specs.Search.{is_along, IsReach, HasEnded};
 
 use blockset::{BlockSet, SET_WIDTH};
 
@@ -96,11 +96,12 @@ pub struct Reach {
 fn fresh(rows: &[BlockSet], bounds: Bounds, reached: BlockSet, l: usize) -> Option<usize>
     requires { l < length rows.now }
     ensures none { IfNone result
-        ((c : ℕ) → along rows.now bounds l c ≡ true → has reached c ≡ true) }
+        ((c : ℕ) → is_along rows.now bounds l c ≡ true → has reached c ≡ true) }
     ensures new { IfSome result
-        (λ c. (c < SET_WIDTH) × (along rows.now bounds l c ≡ true) × (has reached c ≡ false)) }
+        (λ c. (c < SET_WIDTH) × (is_along rows.now bounds l c ≡ true) × (has reached c ≡ false)) }
     ensures goal { IfSome result (λ c. has bounds.goals c ≡ false → (d : ℕ)
-        → along rows.now bounds l d ≡ true → has reached d ≡ false → has bounds.goals d ≡ false) }
+        → is_along rows.now bounds l d ≡ true → has reached d ≡ false
+        → has bounds.goals d ≡ false) }
 {
     let may = if bounds.roots.contains(l) {
         bounds.offer
@@ -120,7 +121,7 @@ fn fresh(rows: &[BlockSet], bounds: Bounds, reached: BlockSet, l: usize) -> Opti
 pub fn search(rows: &[BlockSet], holders: &Holders, bounds: Bounds) -> Reach
     requires small { length rows.now ≤ MOST_BLOCKS }
     requires roots { (l : ℕ) → has bounds.roots l ≡ true → l < length rows.now }
-    requires inside { (l c : ℕ) → along rows.now bounds l c ≡ true → c < rights_in rows.now }
+    requires inside { (l c : ℕ) → is_along rows.now bounds l c ≡ true → c < rights_in rows.now }
     requires held { (c : ℕ) → has holders.now.held c ≡ true
         → at holders.now.owner c < length rows.now }
     ensures reached { IsReach rows.now bounds holders.now result }

@@ -58,8 +58,8 @@ fn lead_through(led: &mut [BlockSet; SET_WIDTH], n: usize, k: usize)
 }
 
 /// The right blocks that chains lead to from each right block: the transitive closure of the steps.
-/// Chains that pass no right block but the first k, between their ends, are known after k rounds; so
-/// after n rounds all are.
+/// Chains that pass no right block but the first k, between their ends, are known after k rounds,
+/// so after n rounds all are.
 fn leads(rows: &[BlockSet], p: &[u16]) -> [BlockSet; SET_WIDTH]
     requires small { length rows.now ≤ MOST_BLOCKS }
     requires pairs { Pairs rows.now p.now }

@@ -1,5 +1,5 @@
 -- Each round is one of proofs/Most.antt.
-use Rattle.std.proofs.Common.{◌≡◌, ℕ, Bool, true, false, not, ◌&&◌, eqb, sym, ◌∙◌, subst, arith}
+use Rattle.std.proofs.Common.{◌≡◌, ℕ, Bool, true, false, not, ◌&&◌, ◌==◌, sym, ◌∙◌, subst, arith}
 use Rattle.std.proofs.lemmas.Bool.{both_ways, and_parts, and_from, lt-ltb, eqb-false, eq-eqb}
 use Rattle.std.proofs.lemmas.Bool.{not-true}
 use Rattle.std.proofs.Common.{refl, length}
@@ -42,7 +42,7 @@ rounds-smaller c =
     (λ j t. (and_parts (has c.rounds.out j) _ (sym (c.remove.ensures j) ∙ t)).0)
     e.was_out (removed (has c.rounds.out) (has c.remove.new.self) l (c.remove.ensures l))
   where
-    removed : (C D : ℕ → Bool) (l : ℕ) → D l ≡ (C l && not (eqb l l)) → D l ≡ false
+    removed : (C D : ℕ → Bool) (l : ℕ) → D l ≡ (C l && not (l == l)) → D l ≡ false
     removed C D l e = (let s = eq-eqb l l refl in grind arith)
 
 pub rounds-preserved : goal.rounds-preserved
@@ -53,7 +53,7 @@ rounds-preserved c =
       pairing = paired_more c.search-reach.ensures.reached i.pairing e.exchanged c.remove.ensures
           (e.told 0 (λ j t. omega arith) i.pairing.holders);
       kept = λ j b t.
-          let was = and_parts (has c.rounds.out j) (not (eqb j c.exchange-l.result))
+          let was = and_parts (has c.rounds.out j) (not (j == c.exchange-l.result))
           (sym (c.remove.ensures j) ∙ t) in
           e.exchanged.kept j (omega (arith, i.pairing.part.len)) was.0
           (eqb-false j c.exchange-l.result (not-true _ was.1)) ∙ i.kept j b was.0;

@@ -1,6 +1,7 @@
 -- The pairs so far, which leave `out` out, and who holds their right blocks; every round but the
 -- last pairs one left block more.
 use Rattle.std.proofs.Common.{◌≡◌, ℕ, ◌<◌, true, length}
+use Rattle.blockset.specs.declared.TheConstants.{SET_WIDTH}
 use Rattle.blockset.specs.Has.{has}
 use Rattle.blockset.specs.Sets.{members}
 use Rattle.pairing.specs.Grid.{at}
@@ -14,4 +15,4 @@ invariant-rounds l = record {
 }
 
 abbrev pub decreases-rounds : goal.decreases-rounds
-decreases-rounds l = members 64 (has l.out)
+decreases-rounds l = members SET_WIDTH (has l.out)

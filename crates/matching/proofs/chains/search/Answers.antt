@@ -2,6 +2,7 @@
 -- there.
 use Rattle.std.proofs.Common.{◌≡◌, ◌<◌, true, length, sym, ◌∙◌, subst, inl, inr, arith}
 use Rattle.std.proofs.lemmas.Bool.{cases_eq, both_ways}
+use Rattle.blockset.specs.declared.TheConstants.{SET_WIDTH}
 use Rattle.blockset.specs.Has.{has}
 use Rattle.blockset.proofs.Members.{members-le, members_like, members_without, members-insert}
 use Rattle.pairing.specs.Grid.{at}
@@ -30,7 +31,7 @@ loop-l-smaller-then-contains-2 c =
     let r = reaching c.requires.small c.requires.inside c.in-Some.ensures
     c.in-Some-fresh.ensures.new c.insert.ensures in
     let l = at c.args.holders.now.owner c.in-Some-fresh.c in
-    let low : l < 64 =
+    let low : l < SET_WIDTH =
     omega (arith, c.requires.small, c.requires.held c.in-Some-fresh.c (sym c.if-contains-2.ensures))
     in
     omega (

@@ -1,6 +1,6 @@
 -- The right block that the iterator gave is put in if a chain leads back; the others stay.
-use Rattle.std.proofs.Common.{◌≡◌, ℕ, Bool, true, false, not, ◌&&◌, ◌||◌, eqb, sym, ap, ◌∙◌}
-use Rattle.std.proofs.Common.{inl, inr, arith}
+use Rattle.std.proofs.Common.{◌≡◌, ℕ, Bool, true, false, not, ◌&&◌, ◌||◌, ◌==◌, sym, ap, ◌∙◌, inl}
+use Rattle.std.proofs.Common.{inr, arith}
 use Rattle.std.proofs.lemmas.Bool.{cases_eq, eq-eqb, ne_eqb, and_parts}
 use Rattle.blockset.specs.Has.{has}
 use Rattle.pairing.specs.Rows.{holds}
@@ -8,20 +8,20 @@ use Rattle.matching.proofs.Inserting.{inserted}
 use Rattle.matching.proofs.marking.class_of.Goals as goal
 
 module _ (on back rest rest' class class' : ℕ → Bool) (c : ℕ)
-    (left : (j : ℕ) → rest' j ≡ (rest j && not (eqb j c)))
-    (put : (j : ℕ) → class' j ≡ (eqb j c || class j))
+    (left : (j : ℕ) → rest' j ≡ (rest j && not (j == c)))
+    (put : (j : ℕ) → class' j ≡ (j == c || class j))
     (is : (j : ℕ) → class j ≡ (on j && (not (rest j) && back j)))
     (to : on c ≡ true) (from : back c ≡ true) where
   taken : (j : ℕ) → class' j ≡ (on j && (not (rest' j) && back j))
   taken j = elim (cases_eq j c) [
     | inl e ↦
-        let here : eqb j c ≡ true = eq-eqb j c e in
+        let here : (j == c) ≡ true = eq-eqb j c e in
         let a : on j ≡ true = ap on e ∙ to in
         let b : back j ≡ true = ap back e ∙ from in
-        known (on j) (back j) (rest j) (rest' j) (class j) (class' j) (eqb j c) (left j) (put j)
+        known (on j) (back j) (rest j) (rest' j) (class j) (class' j) (j == c) (left j) (put j)
         here a b
     | inr ne ↦
-        other (on j) (back j) (rest j) (rest' j) (class j) (class' j) (eqb j c) (left j) (put j)
+        other (on j) (back j) (rest j) (rest' j) (class j) (class' j) (j == c) (left j) (put j)
         (is j) (ne_eqb j c ne)
   ]
     where

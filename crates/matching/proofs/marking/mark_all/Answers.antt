@@ -1,7 +1,6 @@
 -- One row more is written: the rows before it stay, and it says which pairs occur.
-use Rattle.std.proofs.Common.{◌≡◌, ◌&&◌, ℕ, ◌+◌, ◌-◌, ◌*◌, ◌<◌, ◌≤◌, cond, length, sym}
-use Rattle.std.proofs.Common.{ap, ◌∙◌, subst, inl, inr}
-use Rattle.std.proofs.Common.{add-mul, one-mul, arith}
+use Rattle.std.proofs.Common.{◌≡◌, ◌&&◌, ℕ, ◌+◌, ◌-◌, ◌*◌, ◌<◌, ◌≤◌, if◌then◌else◌, length, sym, ap}
+use Rattle.std.proofs.Common.{◌∙◌, subst, inl, inr, add-mul, one-mul, arith}
 use borrow.Rule.Slice.PartMut.{put_mid}
 use Rattle.std.proofs.lemmas.Nat.{mul-add-lt, mul-le}
 use Rattle.std.proofs.lemmas.Bool.{cases_eq, both_ways, cond-true}
@@ -48,7 +47,7 @@ loop-l-preserved c =
       | then-is_empty w ↦
           let class = has w.class_of.result in
           let is : (i j : ℕ) → holds classes i j
-          ≡ cond (class i) (class j) (holds c.loop-l.classes i j) =
+          ≡ (if class i then class j else holds c.loop-l.classes i j) =
           λ i j. ap (λ s. holds s i j) w.classes-is ∙ w.note_class.ensures i j in (
             classes_more n led c.loop-l.classes classes class
                 (is_class rows h led leads own low class w.class_of.ensures) old is,
@@ -74,10 +73,10 @@ loop-l-preserved c =
             ∙ put_inside (l * n) (l * n + n - l * n) c.loop-l.table c.mark_row.new.marks short r
             (omega (arith, row_end l n inside))
             ∙ c.mark_row.ensures r (omega (arith, row_end l n inside))
-            ∙ ap (λ b. cond b 1 0)
+            ∙ ap (λ b. (if b then 1 else 0))
             (c.intersection.ensures r
             ∙ class_occurs rows h led leads l r inside j (holds classes own) known.1)
-            ∙ ap (λ x. cond (has_pair x r (pairings rows)) 1 0) (sym e)
+            ∙ ap (λ x. (if has_pair x r (pairings rows) then 1 else 0)) (sym e)
         | inr ne ↦ put_before (l * n) (l * n + n - l * n) c.loop-l.table c.mark_row.new.marks short
             (m * n + r) (omega (arith, mul-add-lt m n r l (omega arith) j))
             ∙ c.loop-l.invariant.marked m r (omega arith) j

@@ -1,7 +1,8 @@
 -- The state of the loop is that of proofs/Trying.antt, and each way out is one of its conclusions.
-use Rattle.std.proofs.Common.{◌≡◌, ℕ, ◌<◌, Bool, true, false, not, ◌&&◌, ltb, length}
-use Rattle.std.proofs.Common.{sym, refl, ◌∙◌, ap, subst, arith}
+use Rattle.std.proofs.Common.{◌≡◌, ℕ, ◌<◌, Bool, true, false, not, ◌&&◌, nat_lt, length, sym, refl}
+use Rattle.std.proofs.Common.{◌∙◌, ap, subst, arith}
 use Rattle.std.proofs.lemmas.Bool.Decides.{nat_tests}
+use Rattle.blockset.specs.declared.TheConstants.{SET_WIDTH}
 use Rattle.blockset.specs.Has.{has}
 use Rattle.blockset.proofs.Holding.{has_block}
 use Rattle.pairing.specs.Grid.{at}
@@ -15,8 +16,9 @@ use Rattle.matching.proofs.Trying.{sent_pairs, sent_improved, sent_holders}
 use Rattle.matching.proofs.stepping.improve.Goals as goal
 
 -- a floor on blocks: what is left of a row's live blocks
-floored : (t o d e b : Bool) (j floor : ℕ) → (t ≡ true → j < 64) → e ≡ (t && o)
-    → b ≡ (ltb j 64 && ltb j floor) → d ≡ (e && not b) → d ≡ ((t && o) && not (ltb j floor))
+floored : (t o d e b : Bool) (j floor : ℕ) → (t ≡ true → j < SET_WIDTH) → e ≡ (t && o)
+    → b ≡ (nat_lt j SET_WIDTH && nat_lt j floor) → d ≡ (e && not b)
+    → d ≡ ((t && o) && not (nat_lt j floor))
 floored true o d e b j floor low x y z = (let s = low refl in grind (arith, nat_tests))
 floored false o d e b j floor low x y z = grind arith
 

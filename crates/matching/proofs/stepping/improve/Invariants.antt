@@ -1,6 +1,7 @@
 -- Nothing has changed but what is shut; each search shuts its candidate, so that there are at most
 -- n.
 use Rattle.std.proofs.Common.{◌≡◌}
+use Rattle.blockset.specs.declared.TheConstants.{SET_WIDTH}
 use Rattle.blockset.specs.Has.{has}
 use Rattle.blockset.specs.Sets.{members}
 use Rattle.matching.proofs.Trying.{Trying}
@@ -13,4 +14,4 @@ invariant-loop-r l = record {
 }
 
 abbrev pub decreases-loop-r : goal.decreases-loop-r
-decreases-loop-r l = members 64 (has l.candidates)
+decreases-loop-r l = members SET_WIDTH (has l.candidates)
