@@ -1,11 +1,14 @@
 -- The test that pair tables are in order tells just that, and the grid of such tables is sane.
 -- Idea: the test asks the same of every place, so it passes just if it passes at each place; the
 -- pair of l and r has its own place.
-use Rattle.std.specs.Prelude.{◌≡◌, ℕ, zero, suc, ◌<◌, ◌≤◌, true, false, List, [], ◌∷◌, length, ℤ}
-use Rattle.std.specs.Prelude.{slice_index, IsTrue, ◌↔◌}
-use Rattle.std.proofs.Common.{refl, arith}
+use Rattle.std.specs.Prelude.{◌≡◌, ℕ, zero, suc, ◌<◌, ◌≤◌, Bool, true, false, List, [], ◌∷◌, length}
+use Rattle.std.specs.Prelude.{ℤ, slice_index, slice_index_or, zip, IsTrue, ◌↔◌}
+use Rattle.std.proofs.Common.{sym, refl, ap, ◌∙◌, arith}
 use Rattle.std.proofs.lemmas.Nat.{mul-add-lt}
-use Rattle.std.proofs.lemmas.Bool.{and_parts, and_from}
+use Rattle.std.proofs.lemmas.List.{get_or-map}
+use Rattle.std.proofs.lemmas.List.Elements.{All-get_or, All-from_get_or}
+use Rattle.std.proofs.lemmas.List.Sums.{AllPass-from_list_all, list_all-from_AllPass}
+use Rattle.std.proofs.lemmas.Slice.Zip.{get_or-zip, length-zip}
 use Rattle.cost.specs.declared.Cost.{Ghosts}
 use Rattle.cost.specs.declared.TheConstants.{COST_LIMIT}
 use Rattle.cost.specs.Columns.{Within, within}
@@ -23,40 +26,36 @@ place_tells columns byte =
     fine_tells byte (within COST_LIMIT columns) (within_tells COST_LIMIT columns)
 
 module _ {K : Type 0} (kind : Ghosts K) where
-  passes : (costs : List K) (bytes : List ℕ) → length costs ≡ length bytes
-      → IsTrue (in_order kind.meaning costs bytes) → (k : ℕ) → k < length bytes
-      → IsTrue (is_place_in_order (columns_at kind costs k) (slice_index bytes k))
-  passes [] [] same e k h = absurd (omega arith)
-  passes [] (b ∷ bytes) same e k h = absurd (omega arith)
-  passes (c ∷ costs) [] same e k h = absurd (omega arith)
-  passes (c ∷ costs) (b ∷ bytes) same e zero h =
-      (and_parts (is_place_in_order (kind.meaning c) b) (in_order kind.meaning costs bytes) e).0
-  passes (c ∷ costs) (b ∷ bytes) same e (suc k) h = passes costs bytes (omega arith)
-      (and_parts (is_place_in_order (kind.meaning c) b) (in_order kind.meaning costs bytes) e).1 k
-      (omega arith)
-
-  passed : (costs : List K) (bytes : List ℕ) → length costs ≡ length bytes
-      → ((k : ℕ) → k < length bytes
-      → IsTrue (is_place_in_order (columns_at kind costs k) (slice_index bytes k)))
-      → IsTrue (in_order kind.meaning costs bytes)
-  passed [] bytes same each = refl
-  passed (c ∷ costs) [] same each = refl
-  passed (c ∷ costs) (b ∷ bytes) same each =
-      and_from (is_place_in_order (kind.meaning c) b) (in_order kind.meaning costs bytes)
-      (each 0 (omega arith))
-      (passed costs bytes (omega arith) (λ k h. each (suc k) (omega arith)))
-
   pub in_order_tells : (costs : List K) (standing : List ℕ) (places : ℕ) → length costs ≡ places
       → length standing ≡ places
       → IsTrue (in_order kind.meaning costs standing) ↔ IsInOrder kind places costs standing
-  in_order_tells costs standing places ec eb = (
-    λ e.
-        let each = λ (k : ℕ) (h : k < places). (place_tells (columns_at kind costs k)
-        (slice_index standing k)).0 (passes costs standing (omega arith) e k (omega arith)) in
-        record { bytes = λ k h. (each k h).0; small = λ k h. (each k h).1 },
-    λ o. passed costs standing (omega arith) (λ k h. (place_tells (columns_at kind costs k)
-        (slice_index standing k)).1 (o.bytes k (omega arith), o.small k (omega arith))),
+  in_order_tells [] standing places ec eb = (
+    λ e. record { bytes = λ k h. absurd (omega arith); small = λ k h. absurd (omega arith) },
+    λ o. refl,
   )
+  in_order_tells (c ∷ cs) standing places ec eb = (
+    λ e.
+        let each = λ (k : ℕ) (h : k < places). (place_tells (columns_at kind (c ∷ cs) k)
+        (slice_index standing k)).0 (sym (at_place k h) ∙ All-get_or (λ place. IsTrue (test place))
+        (zip (c ∷ cs) standing) k (c, 0) (omega (arith, length-zip (c ∷ cs) standing))
+        (AllPass-from_list_all test (zip (c ∷ cs) standing) e)) in
+        record { bytes = λ k h. (each k h).0; small = λ k h. (each k h).1 },
+    λ o. list_all-from_AllPass test (zip (c ∷ cs) standing)
+        (All-from_get_or (λ place. IsTrue (test place)) (zip (c ∷ cs) standing) (c, 0)
+        (λ k i.
+        let h : k < places = omega (arith, length-zip (c ∷ cs) standing) in
+        at_place k h ∙ (place_tells (columns_at kind (c ∷ cs) k) (slice_index standing k)).1
+        (o.bytes k h, o.small k h))),
+  )
+    where
+      test : K × ℕ → Bool
+      test place = is_place_in_order (kind.meaning place.0) place.1
+
+      at_place : (k : ℕ) → k < places → test (slice_index_or (zip (c ∷ cs) standing) k (c, 0))
+          ≡ is_place_in_order (columns_at kind (c ∷ cs) k) (slice_index standing k)
+      at_place k h = ap test (get_or-zip (c ∷ cs) standing k (c, 0) (omega arith) (omega arith))
+          ∙ ap (λ x. is_place_in_order x (slice_index standing k))
+          (sym (get_or-map kind.meaning (c ∷ cs) k c [] (omega arith)))
 
   module _ (wide : (x : K) → length (kind.meaning x) ≡ kind.columns) where
     -- each value of a table has the columns of its kind
