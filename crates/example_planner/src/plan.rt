@@ -8,7 +8,7 @@ use anyhow::{Context, anyhow};
 use blockset::BlockSet;
 use cost::Cost;
 use example_kind::HouseCost;
-use report::{meaning, remedy};
+use refusal_words::{meaning, remedy};
 use sheet::{Fault, OpenSheet, Refusal, SettledSheet, Shortfall, Step, open};
 use std::alloc::Global;
 use tables::{place, places, stands};

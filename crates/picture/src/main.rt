@@ -9,7 +9,8 @@ mod solved;
 mod table;
 
 use command::{Command, Streams, WRONG_USAGE};
-use report::{explain, push_unmatched, read_input};
+use refusal_words::{explain, push_unmatched};
+use report::read_input;
 use sheet::Cause;
 use solved::{Trouble, solve};
 use std::alloc::{AllocError, Global};

@@ -4,7 +4,7 @@
 use Rattle.std.proofs.Common.{◌≡◌, ℕ, zero, suc, ◌<◌, cond, List, ◌++◌, Ok, Err, Result, OnOk}
 use Rattle.std.proofs.Common.{refl, ap, ◌∙◌, arith}
 use Rattle.std.specs.Result.{is_ok}
-use Rattle.report.specs.Text.{up_to}
+use Rattle.refusal_words.specs.Lines.{up_to}
 
 pub up_same : (k : ℕ) (f g : ℕ → List ℕ) → ((i : ℕ) → i < k → f i ≡ g i) → up_to k f ≡ up_to k g
 up_same zero f g e = refl

@@ -14,7 +14,8 @@ use Rattle.pairing.proofs.Listing.{optima_are}
 use Rattle.matching.specs.Answers.{IsNth, Follows}
 use Rattle.matching.proofs.Nth.{nth_optimum}
 use Rattle.matching.specs.declared.stepping.Step.TheVariants.{Next, End}
-use Rattle.report.specs.Listing.{pairing_line, pairing_lines, total_line}
+use Rattle.refusal_words.specs.Lines.{pairing_line}
+use Rattle.report.specs.Listing.{pairing_lines, total_line}
 use Rattle.report.specs.Listing.{listed, listing_over, listing_text}
 
 -- ---- Places

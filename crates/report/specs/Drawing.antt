@@ -6,11 +6,11 @@ use Rattle.pairing.specs.Optima.{optima, is_marked}
 use Rattle.matching.specs.declared.augmenting.Shortfall.{Shortfall}
 use Rattle.sheet.specs.declared.fault.Cause.TheVariants.{NoPerfectPairing}
 use Rattle.orderfile.specs.Loading.{cost_stated, grid_stated}
-use Rattle.report.specs.Describing.{Tells}
+use Rattle.refusal_words.specs.Refusing.{unmatched_lines}
+use Rattle.refusal_words.specs.Words.{explanation}
+use Rattle.report.specs.Describing.{IsReport}
 use Rattle.report.specs.Listing.{total_line}
 use Rattle.report.specs.Mapping.{SheetView, map_text}
-use Rattle.report.specs.Refusing.{unmatched_words}
-use Rattle.report.specs.Words.{explanation}
 
 -- what a map shows of a grid whose pairs stand at these costs, where p is the first optimum pairing
 abbrev pub grid_view : (cost : ℕ → ℕ → Option ℤ) → Grid → List ℕ → SheetView
@@ -23,7 +23,7 @@ grid_view cost g p = record {
 
 -- what stands in place of the map of a grid with no perfect pairing, by its crowd set and shortage
 abbrev pub no_map : Shortfall → List ℕ
-no_map = unmatched_words NoPerfectPairing
+no_map = unmatched_lines NoPerfectPairing
 
 -- the text is the map of a grid, over the list of its optimum pairings: what the first of them
 -- costs, and then the costs with the marks; or in words that there is none, with the crowd set of
@@ -38,4 +38,4 @@ IsMap cost g text = IsMapOver cost g (optima g) text
 
 -- the text is the map of what the file states, or tells its first fault in words
 abbrev pub Draws : (file text : List ℕ) → Type 0
-Draws = Tells (λ order. IsMap (cost_stated order.pairs) (grid_stated order)) explanation
+Draws = IsReport (λ order. IsMap (cost_stated order.pairs) (grid_stated order)) explanation

@@ -2,9 +2,7 @@ pub mod Text
 pub mod Describing
 pub mod Listing
 pub mod Mapping
-pub mod Words
-pub mod Refusing
 pub mod Asking
-pub mod Settlement
+pub mod Afresh
 pub mod Drawing
 pub mod Programs

@@ -10,14 +10,11 @@ use Rattle.sheet.specs.Numbers.{cause_number}
 use Rattle.sheet.specs.declared.fault.Cause.{Cause}
 use Rattle.sheet.specs.declared.fault.Cause.TheVariants.{NoPerfectPairing}
 use Rattle.orderfile.specs.Loading.{grid_stated}
-use Rattle.report.specs.Describing.{Tells}
-use Rattle.report.specs.declared.pairing_lines.TheConstants.{MOST_PAIRINGS}
+use Rattle.refusal_words.specs.Lines.{pairing_line}
+use Rattle.report.specs.Describing.{IsReport}
+use Rattle.report.specs.declared.listing_lines.TheConstants.{MOST_PAIRINGS}
 
 -- ---- The lines
-
--- `pairing R0 R1 ..`: the right blocks of left blocks 0, 1 and so on
-abbrev pub pairing_line : List ℕ → List ℕ
-pairing_line p = codes "pairing" ++ (flat_map (λ r. codes " " ++ decimal r) p ++ codes "\n")
 
 abbrev pub pairing_lines : List (List ℕ) → List ℕ
 pairing_lines = flat_map pairing_line
@@ -54,4 +51,4 @@ listing_text g = listing_over g (optima g)
 -- first fault
 abbrev pub Lists : (file text : List ℕ) → Type 0
 Lists =
-    Tells (λ order text. text ≡ listing_text (grid_stated order)) (λ f. cause_line f.cause)
+    IsReport (λ order text. text ≡ listing_text (grid_stated order)) (λ f. cause_line f.cause)

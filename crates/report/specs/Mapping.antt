@@ -5,7 +5,8 @@ use Rattle.std.specs.Prelude.{length, â„¤, codes, decimal, Some, None, Option, â
 use Rattle.std.specs.Fmt.{signed_decimal}
 use Rattle.pairing.specs.Grid.{at}
 use Rattle.pairing.specs.Places.{place_of}
-use Rattle.report.specs.Text.{up_to, cost_in}
+use Rattle.refusal_words.specs.Lines.{up_to}
+use Rattle.report.specs.Text.{cost_in}
 use Rattle.report.specs.declared.sheet_map.Drawing.{Drawing}
 
 -- what a map shows: the cost at which a pair stands, whether it is of the first optimum pairing,

@@ -1,6 +1,5 @@
 -- The texts that tell what an order file states, or why it is refused.
-use Rattle.std.specs.Prelude.{ℕ, zero, suc, List, [], ◌++◌, ℤ, Some, None, codes, decimal}
-use Rattle.std.specs.Prelude.{Option}
+use Rattle.std.specs.Prelude.{ℕ, List, [], ◌++◌, ℤ, Some, None, codes, decimal, Option}
 use Rattle.std.specs.Option.{option_map}
 use Rattle.std.specs.Fmt.{signed_decimal}
 use Rattle.cost.specs.declared.plain_kind.Plain.{Plain}
@@ -8,11 +7,7 @@ use Rattle.sheet.specs.Refusals.{refusal_text}
 use Rattle.sheet.specs.declared.fault.Fault.{Fault}
 use Rattle.orderfile.specs.Format.{Order}
 use Rattle.orderfile.specs.Loading.{plain_cell, cost_stated}
-
--- the texts f 0, f 1 and so on below k, one after another
-abbrev pub up_to : ℕ → (ℕ → List ℕ) → List ℕ
-up_to zero f = []
-up_to (suc k) f = up_to k f ++ f k
+use Rattle.refusal_words.specs.Lines.{up_to}
 
 -- the line of a pair, if it stands at a cost: `pair L R COST`
 abbrev pub pair_line : ℕ → ℕ → Option ℤ → List ℕ

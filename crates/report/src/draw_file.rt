@@ -1,25 +1,21 @@
 //! Order files as maps: the costs that a file states with the optimum pairings marked, or in words
 //! why it is refused.
 
-ghost use Rattle.std.specs.Prelude.{◌≡◌, IfOk, length, string_bytes};
+ghost use Rattle.std.specs.Prelude.{◌≡◌, IfOk, string_bytes};
 ghost use Rattle.tables.specs.Lent.{grid};
-ghost use Rattle.tables.specs.PairTables.{HavePlaces};
 ghost use Rattle.tables.specs.Together.{Together, ArePairTables};
 ghost use Rattle.assign.specs.Answer.{Settled};
 ghost use Rattle.sheet.specs.Size.{size_of};
-ghost use Rattle.orderfile.specs.Format.{Order, States};
 ghost use Rattle.orderfile.specs.Loading.{plain_kind, plain_grid};
 ghost use Rattle.report.specs.Text.{cost_in};
 ghost use Rattle.report.specs.Drawing.{IsMap, Draws, no_map};
 
-use crate::fresh_tables::settle_afresh;
-use crate::pairing_lines::push_total_line;
-use crate::refusal_lines::push_unmatched;
+use crate::fresh_tables::{LoadedSheet, load_afresh, settle_afresh};
+use crate::listing_lines::push_total_line;
 use crate::sheet_map::Drawing;
-use crate::words::explain;
 use cost::Plain;
-use orderfile::loading::{check, load};
-use sheet::{Cause, OpenSheet, SettledSheet, Shortfall};
+use refusal_words::{explain, push_unmatched};
+use sheet::{Cause, SettledSheet, Shortfall};
 use std::alloc::{AllocError, Global};
 use tables::{Tables, places};
 
@@ -74,17 +70,19 @@ fn draw_unmatched(heap: Global, shortfall: Shortfall) -> Result<String, AllocErr
 }
 
 // The map of a sheet: it is settled, or no pairing is perfect.
-fn draw_sheet(
-    heap: Global,
-    sheet: OpenSheet,
-    costs: &[Plain],
-    standing: &[u8],
-) -> Result<String, AllocError>
-    requires { ArePairTables plain_kind (size_of sheet) costs.now standing.now }
-    ensures { let n = size_of sheet in IfOk result (λ text. IsMap
-        (cost_in n costs.now standing.now) (plain_grid n costs.now standing.now)
-        (string_bytes text)) }
+fn draw_sheet(heap: Global, loaded: LoadedSheet) -> Result<String, AllocError>
+    requires { ArePairTables plain_kind (size_of loaded.sheet) loaded.costs.items
+        loaded.standing.items }
+    ensures { let n = size_of loaded.sheet in IfOk result (λ text. IsMap
+        (cost_in n loaded.costs.items loaded.standing.items)
+        (plain_grid n loaded.costs.items loaded.standing.items) (string_bytes text)) }
 {
+    let LoadedSheet {
+        sheet,
+        costs,
+        standing,
+    } = loaded;
+    let (costs, standing) = (costs.as_slice(), standing.as_slice());
     let settlement = match settle_afresh(heap, sheet, costs, standing)? {
         Ok(settlement) => settlement,
         Err(shortfall) => return draw_unmatched(heap, shortfall),
@@ -100,23 +98,6 @@ fn draw_sheet(
     draw_settled(heap, &settlement.sheet, &tables)
 }
 
-// Loads a file into tables of the right lengths, and draws the sheet or tells the refusal.
-fn load_and_draw(
-    heap: Global,
-    file: &[u8],
-    costs: &mut [Plain],
-    standing: &mut [u8],
-) -> Result<String, AllocError>
-    requires { (order : Order) → States file.now order
-        → HavePlaces order.size (length costs.old) (length standing.old) }
-    ensures { IfOk result (λ text. Draws file.now (string_bytes text)) }
-{
-    match load(file, costs, standing) {
-        Ok(sheet) => draw_sheet(heap, sheet, costs, standing),
-        Err(fault) => explain(heap, fault),
-    }
-}
-
 /// The map of an order file: `total T`, and the table of the costs that the file states, in which
 /// the pairs of the first optimum pairing have a mark, and those of any other one another; or else,
 /// in words, why the file is refused or that no pairing is perfect, with the crowd set and its
@@ -124,12 +105,8 @@ fn load_and_draw(
 pub fn draw(heap: Global, file: &[u8]) -> Result<String, AllocError>
     ensures { IfOk result (λ text. Draws file.now (string_bytes text)) }
 {
-    match check(file) {
-        Ok(n) => {
-            let mut costs = vec![in heap; Plain(0); places(n)]?;
-            let mut standing = vec![in heap; 0u8; places(n)]?;
-            load_and_draw(heap, file, costs.as_mut_slice(), standing.as_mut_slice())
-        }
+    match load_afresh(heap, file)? {
+        Ok(loaded) => draw_sheet(heap, loaded),
         Err(fault) => explain(heap, fault),
     }
 }

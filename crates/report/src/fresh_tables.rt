@@ -1,14 +1,25 @@
-//! A loaded sheet is settled with fresh tables.
+//! A file is loaded into fresh tables, and a sheet settled with fresh tables.
 
 ghost use Rattle.std.specs.Prelude.{IfOk, MatchResult};
 ghost use Rattle.tables.specs.Together.{ArePairTables};
 ghost use Rattle.sheet.specs.Size.{size_of};
+ghost use Rattle.orderfile.specs.Faults.{FirstFault};
 ghost use Rattle.orderfile.specs.Loading.{plain_kind};
-ghost use Rattle.report.specs.Settlement.{IsSettlement, HasNoPairing};
+ghost use Rattle.report.specs.Afresh.{IsLoaded, IsSettledAfresh, HasNoPairing};
 
 use cost::Plain;
-use sheet::{OpenSheet, SettledSheet, Shortfall};
+use orderfile::loading::{check, load};
+use sheet::{Fault, OpenSheet, SettledSheet, Shortfall};
 use std::alloc::{AllocError, Global};
+use tables::places;
+
+/// A loaded sheet, with its pair tables.
+#[derive(Drop)]
+pub struct LoadedSheet {
+    pub sheet: OpenSheet,
+    pub costs: Vec<Plain>,
+    pub standing: Vec<u8>,
+}
 
 /// A settled sheet, with the tables that settling wrote.
 #[derive(Drop)]
@@ -17,6 +28,26 @@ pub struct Settlement {
     pub partners: Vec<u16>,
     pub left: Vec<Plain>,
     pub right: Vec<Plain>,
+}
+
+/// Loads a file into fresh tables of the right lengths, or tells its first fault.
+pub fn load_afresh(heap: Global, file: &[u8]) -> Result<Result<LoadedSheet, Fault>, AllocError>
+    ensures { IfOk result (λ answer. MatchResult answer (IsLoaded file.now) (FirstFault file.now)) }
+{
+    let size = match check(file) {
+        Ok(size) => size,
+        Err(fault) => return Ok(Err(fault)),
+    };
+    let mut costs = vec![in heap; Plain(0); places(size)]?;
+    let mut standing = vec![in heap; 0u8; places(size)]?;
+    match load(file, costs.as_mut_slice(), standing.as_mut_slice()) {
+        Ok(sheet) => Ok(Ok(LoadedSheet {
+            sheet,
+            costs,
+            standing,
+        })),
+        Err(fault) => Ok(Err(fault)),
+    }
 }
 
 /// Settles a sheet with fresh tables, or tells why it cannot be settled: where its pair tables are
@@ -29,7 +60,7 @@ pub fn settle_afresh(
 ) -> Result<Result<Settlement, Shortfall>, AllocError>
     requires { ArePairTables plain_kind (size_of sheet) costs.now standing.now }
     ensures { IfOk result (λ answer. MatchResult answer
-        (λ settlement. IsSettlement (size_of sheet) costs.now standing.now settlement)
+        (λ settlement. IsSettledAfresh (size_of sheet) costs.now standing.now settlement)
         (λ s. HasNoPairing (size_of sheet) costs.now standing.now s)) }
 {
     let size = sheet.size() as usize;

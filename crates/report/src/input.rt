@@ -6,7 +6,7 @@ ghost use Rattle.report.specs.Describing.{Describes};
 ghost use Rattle.report.specs.Drawing.{Draws};
 ghost use Rattle.report.specs.Listing.{Lists};
 
-use crate::describe;
+use crate::describe_file::describe;
 use crate::draw_file::draw;
 use crate::list_file::list;
 use std::alloc::Global;

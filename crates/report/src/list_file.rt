@@ -1,25 +1,23 @@
 //! Order files as listings: all optimum pairings of what a file states, or why it is refused.
 
-ghost use Rattle.std.specs.Prelude.{◌≡◌, ◌++◌, IfOk, OnOk, length, string_bytes};
+ghost use Rattle.std.specs.Prelude.{◌≡◌, ◌++◌, IfOk, OnOk, string_bytes};
 ghost use Rattle.pairing.specs.Grid.{Optimum};
 ghost use Rattle.pairing.specs.Optima.{optima};
 ghost use Rattle.matching.specs.Answers.{IsNth, Follows};
 ghost use Rattle.tables.specs.Lent.{grid};
-ghost use Rattle.tables.specs.PairTables.{HavePlaces};
 ghost use Rattle.tables.specs.Together.{Together, ArePairTables};
 ghost use Rattle.assign.specs.Answer.{Settled};
 ghost use Rattle.sheet.specs.Size.{size_of};
-ghost use Rattle.orderfile.specs.Format.{Order, States};
 ghost use Rattle.orderfile.specs.Loading.{plain_kind, plain_grid};
 ghost use Rattle.report.specs.Listing.{listed, listing_text, Lists};
 
-use crate::fresh_tables::{Settlement, settle_afresh};
-use crate::pairing_lines::{MOST_PAIRINGS, cause_line, push_pairing_line, push_total_line};
+use crate::fresh_tables::{LoadedSheet, Settlement, load_afresh, settle_afresh};
+use crate::listing_lines::{MOST_PAIRINGS, cause_line, push_total_line};
 use cost::Plain;
-use orderfile::loading::{check, load};
-use sheet::{Cause, OpenSheet, SettledSheet, Step, Walk};
+use refusal_words::push_pairing_line;
+use sheet::{Cause, SettledSheet, Step, Walk};
 use std::alloc::{AllocError, Global};
-use tables::{Tables, places};
+use tables::Tables;
 
 // Goes on to the next pairing of a walk over tables that hold together.
 fn step(walk: &Walk, tables: &Tables<'_, Plain>, list: &mut [u16]) -> Step
@@ -100,16 +98,18 @@ fn list_settled(
 }
 
 // The listing of a sheet: it is settled, or no pairing is perfect.
-fn list_sheet(
-    heap: Global,
-    sheet: OpenSheet,
-    costs: &[Plain],
-    standing: &[u8],
-) -> Result<String, AllocError>
-    requires { ArePairTables plain_kind (size_of sheet) costs.now standing.now }
-    ensures { IfOk result (λ text. string_bytes text
-        ≡ listing_text (plain_grid (size_of sheet) costs.now standing.now)) }
+fn list_sheet(heap: Global, loaded: LoadedSheet) -> Result<String, AllocError>
+    requires { ArePairTables plain_kind (size_of loaded.sheet) loaded.costs.items
+        loaded.standing.items }
+    ensures { IfOk result (λ text. string_bytes text ≡ listing_text
+        (plain_grid (size_of loaded.sheet) loaded.costs.items loaded.standing.items)) }
 {
+    let LoadedSheet {
+        sheet,
+        costs,
+        standing,
+    } = loaded;
+    let (costs, standing) = (costs.as_slice(), standing.as_slice());
     let settlement = match settle_afresh(heap, sheet, costs, standing)? {
         Ok(settlement) => settlement,
         Err(_) => return cause_line(heap, Cause::NoPerfectPairing),
@@ -131,35 +131,14 @@ fn list_sheet(
     list_settled(heap, sheet, &tables)
 }
 
-// Loads a file into tables of the right lengths, and lists the sheet or tells the refusal.
-fn load_and_list(
-    heap: Global,
-    file: &[u8],
-    costs: &mut [Plain],
-    standing: &mut [u8],
-) -> Result<String, AllocError>
-    requires { (order : Order) → States file.now order
-        → HavePlaces order.size (length costs.old) (length standing.old) }
-    ensures { IfOk result (λ text. Lists file.now (string_bytes text)) }
-{
-    match load(file, costs, standing) {
-        Ok(sheet) => list_sheet(heap, sheet, costs, standing),
-        Err(fault) => cause_line(heap, fault.cause),
-    }
-}
-
 /// The listing of an order file: `total T`, then up to 1,000 lines `pairing R0 R1 ..`, the optimum
 /// pairings of what the file states in dictionary order, then `end`, or `more` where others
 /// remain; or else `refused N`, with 6 where no pairing is perfect.
 pub fn list(heap: Global, file: &[u8]) -> Result<String, AllocError>
     ensures { IfOk result (λ text. Lists file.now (string_bytes text)) }
 {
-    match check(file) {
-        Ok(n) => {
-            let mut costs = vec![in heap; Plain(0); places(n)]?;
-            let mut standing = vec![in heap; 0u8; places(n)]?;
-            load_and_list(heap, file, costs.as_mut_slice(), standing.as_mut_slice())
-        }
+    match load_afresh(heap, file)? {
+        Ok(loaded) => list_sheet(heap, loaded),
         Err(fault) => cause_line(heap, fault.cause),
     }
 }

@@ -1,15 +1,31 @@
--- A fault that `check` finds is the file's first.
-use Rattle.std.proofs.Common.{string_bytes}
-use Rattle.orderfile.specs.Loading.{cost_stated, grid_stated}
-use Rattle.orderfile.proofs.Ends.{checked_err}
+-- What is told of a loaded sheet is told of the order that the file states, and a refusal of the
+-- file's first fault.
+use Rattle.std.proofs.Common.{ℕ, string_bytes, subst}
+use Rattle.orderfile.specs.Loading.{plain_grid, cost_stated, grid_stated}
+use Rattle.refusal_words.specs.Words.{explanation}
+use Rattle.report.specs.Text.{cost_in}
 use Rattle.report.specs.Drawing.{IsMap}
-use Rattle.report.specs.Words.{explanation}
-use Rattle.report.proofs.Described.{line_tells}
+use Rattle.report.proofs.Described.{reports_loaded, reports_fault}
+use Rattle.report.proofs.Drawn.{drawn_order}
 use Rattle.report.proofs.draw_file.draw.Goals as goal
+
+pub returns-in-Ok : goal.returns-in-Ok
+returns-in-Ok c =
+    let sheet = c.in-Ok.loaded in
+    let costs = sheet.costs.items in
+    let standing = sheet.standing.items in
+    let loaded = rw c.in-Ok.is at c.in_ok-loaded.ensures in
+    reports_loaded (λ order. IsMap (cost_stated order.pairs) (grid_stated order)) explanation
+    c.args.file.now string_bytes c.draw_sheet.result sheet loaded
+    (IsMap (cost_in sheet.sheet.size costs standing)
+    (plain_grid sheet.sheet.size costs standing))
+    (λ text map. drawn_order loaded.order _ costs standing loaded.accepted text
+    (subst (λ (k : ℕ). IsMap (cost_in k costs standing) (plain_grid k costs standing) text)
+    loaded.size map))
+    c.draw_sheet.ensures
 
 pub returns-in-Err : goal.returns-in-Err
 returns-in-Err c =
-    let f = c.in-Err.fault in
-    line_tells (λ order. IsMap (cost_stated order.pairs) (grid_stated order)) explanation
-    c.args.file.now string_bytes c.explain.result f
-    (checked_err c.args.file.now f c.in-Err.ensures) c.explain.ensures
+    let first = rw c.in-Err.is at c.in_ok-loaded.ensures in
+    reports_fault (λ order. IsMap (cost_stated order.pairs) (grid_stated order)) explanation
+    c.args.file.now string_bytes c.explain.result c.in-Err.fault first c.explain.ensures

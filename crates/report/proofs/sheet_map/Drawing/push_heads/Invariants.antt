@@ -1,6 +1,6 @@
 -- The line has the numbers up to here.
 use Rattle.std.proofs.Common.{◌≡◌, ◌++◌, string_bytes, codes, decimal}
-use Rattle.report.specs.Text.{up_to}
+use Rattle.refusal_words.specs.Lines.{up_to}
 use Rattle.report.specs.Mapping.{right_in}
 use Rattle.report.proofs.sheet_map.Drawing.push_heads.Given as goal
 

@@ -1,6 +1,6 @@
 -- The row has the cells up to here.
 use Rattle.std.proofs.Common.{◌≡◌, ◌++◌, string_bytes, codes}
-use Rattle.report.specs.Text.{up_to}
+use Rattle.refusal_words.specs.Lines.{up_to}
 use Rattle.report.specs.Mapping.{view_of, cell_of, right_in}
 use Rattle.report.proofs.sheet_map.Drawing.push_row.Given as goal
 
