@@ -5,7 +5,8 @@ use Rattle.session.specs.declared.call.Act.{Act}
 use Rattle.session.specs.declared.call.Call.{Call}
 use Rattle.session.specs.declared.call.Lengths.{Lengths}
 use Rattle.session.specs.declared.state.State.{State}
-use Rattle.session.specs.Runs.{state_of, right_lengths}
+use Rattle.session.specs.Lists.{right_lengths}
+use Rattle.session.specs.Runs.{state_of}
 use Rattle.console_words.specs.declared.table_name.TableName.{TableName}
 use Rattle.console_words.specs.declared.table_name.TableName.TheVariants.{Costs, Standing}
 use Rattle.console_words.specs.declared.table_name.TableName.TheVariants.{Partners, Left, Right}

@@ -2,8 +2,8 @@
 
 ghost use Rattle.std.specs.Prelude.{◌≡◌, IfOk};
 ghost use Rattle.sheet.specs.Size.{size_of};
-ghost use Rattle.session.specs.Program.{lengths};
-ghost use Rattle.session.specs.Runs.{state_of, tables_of, right_lengths};
+ghost use Rattle.session.specs.Lists.{lengths, right_lengths};
+ghost use Rattle.session.specs.Runs.{state_of, tables_of};
 
 use crate::answer_lines::push_answer;
 use crate::help::HELP;

@@ -2,7 +2,7 @@
 -- wrong length, or all pairs entered.
 -- Idea: a file has one verdict, so what holds of the verdict that was found holds of every verdict
 -- that the promise asks about.
-use Rattle.std.proofs.Common.{◌≡◌, ℕ, ◌≤◌, List, length, replicate, pos, None, Ok, Err, Result}
+use Rattle.std.proofs.Common.{◌≡◌, ℕ, List, length, replicate, pos, Ok, Err, Result}
 use Rattle.std.proofs.Common.{sym, ap, ◌∙◌, subst, ⊎_elim, arith}
 use Rattle.std.proofs.lemmas.List.{length-replicate}
 use Rattle.cost.specs.declared.plain_kind.Plain.{Plain}
@@ -11,11 +11,10 @@ use Rattle.sheet.specs.declared.fault.Fault.{Fault}
 use Rattle.tables.specs.PairTables.{HavePlaces, costs_opened, standing_opened}
 use Rattle.tables.specs.Together.{ArePairTables}
 use Rattle.pairing.specs.Places.{places_of}
-use Rattle.sheet.specs.Opening.{open_refusal, Opened}
-use Rattle.sheet.specs.Size.{Sheet, sheet_of, size_of}
+use Rattle.sheet.specs.Opening.{open_needs, Opened}
+use Rattle.sheet.specs.Size.{Sheet, IsSize, sheet_of, size_of}
 use Rattle.sheet.specs.Refusals.{fault}
-use Rattle.sheet.proofs.Opening.{open_accepts, open_misfits, open_places}
-use Rattle.sheet.proofs.Refused.{from_err, from_ok, kept, renewed}
+use Rattle.sheet.proofs.Needs.{met_or_not}
 use Rattle.orderfile.specs.Format.{Order, Sound, States}
 use Rattle.orderfile.specs.Faults.{FirstFault}
 use Rattle.orderfile.specs.Loading.{plain, plain_kind, costs_after, standing_after, Shows}
@@ -112,55 +111,40 @@ module _ (file : List ℕ) (costs : List Plain) (standing : List ℕ) (r : Resul
 -- what opening tells, for the size that the file states
 module _ (order : Order) (n : ℕ) (size : order.size ≡ n) (sound : Sound order) (costs : List Plain)
     (standing : List ℕ) (costs' : List Plain) (standing' : List ℕ) where
-  some : 1 ≤ n
-  some = omega (arith, sound.some)
-
-  few : n ≤ 64
-  few = omega (arith, sound.few)
+  is_size : IsSize n
+  is_size = record { some = omega (arith, sound.some); few = omega (arith, sound.few) }
 
   pub open_unfit : (f : Fault) → Opened (plain (pos 0)) n costs standing (Err f) costs' standing'
       → HavePlaces order.size (length costs) (length standing) → ⊥
-  open_unfit f h fit =
-      let refuses = from_err _ (sheet_of n) f h.answers in
-      let fits : HavePlaces n (length costs) (length standing) =
-      subst (λ (k : ℕ). HavePlaces k (length costs) (length standing)) size fit in
-      let none = open_accepts n (length costs) (length standing) some few fits in
-      let z : ◌≡◌ {A = ℕ} 0 1 = cc in
-      omega arith
+  open_unfit f h fit = met_or_not (open_needs n (length costs) (length standing)) f (
+    is_size,
+    (subst (λ (k : ℕ). HavePlaces k (length costs) (length standing)) size fit, tt),
+  ) h.0
 
   pub open_fault : (f : Fault) → Opened (plain (pos 0)) n costs standing (Err f) costs' standing'
       → f ≡ fault TableLength 0
-  open_fault f h =
-      let refuses = from_err _ (sheet_of n) f h.answers in
-      let wrong = open_misfits n (length costs) (length standing) some few
-      (λ fits. open_unfit f h (subst (λ (k : ℕ). HavePlaces k (length costs) (length standing))
-      (sym size) fits)) in
-      cc
+  open_fault f h = ⊎_elim (λ unmet. absurd (unmet.0 is_size))
+      (λ more. ⊎_elim (λ unmet. unmet.1) (λ none. absurd none.1) more.1) h.0
 
   pub open_kept : (f : Fault) → Opened (plain (pos 0)) n costs standing (Err f) costs' standing'
       → (costs' ≡ costs) × (standing' ≡ standing)
-  open_kept f h =
-      let refuses = from_err _ (sheet_of n) f h.answers in
-      (h.blanks ∙ sym (kept _ f _ _ refuses), h.clears ∙ sym (kept _ f _ _ refuses))
+  open_kept f h = (h.1.costs_are, h.1.standing_are)
 
 -- a sheet that was opened has the size asked for, over blank tables
 module _ (n : ℕ) (costs : List Plain) (standing : List ℕ) (sheet : Sheet) (costs' : List Plain)
     (standing' : List ℕ)
     (h : Opened (plain (pos 0)) n costs standing (Ok sheet) costs' standing') where
-  opens : (open_refusal n (length costs) (length standing) ≡ None) × (sheet ≡ sheet_of n)
-  opens = from_ok _ (sheet_of n) sheet h.answers
-
   pub opened_size : sheet.size ≡ n
-  opened_size = ap size_of opens.1
+  opened_size = ap size_of h.1.0
 
   pub opened_places : HavePlaces n (length costs) (length standing)
-  opened_places = open_places n (length costs) (length standing) opens.0
+  opened_places = h.0.1.0
 
   pub opened_costs : costs' ≡ replicate (places_of n) (plain (pos 0))
-  opened_costs = h.blanks ∙ sym (renewed _ _ _ opens.0)
+  opened_costs = h.1.1.costs_are
 
   pub opened_standing : standing' ≡ replicate (places_of n) 0
-  opened_standing = h.clears ∙ sym (renewed _ _ _ opens.0)
+  opened_standing = h.1.1.standing_are
 
   pub opened_have : HavePlaces n (length costs') (length standing')
   opened_have = record {

@@ -1,6 +1,6 @@
 -- A state has the calls that the code tells apart there, and no other.
 -- Idea: by cases of what a call asks for, and of the state.
-use Rattle.std.proofs.Common.{◌≡◌, ℕ, true, false, refl, arith}
+use Rattle.std.proofs.Common.{◌≡◌, ℕ, true, false, refl}
 use Rattle.session.specs.declared.call.Act.{Act}
 use Rattle.session.specs.declared.call.Act.TheVariants.{Enter, Strike, Read, Settle, Quote, Total}
 use Rattle.session.specs.declared.call.Act.TheVariants.{Marks, Start, Next, Close, Reopen}
@@ -11,12 +11,12 @@ pub phase_told : (p q : Phase) → same_phase p q ≡ true → p ≡ q
 phase_told opened opened e = refl
 phase_told settled settled e = refl
 phase_told walking walking e = refl
-phase_told opened settled e = let z : ◌≡◌ {A = ℕ} 0 1 = cc in absurd (omega arith)
-phase_told opened walking e = let z : ◌≡◌ {A = ℕ} 0 1 = cc in absurd (omega arith)
-phase_told settled opened e = let z : ◌≡◌ {A = ℕ} 0 1 = cc in absurd (omega arith)
-phase_told settled walking e = let z : ◌≡◌ {A = ℕ} 0 1 = cc in absurd (omega arith)
-phase_told walking opened e = let z : ◌≡◌ {A = ℕ} 0 1 = cc in absurd (omega arith)
-phase_told walking settled e = let z : ◌≡◌ {A = ℕ} 0 1 = cc in absurd (omega arith)
+phase_told opened settled e = cc
+phase_told opened walking e = cc
+phase_told settled opened e = cc
+phase_told settled walking e = cc
+phase_told walking opened e = cc
+phase_told walking settled e = cc
 
 pub open_allows : {K : Type 0} (act : Act K)
     → ((l r : ℕ) (c : K) → act ≡ Enter l r c → ⊥)

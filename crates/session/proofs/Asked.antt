@@ -3,260 +3,255 @@
 -- Idea: the needs of each call but the one that the tables hold together are the book's, and that
 -- one is met where the lengths are right.
 use Rattle.std.proofs.Common.{◌≡◌, ◌≢◌, ℕ, Bool, true, List, [], ◌∷◌, length, Some, None}
-use Rattle.std.proofs.Common.{Ok, Err, Option, Result, sym, refl, ap, ◌∙◌, subst, arith}
+use Rattle.std.proofs.Common.{Ok, Err, Option, Result, sym, refl, ap, ◌∙◌, subst, inl, inr, arith}
 use Rattle.std.specs.Prelude.{MatchOption, ⊤}
 use Rattle.cost.specs.declared.Cost.{Ghosts}
+use Rattle.cost.specs.Columns.{plus, minus}
 use Rattle.pairing.specs.Grid.{Grid, total}
+use Rattle.pairing.specs.Largest.{Unpaired}
 use Rattle.pairing.specs.Optima.{optima}
 use Rattle.pairing.specs.Places.{places_of}
 use Rattle.matching.specs.Answers.{IsNth, MarksOf}
 use Rattle.matching.specs.declared.augmenting.Shortfall.{Shortfall}
-use Rattle.pairing.specs.Largest.{Unpaired}
 use Rattle.tables.specs.Lent.{grid, HasLengths}
-use Rattle.tables.specs.PairTables.{byte_of, says_stands}
-use Rattle.tables.specs.Together.{Together}
-use Rattle.sheet.specs.declared.fault.Cause.TheVariants.{TableLength, Block, Absent, Inconsistent}
+use Rattle.tables.specs.PairTables.{byte_of, says_stands, cell}
+use Rattle.tables.specs.Said.{columns_at}
 use Rattle.sheet.specs.declared.fault.Cause.TheVariants.{NoPerfectPairing}
 use Rattle.sheet.specs.declared.fault.Fault.{Fault}
 use Rattle.sheet.specs.declared.fault.Refusal.{Refusal}
-use Rattle.sheet.specs.Needs.{Needs, need, nothing, Responds}
 use Rattle.sheet.specs.Refusals.{fault}
+use Rattle.sheet.specs.Pairs.{AreBlocks}
 use Rattle.sheet.specs.Size.{Sheet, size_of}
-use Rattle.sheet.specs.Walking.{AreBlocks, quote_needs, IsQuote, total_needs, marks_needs, AreMarks}
-use Rattle.sheet.specs.Walking.{Starts, IsStarted}
-use Rattle.session.specs.declared.call.Act.{Act}
+use Rattle.sheet.specs.Walking.{quote_needs, IsQuote, total_needs, marks_needs, AreMarks}
+use Rattle.sheet.specs.Walking.{start_needs, Starts, IsStarted}
 use Rattle.session.specs.declared.call.Act.TheVariants.{Quote, Total, Marks, Start, Reopen}
 use Rattle.session.specs.Book.{Book, opened, settled, walking, stands_in, needs}
-use Rattle.session.specs.Book.{allows, grid_in}
-use Rattle.session.specs.Exchange.{Outcome, tells}
-use Rattle.session.specs.Promise.{Settling, IsMarked}
-use Rattle.session.specs.Program.{State, state_at, Tables, lengths, lending, HandsAll, told}
-use Rattle.session.specs.Program.{marks_told, start_told, moved_to}
-use Rattle.session.proofs.Cells.{alike}
-use Rattle.session.proofs.Fits.{fits}
-use Rattle.session.proofs.Held.{Ready, Held, Next, Beyond}
-use Rattle.session.proofs.Judging.{refused_next, accepted_next, never_six, length_not_six}
-use Rattle.session.proofs.Judging.{block_not_six, absent_not_six}
-use Rattle.session.proofs.Needs.{Mirror, refuses, passes, without}
+use Rattle.session.specs.Exchange.{Reply, gives}
+use Rattle.session.specs.Lists.{Lists, SameIn, lengths, rests_on, the_walk}
+use Rattle.session.specs.Promise.{Settling, IsMarked, IsQuoted}
+use Rattle.session.specs.Program.{SheetAt, state_at, IsAnswered, reply_of, state_after}
+use Rattle.session.proofs.Cells.{alike, stands_alike}
+use Rattle.session.proofs.Fits.{fits, fits_with, blocks_decided}
+use Rattle.session.proofs.Held.{Keeps, GoesOn, IsReady, each}
+use Rattle.session.proofs.Judging.{goes_on_by, refused_next, accepted_next, never_six}
+use Rattle.session.proofs.Needs.{Mirror, refuses, passes}
+use Rattle.session.proofs.Resting.{OneCall, n, here, book, lent, allowed, still, marks_alone}
+use Rattle.session.proofs.Resting.{walk_alone}
 use Rattle.session.proofs.Resting as rest
 use Rattle.session.proofs.Walks.{goes_on}
 
-module _ {K : Type 0} (kind : Ghosts K) (sheet : Sheet) (swaps : Bool) (b : Book K) (s : Settling K)
-    (own x x' own' : Tables K) (phase_is : settled ≡ b.phase)
-    (held : Held kind (size_of sheet) b s (state_at settled sheet) own)
-    (hands : HandsAll swaps (state_at settled sheet) own x x' own') where
-  abbrev n : ℕ
-  n = size_of sheet
+module _ {K : Type 0} {kind : Ghosts K} {swaps : Bool} {b : Book K} {s : Settling K}
+    (m : OneCall kind swaps settled b s) where
+  ready : IsReady kind (n m) (book m) s m.own
+  ready = m.keeps.beyond
 
-  abbrev here : State
-  here = state_at settled sheet
+  optima_are : HasLengths (lent m) → optima (grid kind (lent m)) ≡ optima (book m)
+  optima_are = rest.optima_are m (λ table e. e) ready
 
-  abbrev book : Grid
-  book = grid_in kind n b
+  -- a call that leaves all tables
+  all_stay : m.x' ≡ m.x → Keeps kind (n m) b s (here m) m.own'
+  all_stay e = still m (marks_alone m.x m.x' (e ∙ ap (λ y. record m.x { marks = y.marks }) (sym e)))
 
-  ready : Ready kind n book s own
-  ready = subst (λ p. Beyond kind n p book s own) (sym phase_is) held.beyond
+  -- ---- Quote
 
-  allowed : (act : Act K) → allows settled act ≡ true → allows b.phase act ≡ true
-  allowed act e = subst (λ p. allows p act ≡ true) phase_is e
+  module _ (l r : ℕ) where
+    stands_is : HasLengths (lent m) → AreBlocks (n m) l r
+        → says_stands (byte_of (n m) m.x.standing l r) ≡ stands_in b.cells l r
+    stands_is h are =
+        ap (λ t. says_stands (byte_of t.size t.standing l r))
+        (rest.own_lent m (λ table e. e) ready h)
+        ∙ stands_alike kind (n m) b m.own.costs m.own.standing m.keeps.shows l r are.left_below
+        are.right_below
 
-  together : HasLengths (lending n x) → Together kind (lending n x)
-  together = rest.together kind sheet swaps settled refl b s own x x' own' hands held.shows ready
+    quote_mirror : Mirror (needs kind (n m) b.cells (lengths m.x) (Quote l r))
+        (quote_needs kind (lent m) l r)
+    quote_mirror = inl (
+      fits (n m) m.x,
+      refl,
+      λ h.
+          inr (
+            rest.together m (λ table e. e) ready h,
+            inl (
+              blocks_decided (n m) l r,
+              refl,
+              λ are.
+                  inl ((λ e. stands_is h are ∙ e, λ e. sym (stands_is h are) ∙ e), refl, λ e. tt),
+            ),
+          ),
+    )
 
-  -- the tables that the call does not write stay
-  module _ (ec : x'.costs ≡ x.costs) (es : x'.standing ≡ x.standing)
-      (ep : x'.partners ≡ x.partners) (el : x'.left ≡ x.left) (er : x'.right ≡ x.right) where
-    ready_for : (s' : Settling K) → s'.grid ≡ s.grid → s'.written ≡ s.written
-        → Ready kind n book s' own'
-    ready_for = rest.ready_for kind sheet swaps settled refl b s own x x' own' hands held.shows
-        ready ec es ep el er
+    quoted : (q : K × K) → HasLengths (lent m) → AreBlocks (n m) l r
+        → IsQuote kind (lent m) l r q
+        → IsQuoted kind (n m) (b.cells l r) s.settlement l r q
+    quoted q h are is =
+        let own = rest.own_lent m (λ table e. e) ready h in
+        record {
+          cost = sym (each kind (n m) b.cells m.own.costs m.own.standing m.keeps.shows l r
+              are.left_below are.right_below)
+              ∙ ap (λ t. cell kind.zero t.size t.costs t.standing l r) (sym own) ∙ is.cost;
+          slack = is.slack
+              ∙ ap (λ t. minus (kind.meaning q.0) (plus (columns_at kind t.left l)
+              (columns_at kind t.right r))) own
+              ∙ ap (λ xs. minus (kind.meaning q.0) (plus (columns_at kind xs l)
+              (columns_at kind m.own.right r))) ready.left_is
+              ∙ ap (λ xs. minus (kind.meaning q.0) (plus (columns_at kind s.settlement.left l)
+              (columns_at kind xs r))) ready.right_is;
+        }
 
-    still : Held kind n b s here own'
-    still = record {
-      phase_is = held.phase_is;
-      size_is = held.size_is;
-      shows = rest.still_shows kind sheet swaps settled refl b s own x x' own' hands held.shows
-          ready ec es ep el er;
-      sound = held.sound;
-      beyond = subst (λ p. Beyond kind n p book s own') phase_is (ready_for s refl refl);
-    }
+    pub quotes : (o : Reply (K × K)) (state : SheetAt)
+        → IsAnswered kind (here m) (Quote l r) o m.x m.x' state
+        → GoesOn kind (n m) b s (Quote l r) (lengths m.x) o state m.own'
+    quotes o state h =
+        goes_on_by kind (n m) b s (Quote l r) (lengths m.x) o (here m) m.own'
+        (quote_needs kind (lent m) l r) (λ q. q) h.0 state h.1 (IsQuote kind (lent m) l r) ⊤ h.2
+        h.4 (allowed m (Quote l r) refl) quote_mirror (λ e. cc, (λ e. cc, (λ e. cc, tt)))
+        (λ q met is. (quoted q met.0 met.1.1.0 is, all_stay h.3)) (λ _. all_stay h.3)
 
-    -- ---- Quote
-    module _ (l r : ℕ) where
-      abbrev lean : Needs
-      lean = rest.lean_quote kind sheet swaps settled refl b s own x x' own' hands held.shows ready
-          l r
+  -- ---- Total
 
-      mirror : Mirror (needs kind n b.cells (lengths x) (Quote l r)) lean
-      mirror = rest.quote_mirror kind sheet swaps settled refl b s own x x' own' hands held.shows
-          ready l r
+  pub totals : (o : Reply K) (state : SheetAt)
+      → IsAnswered kind (here m) Total o m.x m.x' state
+      → GoesOn kind (n m) b s Total (lengths m.x) o state m.own'
+  totals o state h =
+      goes_on_by kind (n m) b s Total (lengths m.x) o (here m) m.own'
+      (total_needs kind (lent m)) (λ sum. sum) h.0 state h.1
+      (λ sum. kind.meaning sum ≡ total (grid kind (lent m)) m.x.partners) ⊤ h.2 h.4
+      (allowed m Total refl)
+      (inl (fits (n m) m.x, refl, λ long. (rest.together m (λ table e. e) ready long, tt)))
+      (λ e. cc, tt)
+      (λ sum met is. (
+        is ∙ ap (λ t. total (grid kind t) t.partners) (rest.own_lent m (λ table e. e) ready met.0)
+            ∙ (alike kind (n m) b m.own.costs m.own.standing m.keeps.shows).totals m.own.partners
+            ready.together.perfect
+            ∙ ap (λ p. total (book m) p) (sym ready.first.1),
+        all_stay h.3,
+      )) (λ _. all_stay h.3)
 
-      pub quotes : (a : Result (K × K) Fault) (o : Outcome (K × K)) → o ≡ told a
-          → Responds (quote_needs kind (lending n x) l r) a (IsQuote kind (lending n x) l r) ⊤
-          → Next kind n b s (Quote l r) (lengths x) o here own'
-      quotes (Ok q) o eo h =
-          accepted_next kind n b s (Quote l r) (lengths x) o here own' q eo
-          (allowed (Quote l r) refl)
-          (passes (needs kind n b.cells (lengths x) (Quote l r)) lean mirror
-          (h.0.0, (h.0.1.1.0, (h.0.1.1.1.0, tt))))
-          (rest.quoted kind sheet swaps settled refl b s own x x' own' hands held.shows ready l r q
-          h.0.0 h.0.1.1.0 h.1) still
-      quotes (Err f) o eo h =
-          let q = refuses (needs kind n b.cells (lengths x) (Quote l r)) lean f mirror
-          (without (HasLengths (lending n x)) (Together kind (lending n x)) TableLength Inconsistent
-          (need (AreBlocks n l r) Block
-          (need (says_stands (byte_of n x.standing l r) ≡ true) Absent nothing)) f together h.0) in
-          refused_next kind n b s (Quote l r) (lengths x) o here own' f None eo
-          (allowed (Quote l r) refl) q
-          (never_six (needs kind n b.cells (lengths x) (Quote l r)) f
-          (length_not_six, (block_not_six, (absent_not_six, tt))) q) still
+  -- ---- Marks
 
-    -- ---- Total
-    total_mirror : Mirror (needs kind n b.cells (lengths x) Total)
-        (need (HasLengths (lending n x)) TableLength nothing)
-    total_mirror = (fits n x, refl, λ h. tt)
+  pub marks : (o : Reply (List ℕ)) (state : SheetAt)
+      → IsAnswered kind (here m) Marks o m.x m.x' state
+      → GoesOn kind (n m) b s Marks (lengths m.x) o state m.own'
+  marks o state h =
+      let same = marks_alone m.x m.x' h.3 in
+      let marked = λ (long : HasLengths (lent m)) (is : AreMarks kind (lent m) m.x'.marks).
+      subst (λ ps. MarksOf (n m) ps m.x'.marks) (optima_are long) is.marks in
+      goes_on_by kind (n m) b s Marks (lengths m.x) o (here m) m.own'
+      (marks_needs kind (lent m) (length m.x.marks)) (λ u. m.x'.marks) h.0 state h.1
+      (λ u. AreMarks kind (lent m) m.x'.marks) (m.x'.marks ≡ m.x.marks) h.2 h.4
+      (allowed m Marks refl)
+      (inl (
+        fits_with (n m) m.x (length m.x.marks) (places_of (n m)),
+        refl,
+        λ long.
+            (rest.together m (λ table e. e) ready long.0, tt),
+      )) (λ e. cc, tt)
+      (λ u met is. (
+        record { long = is.long; marks = marked met.0.0 is },
+        record {
+          phase_is = m.keeps.phase_is;
+          size_is = m.keeps.size_is;
+          shows = (still m same).shows;
+          walks = record {
+            walks = m.keeps.walks.walks;
+            marks = (
+              subst (λ (g : Grid). MarksOf (n m) (optima g) m.x'.marks) (sym ready.grid_is)
+                  (marked met.0.0 is),
+              m.keeps.walks.marks,
+            );
+          };
+          beyond = rest.still_ready m (λ table e. e) same ready
+              (record s { marks = m.x'.marks ∷ s.marks }) refl refl;
+        },
+      )) (λ _. still m same)
 
-    pub totals : (a : Result K Fault) (o : Outcome K) → o ≡ told a
-        → Responds (total_needs kind (lending n x)) a
-        (λ sum. kind.meaning sum ≡ total (grid kind (lending n x)) x.partners) ⊤
-        → Next kind n b s Total (lengths x) o here own'
-    totals (Ok sum) o eo h =
-        accepted_next kind n b s Total (lengths x) o here own' sum eo (allowed Total refl)
-        (passes (needs kind n b.cells (lengths x) Total)
-        (need (HasLengths (lending n x)) TableLength nothing) total_mirror (h.0.0, tt))
-        (h.1
-        ∙ ap (λ g. total g x.partners) (rest.grid_is kind sheet swaps settled refl b s own x x' own'
-        hands held.shows ready h.0.0)
-        ∙ ap (λ p. total (grid kind (lending n own)) p) (rest.own_partners kind sheet swaps settled
-        refl b s own x x' own' hands held.shows ready h.0.0)
-        ∙ (alike kind n b own.costs own.standing held.shows).totals own.partners
-        ready.together.perfect
-        ∙ ap (λ p. total book p) (sym ready.first.1)) still
-    totals (Err f) o eo h =
-        let q = refuses (needs kind n b.cells (lengths x) Total)
-        (need (HasLengths (lending n x)) TableLength nothing) f total_mirror
-        (without (HasLengths (lending n x)) (Together kind (lending n x)) TableLength Inconsistent
-        nothing f together h.0) in
-        refused_next kind n b s Total (lengths x) o here own' f None eo (allowed Total refl) q
-        (never_six (needs kind n b.cells (lengths x) Total) f (length_not_six, tt) q) still
+  -- ---- Start
 
-    -- ---- Marks
-    module _ (u : Unit {0})
-        (table_is : Responds (marks_needs kind (lending n x) (length x.marks)) (Ok u)
-        (λ u. AreMarks kind (lending n x) x'.marks) (x'.marks ≡ x.marks)) where
-      marked : IsMarked kind n book x'.marks
-      marked = record {
-        long = table_is.1.long;
-        marks = subst (λ ps. MarksOf n ps x'.marks)
-            (rest.optima_are_own kind sheet swaps settled refl b s own x x' own' hands held.shows
-            ready table_is.0.0.0) table_is.1.marks;
-      }
+  module _ (same : SameIn (rests_on settled) m.x' m.x) where
+    start_mirror : Mirror (needs kind (n m) b.cells (lengths m.x) Start)
+        (start_needs kind (lent m) (length m.x.walk))
+    start_mirror = inl (
+      fits_with (n m) m.x (length m.x.walk) (n m),
+      refl,
+      λ long.
+          (rest.together m (λ table e. e) ready long.0, tt),
+    )
 
-      with_marks : Held kind n b (record s { marks = x'.marks ∷ s.marks }) here own'
-      with_marks = record {
-        phase_is = held.phase_is;
-        size_is = held.size_is;
-        shows = still.shows;
-        sound = record {
-          walks = held.sound.walks;
-          marks = (
-            subst (λ (g : Grid). MarksOf n (optima g) x'.marks) (sym ready.grid_is) marked.marks,
-            held.sound.marks,
+    after : (walk : Sheet) → IsStarted kind (lent m) m.sheet walk m.x.walk m.x'.walk
+        → Keeps kind (n m) (record b { phase = walking })
+        (record s { walk = Some m.x'.walk ∷ []; earlier = s.walk ∷ s.earlier })
+        (state_at walking walk) m.own'
+    after walk is =
+        let first = subst (λ ps. IsNth ps 0 m.x'.walk) (optima_are is.met.0.0) is.first in
+        record {
+          phase_is = refl;
+          size_is = ap size_of is.same;
+          shows = (still m same).shows;
+          walks = record {
+            walks = (
+              goes_on (optima s.grid) [] m.x'.walk tt
+                  (subst (λ (g : Grid). IsNth (optima g) 0 m.x'.walk) (sym ready.grid_is) first),
+              m.keeps.walks.walks,
+            );
+            marks = m.keeps.walks.marks;
+          };
+          beyond = (
+            rest.still_ready m (λ table e. e) same ready
+                (record s { walk = Some m.x'.walk ∷ []; earlier = s.walk ∷ s.earlier }) refl refl,
+            record {
+              place = 0;
+              is = subst (IsNth (optima (book m)) 0) (sym ((m.hands the_walk).kept is.met.0.1))
+                  first;
+              as_far = omega (arith, first.0);
+            },
           );
-        };
-        beyond = subst (λ p. Beyond kind n p book (record s { marks = x'.marks ∷ s.marks }) own')
-            phase_is (ready_for (record s { marks = x'.marks ∷ s.marks }) refl refl);
-      }
+        }
 
-    pub marks : (a : Result (Unit {0}) Fault) (o : Outcome (List ℕ)) → o ≡ marks_told x'.marks a
-        → Responds (marks_needs kind (lending n x) (length x.marks)) a
-        (λ u. AreMarks kind (lending n x) x'.marks) (x'.marks ≡ x.marks)
-        → Next kind n b s Marks (lengths x) o here own'
-    marks (Ok u) o eo h =
-        accepted_next kind n b s Marks (lengths x) o here own' x'.marks eo (allowed Marks refl)
-        (rest.lean_passes kind sheet swaps settled refl b s own x x' own' hands held.shows ready
-        (length x.marks) (places_of n) h.0.0)
-        (marked u h) (with_marks u h)
-    marks (Err f) o eo h =
-        let q = rest.lean_refuses kind sheet swaps settled refl b s own x x' own' hands held.shows
-        ready (length x.marks) (places_of n) (Together kind (lending n x)) f (λ k. together k.0)
-        h.0 in
-        refused_next kind n b s Marks (lengths x) o here own' f None eo (allowed Marks refl) q
-        (rest.lean_not_six kind sheet swaps settled refl b s own x x' own' hands held.shows ready
-        (length x.marks) (places_of n) f q) still
-
-    -- ---- Start
-    module _ (walk : Sheet) (is : IsStarted kind (lending n x) sheet walk x.walk x'.walk) where
-      begun : Settling K
-      begun = record s { walk = Some x'.walk ∷ []; earlier = s.walk ∷ s.earlier }
-
-      first : IsNth (optima book) 0 x'.walk
-      first = subst (λ ps. IsNth ps 0 x'.walk)
-          (rest.optima_are_own kind sheet swaps settled refl b s own x x' own' hands held.shows
-          ready is.met.0.0) is.first
-
-      after : Held kind n (record b { phase = walking }) begun (state_at walking walk) own'
-      unfolding begun
-      after = record {
-        phase_is = refl;
-        size_is = ap size_of is.same;
-        shows = still.shows;
-        sound = record {
-          walks = (
-            goes_on (optima s.grid) [] x'.walk tt
-                (subst (λ (g : Grid). IsNth (optima g) 0 x'.walk) (sym ready.grid_is) first),
-            held.sound.walks,
-          );
-          marks = held.sound.marks;
-        };
-        beyond = (
-          ready_for (record s { walk = Some x'.walk ∷ []; earlier = s.walk ∷ s.earlier }) refl refl,
-          record {
-            place = 0;
-            is = subst (λ xs. IsNth (optima book) 0 xs) (sym (hands.walk.kept is.met.0.1)) first;
-            as_far = omega (arith, first.0);
-          },
-        );
-      }
-
-    unstarted_explained : (f : Fault) (w : Option Shortfall) → w ≡ None
+    unexplained : (f : Fault) (w : Option Shortfall) → w ≡ None
         → f ≢ fault NoPerfectPairing 0
         → MatchOption w (f ≢ fault NoPerfectPairing 0)
-        (λ k. (f ≡ fault NoPerfectPairing 0) × Unpaired n (stands_in b.cells) k.crowd k.short)
-    unstarted_explained f w e h =
-        subst (λ v. MatchOption v (f ≢ fault NoPerfectPairing 0)
-        (λ k. (f ≡ fault NoPerfectPairing 0) × Unpaired n (stands_in b.cells) k.crowd k.short))
-        (sym e) h
+        (λ k. (f ≡ fault NoPerfectPairing 0)
+        × Unpaired (n m) (stands_in b.cells) k.crowd k.short)
+    unexplained f w e h = rw e h
 
-    pub starts : (a : Result Sheet (Refusal Sheet)) (o : Outcome (List ℕ))
-        → o ≡ start_told x'.walk a → Starts kind (lending n x) sheet x.walk x'.walk a
-        → Next kind n b s Start (lengths x) o (moved_to walking settled a) own'
-    unfolding begun
-    starts (Ok walk) o eo is =
-        accepted_next kind n b s Start (lengths x) o (state_at walking walk) own' x'.walk eo
-        (allowed Start refl)
-        (rest.lean_passes kind sheet swaps settled refl b s own x x' own' hands held.shows ready
-        (length x.walk) n is.met.0) tt (after walk is)
-    starts (Err r) o eo is =
-        let q = rest.lean_refuses kind sheet swaps settled refl b s own x x' own' hands held.shows
-        ready (length x.walk) n (Together kind (lending n x)) r.fault (λ k. together k.0)
+    starts_by : (a : Result Sheet (Refusal Sheet)) (o : Reply (List ℕ))
+        → o ≡ reply_of m.x'.walk a → Starts kind (lent m) m.sheet m.x.walk m.x'.walk a
+        → GoesOn kind (n m) b s Start (lengths m.x) o (state_after walking settled a) m.own'
+    starts_by (Ok walk) o eo is =
+        accepted_next kind (n m) b s Start (lengths m.x) o (state_at walking walk) m.own' m.x'.walk
+        eo (allowed m Start refl)
+        (passes (needs kind (n m) b.cells (lengths m.x) Start)
+        (start_needs kind (lent m) (length m.x.walk)) start_mirror is.met) tt
+        (after walk is)
+    starts_by (Err r) o eo is =
+        let checks = needs kind (n m) b.cells (lengths m.x) Start in
+        let q = refuses checks (start_needs kind (lent m) (length m.x.walk)) r.fault start_mirror
         is.unmet in
-        refused_next kind n b s Start (lengths x) o (state_at settled r.state) own' r.fault
-        r.shortfall eo (allowed Start refl) q
-        (unstarted_explained r.fault r.shortfall is.unexplained
-        (rest.lean_not_six kind sheet swaps settled refl b s own x x' own' hands held.shows ready
-        (length x.walk) n r.fault q))
-        (subst (λ (k : Sheet). Held kind n b s (state_at settled k) own') (sym is.same) still)
+        refused_next kind (n m) b s Start (lengths m.x) o (state_at settled r.state) m.own' r.fault
+        r.shortfall eo (allowed m Start refl) q
+        (unexplained r.fault r.shortfall is.unexplained (never_six checks r.fault (λ e. cc, tt) q))
+        (subst (λ (k : Sheet). Keeps kind (n m) b s (state_at settled k) m.own') (sym is.same)
+        (still m same))
 
-    -- ---- Reopen
-    pub reopens : (o : Outcome (Unit {0})) → o ≡ tells tt
-        → Next kind n b s Reopen (lengths x) o (state_at opened sheet) own'
-    reopens o eo =
-        accepted_next kind n b s Reopen (lengths x) o (state_at opened sheet) own' tt eo
-        (allowed Reopen refl) refl tt (record {
-          phase_is = refl;
-          size_is = held.size_is;
-          shows = still.shows;
-          sound = held.sound;
-          beyond = tt;
-        })
+  pub starts : (o : Reply (List ℕ)) (state : SheetAt)
+      → IsAnswered kind (here m) Start o m.x m.x' state
+      → GoesOn kind (n m) b s Start (lengths m.x) o state m.own'
+  starts o state h =
+      subst (λ st. GoesOn kind (n m) b s Start (lengths m.x) o st m.own') (sym h.4)
+      (starts_by (walk_alone m.x m.x' h.3) h.0 o h.1 h.2)
+
+  -- ---- Reopen
+
+  pub reopens : (o : Reply (Unit {0})) (state : SheetAt)
+      → IsAnswered kind (here m) Reopen o m.x m.x' state
+      → GoesOn kind (n m) b s Reopen (lengths m.x) o state m.own'
+  reopens o state h =
+      subst (λ st. GoesOn kind (n m) b s Reopen (lengths m.x) o st m.own') (sym h.2)
+      (accepted_next kind (n m) b s Reopen (lengths m.x) o (state_at opened m.sheet) m.own' tt h.0
+      (allowed m Reopen refl) refl tt (record {
+        phase_is = refl;
+        size_is = m.keeps.size_is;
+        shows = (all_stay h.1).shows;
+        walks = m.keeps.walks;
+        beyond = tt;
+      }))

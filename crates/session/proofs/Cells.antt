@@ -9,9 +9,10 @@ use Rattle.std.specs.Prelude.{is_some}
 use Rattle.std.proofs.lemmas.List.{length-set, length-replicate, get_or-map, get_or-replicate}
 use Rattle.std.proofs.lemmas.List.{get_or-set_same, get_or-set_other}
 use Rattle.std.proofs.lemmas.Bool.{cond-true, and_parts, and_from, eqb-true}
-use Rattle.std.proofs.lemmas.Bool.{eq-eqb}
+use Rattle.std.proofs.lemmas.Bool.{eq-eqb, false≢true}
 use Rattle.cost.specs.declared.Cost.{Ghosts}
 use Rattle.cost.specs.Columns.{Within}
+use Rattle.cost.specs.declared.TheConstants.{COST_LIMIT}
 use Rattle.pairing.specs.Inside.{SameInside}
 use Rattle.pairing.specs.Theorems.{AlikeInside}
 use Rattle.pairing.proofs.Inside.{inside_matters}
@@ -76,9 +77,8 @@ written says other n cells table long holds l r hl hr new i j hi hj =
           (omega (arith, place_below n l r hl hr, long))
       | false ↦ λ k. get_or-set_other table (place_of n l r) (place_of n i j) (says new) other
           (apart n l r i j hr hj (λ same.
-          let z : ◌≡◌ {A = Bool} true false =
-          sym (and_from (eqb i l) (eqb j r) (eq-eqb i l same.0) (eq-eqb j r same.1)) ∙ k in
-          let one : ◌≡◌ {A = ℕ} 0 1 = cc in absurd (omega arith))) ∙ holds i j hi hj
+          false≢true (sym k ∙ and_from (eqb i l) (eqb j r) (eq-eqb i l same.0)
+          (eq-eqb j r same.1)))) ∙ holds i j hi hj
     ] refl
 
 module _ {K : Type 0} (kind : Ghosts K) (n : ℕ) (cells : ℕ → ℕ → Option K) (costs : List K)
@@ -86,7 +86,7 @@ module _ {K : Type 0} (kind : Ghosts K) (n : ℕ) (cells : ℕ → ℕ → Optio
     (hr : r < n) where
   pub written_shows : (new : Option K)
       → (says_stands (byte_in new) ≡ true
-      → Within 1000000000 (kind.meaning (cost_in kind.zero new)))
+      → Within COST_LIMIT (kind.meaning (cost_in kind.zero new)))
       → Shows kind n (with_cell cells l r new)
       (set costs (place_of n l r) (cost_in kind.zero new))
       (set standing (place_of n l r) (byte_in new))

@@ -7,12 +7,23 @@ use Rattle.tables.specs.Lent.{HasLengths}
 use Rattle.tables.specs.PairTables.{HavePlaces}
 use Rattle.tables.proofs.Lengths.{places_from, places_told}
 use Rattle.session.specs.Book.{pair_tables_fit, tables_fit}
-use Rattle.session.specs.Program.{Tables, lengths, lending}
+use Rattle.session.specs.Lists.{Lists, lengths, lent_of}
+use Rattle.sheet.specs.Pairs.{AreBlocks, are_blocks}
+use Rattle.sheet.proofs.Pairs.{blocks_from, blocks_told}
 
-module _ {K : Type 0} (n : ℕ) (x : Tables K) where
-  pub pairs_told : pair_tables_fit n (lengths x) ≡ true
-      → HavePlaces n (length x.costs) (length x.standing)
-  pairs_told e = places_told n (length x.costs) (length x.standing) e
+pub blocks_decided : (n l r : ℕ) → Decides (are_blocks n l r) (AreBlocks n l r)
+blocks_decided n l r = (
+  λ e. let both = blocks_told n l r e in record { left_below = both.0; right_below = both.1 },
+  λ are. blocks_from n l r are.left_below are.right_below,
+)
+
+module _ {K : Type 0} (n : ℕ) (x : Lists K) where
+  pub pairs_fit : Decides (pair_tables_fit n (lengths x))
+      (HavePlaces n (length x.costs) (length x.standing))
+  pairs_fit = (
+    places_told n (length x.costs) (length x.standing),
+    places_from n (length x.costs) (length x.standing),
+  )
 
   abbrev pairs : Bool
   pairs = pair_tables_fit n (lengths x)
@@ -34,16 +45,14 @@ module _ {K : Type 0} (n : ℕ) (x : Tables K) where
   decided : Decides (tables_fit n (lengths x)) HaveLengths
   decided = Decides-and (pairs && partners && left) right
       (Decides-and (pairs && partners) left
-      (Decides-and pairs partners
-      (pairs_told, places_from n (length x.costs) (length x.standing))
-      (Decides-eqb (length x.partners) n))
+      (Decides-and pairs partners pairs_fit (Decides-eqb (length x.partners) n))
       (Decides-eqb (length x.left) n))
       (Decides-eqb (length x.right) n)
 
-  pub fits : Decides (tables_fit n (lengths x)) (HasLengths (lending n x))
+  pub fits : Decides (tables_fit n (lengths x)) (HasLengths (lent_of n x))
   fits = Decides-like (tables_fit n (lengths x)) told back decided
     where
-      told : HaveLengths → HasLengths (lending n x)
+      told : HaveLengths → HasLengths (lent_of n x)
       told h = record {
         room = record {
           costs_long = h.0.0.0.costs;
@@ -54,7 +63,7 @@ module _ {K : Type 0} (n : ℕ) (x : Tables K) where
         partners_long = h.0.0.1;
       }
 
-      back : HasLengths (lending n x) → HaveLengths
+      back : HasLengths (lent_of n x) → HaveLengths
       back h = (
         (
           (
@@ -69,6 +78,6 @@ module _ {K : Type 0} (n : ℕ) (x : Tables K) where
   -- with the length of one table more
   pub fits_with : (long size : ℕ)
       → Decides (tables_fit n (lengths x) && eqb long size)
-      (HasLengths (lending n x) × (long ≡ size))
+      (HasLengths (lent_of n x) × (long ≡ size))
   fits_with long size =
       Decides-and (tables_fit n (lengths x)) (eqb long size) fits (Decides-eqb long size)

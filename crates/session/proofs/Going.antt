@@ -11,11 +11,10 @@ use Rattle.std.proofs.lemmas.List.{length-take-le, take_all, take_more, with_ite
 use Rattle.cost.specs.declared.Cost.{Ghosts}
 use Rattle.sheet.specs.declared.fault.Fault.{Fault}
 use Rattle.sheet.specs.declared.fault.Refusal.{Refusal}
-use Rattle.sheet.specs.Opening.{open_refusal, Opened}
-use Rattle.sheet.proofs.Opening.{open_accepts}
-use Rattle.sheet.proofs.Refused.{from_err, from_ok}
+use Rattle.sheet.specs.Opening.{open_needs, Opened}
+use Rattle.sheet.proofs.Needs.{met_or_not}
 use Rattle.sheet.specs.Settling.{Settles}
-use Rattle.sheet.specs.Size.{Sheet, sheet_of, size_of}
+use Rattle.sheet.specs.Size.{Sheet, size_of, IsSize}
 use Rattle.sheet.specs.Walking.{Starts}
 use Rattle.tables.specs.Lent.{Lent}
 use Rattle.session.specs.declared.answer.Answer.{Answer}
@@ -24,33 +23,33 @@ use Rattle.session.specs.declared.call.Act.TheVariants.{Enter, Strike, Read, Set
 use Rattle.session.specs.declared.call.Act.TheVariants.{Marks, Start, Next, Close, Reopen}
 use Rattle.session.specs.declared.call.Call.{Call}
 use Rattle.session.specs.declared.sheet_tables.SheetTables.{SheetTables}
-use Rattle.session.specs.declared.state.State.{State as InState}
+use Rattle.session.specs.declared.state.State.{State}
 use Rattle.session.specs.declared.state.State.TheVariants.{Open}
-use Rattle.session.specs.Exchange.{Told, Outcome, Exchange, call_of}
+use Rattle.session.specs.Exchange.{ValueOf, Reply, Exchange, call_of}
 use Rattle.session.specs.Book.{Phase}
-use Rattle.session.specs.Program.{State, Tables, lengths, moved_to, Answers, Meets, Program, opens}
-use Rattle.session.specs.Program.{calls, EveryProgramKeeps}
-use Rattle.session.specs.Runs.{state_of, right_lengths, Says, AllSay, WasMade, WereMade, Begins}
+use Rattle.session.specs.Lists.{Lists, lengths, right_lengths}
+use Rattle.session.specs.Program.{SheetAt, state_after, IsAnswered, IsCalled, Program, opens, calls}
+use Rattle.session.specs.Program.{EveryProgramKeeps}
+use Rattle.session.specs.Runs.{state_of, IsAnswerOf, AreAnswersOf, WasMade, WereMade, Begins}
 use Rattle.session.specs.Runs.{tables_of, MakesOne, IsSheet, holds_copies}
-use Rattle.session.proofs.Handing.{same_lengths}
 
 -- ---- The size stays
 
 module _ {K : Type 0} (kind : Ghosts K) where
   settle_size : (sheet : Sheet) (x x' : Lent K) (next back : Phase)
       (a : Result Sheet (Refusal Sheet)) → Settles kind sheet x x' a
-      → size_of (moved_to next back a).sheet ≡ size_of sheet
+      → size_of (state_after next back a).sheet ≡ size_of sheet
   settle_size sheet x x' next back (Ok s) h = ap size_of h.same
   settle_size sheet x x' next back (Err r) h = ap size_of h.same
 
   start_size : (sheet : Sheet) (x : Lent K) (list list' : List ℕ) (next back : Phase)
       (a : Result Sheet (Refusal Sheet)) → Starts kind x sheet list list' a
-      → size_of (moved_to next back a).sheet ≡ size_of sheet
+      → size_of (state_after next back a).sheet ≡ size_of sheet
   start_size sheet x list list' next back (Ok s) h = ap size_of h.same
   start_size sheet x list list' next back (Err r) h = ap size_of h.same
 
-  answers_size : (s : State) (act : Act K) (o : Outcome (Told K act)) (x x' : Tables K) (s' : State)
-      → Answers kind s act o x x' s' → size_of s'.sheet ≡ size_of s.sheet
+  answers_size : (s : SheetAt) (act : Act K) (o : Reply (ValueOf K act)) (x x' : Lists K)
+      (s' : SheetAt) → IsAnswered kind s act o x x' s' → size_of s'.sheet ≡ size_of s.sheet
   answers_size s (Enter l r c) o x x' s' m = ap (λ t. size_of t.sheet) m.4
   answers_size s (Strike l r) o x x' s' m = ap (λ t. size_of t.sheet) m.4
   answers_size s (Read l r) o x x' s' m = ap (λ t. size_of t.sheet) m.4
@@ -65,15 +64,15 @@ module _ {K : Type 0} (kind : Ghosts K) where
   answers_size s Close o x x' s' m = ap (λ t. size_of t.sheet) m.2
   answers_size s Reopen o x x' s' m = ap (λ t. size_of t.sheet) m.2
 
-  meets_size : (s : State) (act : Act K) (o : Outcome (Told K act)) (x x' : Tables K) (s' : State)
-      → Meets kind s act o x x' s' → size_of s'.sheet ≡ size_of s.sheet
+  meets_size : (s : SheetAt) (act : Act K) (o : Reply (ValueOf K act)) (x x' : Lists K)
+      (s' : SheetAt) → IsCalled kind s act o x x' s' → size_of s'.sheet ≡ size_of s.sheet
   meets_size s act o x x' s' (inl m) = answers_size s act o x x' s' m.1
   meets_size s act o x x' s' (inr m) = ap (λ t. size_of t.sheet) m.3
 
   -- ---- What a call came to, once it is known
 
-  module _ (state : InState) (old : Tables K) (call : Call K)
-      (made : InState × Result (Answer K) AllocError) (new : Tables K)
+  module _ (state : State) (old : Lists K) (call : Call K)
+      (made : State × Result (Answer K) AllocError) (new : Lists K)
       (makes : MakesOne kind state old call made new) where
     came_to : (r : Result (Answer K) AllocError) → made.1 ≡ r
         → MatchResult r (λ answer. WasMade kind state old call answer made.0 new)
@@ -91,26 +90,26 @@ module _ {K : Type 0} (kind : Ghosts K) where
 
 -- ---- Lists
 
-say_more : {K : Type 0} (cs : List (Call K)) (answers : List (Answer K))
+answers_more : {K : Type 0} (cs : List (Call K)) (answers : List (Answer K))
     (es : List (Exchange K)) (call : Call K) (answer : Answer K) (e : Exchange K)
-    → AllSay cs answers es → call_of e ≡ call → Says e.act e.outcome answer
-    → AllSay (cs ++ call ∷ []) (answers ++ answer ∷ []) (es ++ e ∷ [])
-say_more [] [] [] call answer e h is says = (is, says, tt)
-say_more (c ∷ cs) (a ∷ answers) (x ∷ es) call answer e h is says =
-    (h.0, h.1, say_more cs answers es call answer e h.2 is says)
-say_more [] [] (x ∷ es) call answer e h is says = absurd h
-say_more [] (a ∷ answers) es call answer e h is says = absurd h
-say_more (c ∷ cs) [] es call answer e h is says = absurd h
-say_more (c ∷ cs) (a ∷ answers) [] call answer e h is says = absurd h
+    → AreAnswersOf cs answers es → call_of e ≡ call → IsAnswerOf e.act e.reply answer
+    → AreAnswersOf (cs ++ call ∷ []) (answers ++ answer ∷ []) (es ++ e ∷ [])
+answers_more [] [] [] call answer e h is says = (is, says, tt)
+answers_more (c ∷ cs) (a ∷ answers) (x ∷ es) call answer e h is says =
+    (h.0, h.1, answers_more cs answers es call answer e h.2 is says)
+answers_more [] [] (x ∷ es) call answer e h is says = absurd h
+answers_more [] (a ∷ answers) es call answer e h is says = absurd h
+answers_more (c ∷ cs) [] es call answer e h is says = absurd h
+answers_more (c ∷ cs) (a ∷ answers) [] call answer e h is says = absurd h
 
-say_long : {K : Type 0} (cs : List (Call K)) (answers : List (Answer K))
-    (es : List (Exchange K)) → AllSay cs answers es → length answers ≡ length cs
-say_long [] [] [] h = refl
-say_long (c ∷ cs) (a ∷ answers) (x ∷ es) h = omega (arith, say_long cs answers es h.2)
-say_long [] [] (x ∷ es) h = absurd h
-say_long [] (a ∷ answers) es h = absurd h
-say_long (c ∷ cs) [] es h = absurd h
-say_long (c ∷ cs) (a ∷ answers) [] h = absurd h
+answers_long : {K : Type 0} (cs : List (Call K)) (answers : List (Answer K))
+    (es : List (Exchange K)) → AreAnswersOf cs answers es → length answers ≡ length cs
+answers_long [] [] [] h = refl
+answers_long (c ∷ cs) (a ∷ answers) (x ∷ es) h = omega (arith, answers_long cs answers es h.2)
+answers_long [] [] (x ∷ es) h = absurd h
+answers_long [] (a ∷ answers) es h = absurd h
+answers_long (c ∷ cs) [] es h = absurd h
+answers_long (c ∷ cs) (a ∷ answers) [] h = absurd h
 
 -- ---- A run that goes on
 
@@ -118,21 +117,21 @@ module _ {K : Type 0} (kind : Ghosts K) (n : ℕ) where
   -- `open` at a sound size and over tables of the right lengths: it is never refused, and a program
   -- begins
   module _ (t : SheetTables K) (xs costs : List K) (ys standing : List ℕ) (a : Result Sheet Fault)
-      (some : 1 ≤ n) (few : n ≤ 64) (right : lengths (tables_of t) ≡ right_lengths n)
+      (size : IsSize n) (right : lengths (tables_of t) ≡ right_lengths n)
       (ex : xs ≡ t.costs.items) (ey : ys ≡ t.standing.items)
-      (o : Opened kind.zero n xs ys a costs standing) where
-    accepts : open_refusal n (length xs) (length ys) ≡ None
-    accepts = open_accepts n (length xs) (length ys) some few (record {
-      costs = ap length ex ∙ ap (λ l. l.costs) right;
-      standing = ap length ey ∙ ap (λ l. l.standing) right;
-    })
-
+      (is : Opened kind.zero n xs ys a costs standing) where
     pub opens_always : (f : Fault) → a ≡ Err f → ⊥
     opens_always f e =
-        let z : ◌≡◌ {A = Option Fault} None (Some f) = sym accepts
-        ∙ from_err (open_refusal n (length xs) (length ys)) (sheet_of n) f (sym e ∙ o.answers) in
-        let y : ◌≡◌ {A = ℕ} 0 1 = cc in
-        omega arith
+        met_or_not (open_needs n (length xs) (length ys)) f (
+          size,
+          (
+            record {
+              costs = ap length ex ∙ ap (λ l. l.costs) right;
+              standing = ap length ey ∙ ap (λ l. l.standing) right;
+            },
+            tt,
+          ),
+        ) (rw e at is).0
 
     pub begun : length costs ≡ length xs → length standing ≡ length ys → (sheet : Sheet)
         → a ≡ Ok sheet → Begins kind n (tables_of t) (Open sheet) (tables_of (record t {
@@ -140,45 +139,37 @@ module _ {K : Type 0} (kind : Ghosts K) (n : ℕ) where
           standing = with_items t.standing standing;
         }))
     begun ec es sheet e =
-        let same : sheet ≡ sheet_of n = (from_ok (open_refusal n (length xs) (length ys))
-        (sheet_of n) sheet (sym e ∙ o.answers)).1 in
+        let accepted : Opened kind.zero n xs ys (Ok sheet) costs standing = rw e at is in
         let wc : (with_items t.costs costs).items ≡ costs =
         with_items_is t.costs costs (ec ∙ ap length ex ∙ sym t.costs.ok.0) in
         let ws : (with_items t.standing standing).items ≡ standing =
         with_items_is t.standing standing (es ∙ ap length ey ∙ sym t.standing.ok.0) in
         let opening : Opened kind.zero n t.costs.items t.standing.items (Ok sheet)
         (with_items t.costs costs).items (with_items t.standing standing).items =
-        subst (λ (zs : List K). Opened kind.zero n zs t.standing.items (Ok sheet)
-        (with_items t.costs costs).items (with_items t.standing standing).items) ex
-        (subst (λ (zs : List ℕ). Opened kind.zero n xs zs (Ok sheet)
-        (with_items t.costs costs).items (with_items t.standing standing).items) ey (record {
-          answers = sym e ∙ o.answers;
-          blanks = wc ∙ o.blanks;
-          clears = ws ∙ o.clears;
-        })) in
+        rw (wc, ws, ← ex, ← ey) accepted in
         record {
           program = opens sheet _ opening refl;
-          sized = ap size_of same;
+          sized = ap size_of accepted.1.0;
         }
 
   -- the calls that were made so far over the tables as they were lent, and what came of them
-  module _ (lent : Tables K) where
-    pub record Going (made : List (Call K)) (answers : List (Answer K)) (state : InState)
-        (own : Tables K) : Type 0 where
+  module _ (lent : Lists K) where
+    pub record Going (made : List (Call K)) (answers : List (Answer K)) (state : State)
+        (own : Lists K) : Type 0 where
       pub exchanges : List (Exchange K)
-      pub say : AllSay made answers exchanges
+      pub answer : AreAnswersOf made answers exchanges
       pub program : Program kind false n lent exchanges (state_of state) own
       pub sized : size_of (state_of state).sheet ≡ n
       pub sheet : IsSheet kind n (lengths lent)
       pub long : lengths own ≡ lengths lent
 
-    pub going_none : (state : InState) (answers : List (Answer K)) (own : Tables K)
+    pub going_none : (state : State) (answers : List (Answer K)) (own : Lists K)
         → answers ≡ [] → IsSheet kind n (lengths lent) → lengths own ≡ lengths lent
         → Begins kind n lent state own → Going [] answers state own
     going_none state answers own e sheet long b =
         subst (λ (zs : List (Answer K)). Going [] zs state own) (sym e) (record {
           exchanges = [];
-          say = tt;
+          answer = tt;
           program = b.program;
           sized = b.sized;
           sheet = sheet;
@@ -187,15 +178,15 @@ module _ {K : Type 0} (kind : Ghosts K) (n : ℕ) where
 
     -- one call more
     pub going_on : (cs : List (Call K)) (i : ℕ) (call : Call K)
-        (answers reserved answers' : List (Answer K)) (answer : Answer K) (state state' : InState)
-        (own own' : Tables K) → i < length cs → call ≡ get_or cs i call → reserved ≡ answers
+        (answers reserved answers' : List (Answer K)) (answer : Answer K) (state state' : State)
+        (own own' : Lists K) → i < length cs → call ≡ get_or cs i call → reserved ≡ answers
         → answers' ≡ reserved ++ answer ∷ [] → WasMade kind state own call answer state' own'
         → Going (take i cs) answers state own
         → Going (take (i + 1) cs) answers' state' own'
     going_on cs i call answers reserved answers' answer state state' own own' inside at er ea made
         g =
         let e : Exchange K =
-        record { act = call.act; handed = call.handed; outcome = made.outcome } in
+        record { act = call.act; handed = call.handed; reply = made.reply } in
         let cs_more : take (i + 1) cs ≡ take i cs ++ call ∷ [] =
         take_more cs i call inside ∙ ap (λ c. take i cs ++ c ∷ []) (sym at) in
         subst (λ (zs : List (Answer K)). Going (take (i + 1) cs) zs state' own')
@@ -203,9 +194,10 @@ module _ {K : Type 0} (kind : Ghosts K) (n : ℕ) where
         (subst (λ (xs : List (Call K)). Going xs (answers ++ answer ∷ []) state' own')
         (sym cs_more) (record {
           exchanges = g.exchanges ++ e ∷ [];
-          say = say_more (take i cs) answers g.exchanges call answer e g.say refl made.says;
+          answer = answers_more (take i cs) answers g.exchanges call answer e g.answer refl
+              made.answers;
           program = calls g.program made.makes;
-          sized = meets_size kind (state_of state) call.act made.outcome made.makes.x made.makes.x'
+          sized = meets_size kind (state_of state) call.act made.reply made.makes.x made.makes.x'
               (state_of state') made.makes.meets ∙ g.sized;
           sheet = g.sheet;
           long = made.long ∙ g.long;
@@ -213,14 +205,14 @@ module _ {K : Type 0} (kind : Ghosts K) (n : ℕ) where
 
     -- the calls that were made kept the promise
     were_made : EveryProgramKeeps kind → (made : List (Call K)) (answers : List (Answer K))
-        (state : InState) (own : Tables K) → Going made answers state own
+        (state : State) (own : Lists K) → Going made answers state own
         → WereMade kind n lent made answers own
     were_made law made answers state own g =
         let kept = law false n lent g.exchanges (state_of state) own g.program in
         record {
           sheet = g.sheet;
           exchanges = g.exchanges;
-          say = g.say;
+          answer = g.answer;
           state = state_of state;
           program = g.program;
           keeps = kept.0;
@@ -229,24 +221,24 @@ module _ {K : Type 0} (kind : Ghosts K) (n : ℕ) where
 
     -- all calls were made; or memory ran out before the call at i
     pub finished : EveryProgramKeeps kind → (cs : List (Call K)) (i : ℕ)
-        (answers : List (Answer K)) (state : InState) (own : Tables K) → length cs ≤ i
+        (answers : List (Answer K)) (state : State) (own : Lists K) → length cs ≤ i
         → Going (take i cs) answers state own → WereMade kind n lent cs answers own
     finished law cs i answers state own all g =
         subst (λ (xs : List (Call K)). WereMade kind n lent xs answers own) (take_all i cs all)
         (were_made law (take i cs) answers state own g)
 
     pub stopped : EveryProgramKeeps kind → (cs : List (Call K)) (i : ℕ)
-        (answers answers' : List (Answer K)) (state : InState) (own own' : Tables K)
+        (answers answers' : List (Answer K)) (state : State) (own own' : Lists K)
         → i < length cs → answers' ≡ answers → own' ≡ own → Going (take i cs) answers state own
         → (length answers' < length cs)
         × WereMade kind n lent (take (length answers') cs) answers' own'
     stopped law cs i answers answers' state own own' inside ea eo g =
-        let count : length answers ≡ i = say_long (take i cs) answers g.exchanges g.say
+        let count : length answers ≡ i = answers_long (take i cs) answers g.exchanges g.answer
         ∙ length-take-le i cs (omega arith) in (
           omega (arith, count, ap length ea),
           subst (λ (zs : List (Answer K)). WereMade kind n lent (take (length zs) cs) zs own')
               (sym ea)
-              (subst (λ (y : Tables K). WereMade kind n lent (take (length answers) cs) answers y)
+              (subst (λ (y : Lists K). WereMade kind n lent (take (length answers) cs) answers y)
               (sym eo)
               (subst (λ (j : ℕ). WereMade kind n lent (take j cs) answers own) (sym count)
               (were_made law (take i cs) answers state own g))),

@@ -18,11 +18,15 @@ use Rattle.session.specs.declared.answer.Answer.TheVariants.{NotMade}
 use Rattle.session.specs.declared.call.Act.{Act}
 use Rattle.session.specs.declared.call.Call.{Call}
 use Rattle.session.specs.declared.call.Lengths.{Lengths}
-use Rattle.session.specs.declared.state.State.{State as InState}
+use Rattle.session.specs.declared.sheet_tables.SheetTables.{SheetTables}
+use Rattle.session.specs.declared.state.State.{State}
 use Rattle.session.specs.Book.{allows}
-use Rattle.session.specs.Exchange.{Told, Outcome, not_made as absent}
-use Rattle.session.specs.Program.{State, Tables, lengths, Hands, HandsAll, Meets}
-use Rattle.session.specs.Runs.{state_of, right_lengths, call_for, IsWithin, Says, WasMade}
+use Rattle.session.specs.Exchange.{ValueOf, Reply, not_made as absent}
+use Rattle.session.specs.Lists.{Table, Item, Lists, list_in, lengths_by, lengths, places_in}
+use Rattle.session.specs.Lists.{right_lengths, the_costs, the_standing, the_partners, the_left}
+use Rattle.session.specs.Lists.{the_right, the_walk, the_marks}
+use Rattle.session.specs.Program.{SheetAt, Hands, HandsAll, IsCalled}
+use Rattle.session.specs.Runs.{state_of, tables_of, call_for, AreNoLonger, IsAnswerOf, WasMade}
 use Rattle.session.specs.Runs.{MakesOne}
 
 -- ---- One table
@@ -45,9 +49,9 @@ part_long k own x x' own' p = ap length p.rest
     ∙ length_front own x' k (p.long ∙ ap length p.first)
 
 -- which is what a step of a program asks of the table
-part_hands : {X : Type 0} (k size : ℕ) (needed : Bool) (own x x' own' : List X)
-    → length own ≡ size → Part k own x x' own' → Hands size needed own x x' own'
-part_hands k size needed own x x' own' right p =
+part_hands : {X : Type 0} (k size : ℕ) (fixed : Bool) (own x x' own' : List X)
+    → length own ≡ size → Part k own x x' own' → Hands size fixed own x x' own'
+part_hands k size fixed own x x' own' right p =
     let long : length x ≡ k = part_length k own x x' own' p in
     record {
       handed = λ _ e. p.first ∙ take_all k own (omega (arith, right, long, e));
@@ -87,189 +91,101 @@ part_written k v xs x' lent e long =
 
 -- ---- All tables
 
-pub record Parts {K : Type 0} (h : Lengths) (own x x' own' : Tables K) : Type 0 where
-  pub costs : Part h.costs own.costs x.costs x'.costs own'.costs
-  pub standing : Part h.standing own.standing x.standing x'.standing own'.standing
-  pub partners : Part h.partners own.partners x.partners x'.partners own'.partners
-  pub left : Part h.left own.left x.left x'.left own'.left
-  pub right : Part h.right own.right x.right x'.right own'.right
-  pub walk : Part h.walk own.walk x.walk x'.walk own'.walk
-  pub marks : Part h.marks own.marks x.marks x'.marks own'.marks
+abbrev length_in : Lengths → Table → ℕ
+length_in h the_costs = h.costs
+length_in h the_standing = h.standing
+length_in h the_partners = h.partners
+length_in h the_left = h.left
+length_in h the_right = h.right
+length_in h the_walk = h.walk
+length_in h the_marks = h.marks
+
+-- a list for each table, made one by one
+abbrev lists_of : {K : Type 0} → ((table : Table) → List (Item K table)) → Lists K
+lists_of list = record {
+  costs = list the_costs;
+  standing = list the_standing;
+  partners = list the_partners;
+  left = list the_left;
+  right = list the_right;
+  walk = list the_walk;
+  marks = list the_marks;
+}
+
+-- lengths are the same where each is
+pub same_lengths : (f g : Table → ℕ) → ((table : Table) → f table ≡ g table)
+    → lengths_by f ≡ lengths_by g
+same_lengths f g e =
+    cc (
+      e the_costs,
+      e the_standing,
+      e the_partners,
+      e the_left,
+      e the_right,
+      e the_walk,
+      e the_marks,
+    )
+
+length_in_is : (f : Table → ℕ) (table : Table) → length_in (lengths_by f) table ≡ f table
+length_in_is f the_costs = refl
+length_in_is f the_standing = refl
+length_in_is f the_partners = refl
+length_in_is f the_left = refl
+length_in_is f the_right = refl
+length_in_is f the_walk = refl
+length_in_is f the_marks = refl
+
+-- how long a table is, of tables of known lengths
+length_is : {K : Type 0} (x : Lists K) (f : Table → ℕ) → lengths x ≡ lengths_by f
+    → (table : Table) → length (list_in x table) ≡ f table
+length_is x f e table = sym (length_in_is (λ t. length (list_in x t)) table)
+    ∙ ap (λ h. length_in h table) e ∙ length_in_is f table
+
+abbrev pub Parts : {K : Type 0} (h : Lengths) (own x x' own' : Lists K) → Type 0
+Parts h own x x' own' = (table : Table)
+    → Part (length_in h table) (list_in own table) (list_in x table) (list_in x' table)
+    (list_in own' table)
 
 -- the first places of all tables
-abbrev pub cut : {K : Type 0} → Lengths → Tables K → Tables K
-cut h seen = record {
-  costs = take (h.costs - 0) seen.costs;
-  standing = take (h.standing - 0) seen.standing;
-  partners = take (h.partners - 0) seen.partners;
-  left = take (h.left - 0) seen.left;
-  right = take (h.right - 0) seen.right;
-  walk = take (h.walk - 0) seen.walk;
-  marks = take (h.marks - 0) seen.marks;
-}
+abbrev pub cut : {K : Type 0} → Lengths → Lists K → Lists K
+cut h seen = lists_of (λ table. take (length_in h table - 0) (list_in seen table))
 
 -- tables that the call leaves as they are: `seen` are the slices that their places were cut from
-pub parts_kept : {K : Type 0} (h : Lengths) (own seen : Tables K) → IsWithin h (lengths own)
+pub parts_kept : {K : Type 0} (h : Lengths) (own seen : Lists K) → AreNoLonger h (lengths own)
     → seen ≡ own → Parts h own (cut h seen) (cut h seen) own
-parts_kept h own seen lent e = record {
-  costs = part_kept h.costs own.costs seen.costs lent.costs (ap (λ t. t.costs) e);
-  standing = part_kept h.standing own.standing seen.standing lent.standing (ap (λ t. t.standing) e);
-  partners = part_kept h.partners own.partners seen.partners lent.partners (ap (λ t. t.partners) e);
-  left = part_kept h.left own.left seen.left lent.left (ap (λ t. t.left) e);
-  right = part_kept h.right own.right seen.right lent.right (ap (λ t. t.right) e);
-  walk = part_kept h.walk own.walk seen.walk lent.walk (ap (λ t. t.walk) e);
-  marks = part_kept h.marks own.marks seen.marks lent.marks (ap (λ t. t.marks) e);
-}
+parts_kept h own seen lent e the_costs = part_kept _ _ _ lent.costs (ap (λ t. t.costs) e)
+parts_kept h own seen lent e the_standing = part_kept _ _ _ lent.standing (ap (λ t. t.standing) e)
+parts_kept h own seen lent e the_partners = part_kept _ _ _ lent.partners (ap (λ t. t.partners) e)
+parts_kept h own seen lent e the_left = part_kept _ _ _ lent.left (ap (λ t. t.left) e)
+parts_kept h own seen lent e the_right = part_kept _ _ _ lent.right (ap (λ t. t.right) e)
+parts_kept h own seen lent e the_walk = part_kept _ _ _ lent.walk (ap (λ t. t.walk) e)
+parts_kept h own seen lent e the_marks = part_kept _ _ _ lent.marks (ap (λ t. t.marks) e)
 
--- tables are the same where each is
-same_tables : {K : Type 0} (a a' : List K) (b b' c c' : List ℕ) (d d' e e' : List K)
-    (f f' m m' : List ℕ) → a ≡ a' → b ≡ b' → c ≡ c' → d ≡ d' → e ≡ e' → f ≡ f' → m ≡ m'
-    → ◌≡◌ {A = Tables K}
-    (record {
-      costs = a;
-      standing = b;
-      partners = c;
-      left = d;
-      right = e;
-      walk = f;
-      marks = m;
-    })
-    (record {
-      costs = a';
-      standing = b';
-      partners = c';
-      left = d';
-      right = e';
-      walk = f';
-      marks = m';
-    })
-same_tables a a' b b' c c' d d' e e' f f' m m' ea eb ec ed ee ef em = cc
-
-pub seen_are : {K : Type 0} (own seen : Tables K) → seen.costs ≡ own.costs
-    → seen.standing ≡ own.standing → seen.partners ≡ own.partners → seen.left ≡ own.left
-    → seen.right ≡ own.right → seen.walk ≡ own.walk → seen.marks ≡ own.marks → seen ≡ own
-seen_are own seen = same_tables seen.costs own.costs seen.standing own.standing seen.partners
-    own.partners seen.left own.left seen.right own.right seen.walk own.walk seen.marks own.marks
-
-pub same_lengths : (a a' b b' c c' d d' e e' f f' m m' : ℕ) → a ≡ a' → b ≡ b' → c ≡ c' → d ≡ d'
-    → e ≡ e' → f ≡ f' → m ≡ m'
-    → ◌≡◌ {A = Lengths}
-    (record {
-      costs = a;
-      standing = b;
-      partners = c;
-      left = d;
-      right = e;
-      walk = f;
-      marks = m;
-    })
-    (record {
-      costs = a';
-      standing = b';
-      partners = c';
-      left = d';
-      right = e';
-      walk = f';
-      marks = m';
-    })
-same_lengths a a' b b' c c' d d' e e' f f' m m' ea eb ec ed ee ef em = cc
-
-module _ {K : Type 0} (h : Lengths) (own x x' own' : Tables K) (parts : Parts h own x x' own') where
+module _ {K : Type 0} (h : Lengths) (own x x' own' : Lists K) (parts : Parts h own x x' own') where
   parts_lengths : h ≡ lengths x
-  parts_lengths = same_lengths _ _ _ _ _ _ _ _ _ _ _ _ _ _
-      (sym (part_length h.costs _ _ _ _ parts.costs))
-      (sym (part_length h.standing _ _ _ _ parts.standing))
-      (sym (part_length h.partners _ _ _ _ parts.partners))
-      (sym (part_length h.left _ _ _ _ parts.left))
-      (sym (part_length h.right _ _ _ _ parts.right))
-      (sym (part_length h.walk _ _ _ _ parts.walk))
-      (sym (part_length h.marks _ _ _ _ parts.marks))
+  parts_lengths = same_lengths (length_in h) (λ table. length (list_in x table))
+      (λ table. sym (part_length _ _ _ _ _ (parts table)))
 
   parts_long : lengths own' ≡ lengths own
-  parts_long = same_lengths _ _ _ _ _ _ _ _ _ _ _ _ _ _
-      (part_long h.costs _ _ _ _ parts.costs) (part_long h.standing _ _ _ _ parts.standing)
-      (part_long h.partners _ _ _ _ parts.partners) (part_long h.left _ _ _ _ parts.left)
-      (part_long h.right _ _ _ _ parts.right) (part_long h.walk _ _ _ _ parts.walk)
-      (part_long h.marks _ _ _ _ parts.marks)
+  parts_long = same_lengths (λ table. length (list_in own' table))
+      (λ table. length (list_in own table)) (λ table. part_long _ _ _ _ _ (parts table))
 
-  parts_hand : (s : State) → lengths own ≡ right_lengths (size_of s.sheet)
+  parts_hand : (s : SheetAt) → lengths own ≡ right_lengths (size_of s.sheet)
       → HandsAll false s own x x' own'
-  parts_hand s right = record {
-    costs = part_hands h.costs _ _ _ _ _ _ (ap (λ l. l.costs) right) parts.costs;
-    standing = part_hands h.standing _ _ _ _ _ _ (ap (λ l. l.standing) right) parts.standing;
-    partners = part_hands h.partners _ _ _ _ _ _ (ap (λ l. l.partners) right) parts.partners;
-    left = part_hands h.left _ _ _ _ _ _ (ap (λ l. l.left) right) parts.left;
-    right = part_hands h.right _ _ _ _ _ _ (ap (λ l. l.right) right) parts.right;
-    walk = part_hands h.walk _ _ _ _ _ _ (ap (λ l. l.walk) right) parts.walk;
-    marks = part_hands h.marks _ _ _ _ _ _ (ap (λ l. l.marks) right) parts.marks;
-  }
-
-  -- the call writes other lists to some of the tables
-  pub with_pairs : (costs costs' : List K) (standing standing' : List ℕ)
-      → Part h.costs own.costs x.costs costs costs'
-      → Part h.standing own.standing x.standing standing standing'
-      → Parts h own x (record x' { costs = costs; standing = standing })
-      (record own' { costs = costs'; standing = standing' })
-  with_pairs costs costs' standing standing' pc ps = record {
-    costs = pc;
-    standing = ps;
-    partners = parts.partners;
-    left = parts.left;
-    right = parts.right;
-    walk = parts.walk;
-    marks = parts.marks;
-  }
-
-  pub with_settlement : (partners partners' : List ℕ) (left left' right right' : List K)
-      → Part h.partners own.partners x.partners partners partners'
-      → Part h.left own.left x.left left left' → Part h.right own.right x.right right right'
-      → Parts h own x (record x' { partners = partners; left = left; right = right })
-      (record own' { partners = partners'; left = left'; right = right' })
-  with_settlement partners partners' left left' right right' pp pl pr = record {
-    costs = parts.costs;
-    standing = parts.standing;
-    partners = pp;
-    left = pl;
-    right = pr;
-    walk = parts.walk;
-    marks = parts.marks;
-  }
-
-  pub with_walk : (list list' : List ℕ) → Part h.walk own.walk x.walk list list'
-      → Parts h own x (record x' { walk = list }) (record own' { walk = list' })
-  with_walk list list' p = record {
-    costs = parts.costs;
-    standing = parts.standing;
-    partners = parts.partners;
-    left = parts.left;
-    right = parts.right;
-    walk = p;
-    marks = parts.marks;
-  }
-
-  pub with_marks : (table table' : List ℕ) → Part h.marks own.marks x.marks table table'
-      → Parts h own x (record x' { marks = table }) (record own' { marks = table' })
-  with_marks table table' p = record {
-    costs = parts.costs;
-    standing = parts.standing;
-    partners = parts.partners;
-    left = parts.left;
-    right = parts.right;
-    walk = parts.walk;
-    marks = p;
-  }
+  parts_hand s right table = part_hands _ _ _ _ _ _ _
+      (length_is own (places_in (size_of s.sheet)) right table) (parts table)
 
 -- ---- A step
 
-module _ {K : Type 0} (kind : Ghosts K) (state : InState) (own : Tables K) where
-  pub was_made : (act : Act K) (h : Lengths) (o : Outcome (Told K act)) (answer : Answer K)
-      (state' : InState) (x x' own' : Tables K)
+module _ {K : Type 0} (kind : Ghosts K) (state : State) (own : Lists K) where
+  pub was_made : (act : Act K) (h : Lengths) (o : Reply (ValueOf K act)) (answer : Answer K)
+      (state' : State) (x x' own' : Lists K)
       → lengths own ≡ right_lengths (size_of (state_of state).sheet) → Parts h own x x' own'
-      → Says act o answer → Meets kind (state_of state) act o x x' (state_of state')
+      → IsAnswerOf act o answer → IsCalled kind (state_of state) act o x x' (state_of state')
       → WasMade kind state own (call_for act h) answer state' own'
   was_made act h o answer state' x x' own' right parts says meets = record {
-    outcome = o;
-    says = says;
+    reply = o;
+    answers = says;
     makes = record {
       x = x;
       x' = x';
@@ -280,27 +196,146 @@ module _ {K : Type 0} (kind : Ghosts K) (state : InState) (own : Tables K) where
     long = parts_long h own x x' own' parts;
   }
 
+  -- a call that leaves all tables
+  pub reads : (act : Act K) (h : Lengths) (o : Reply (ValueOf K act)) (answer : Answer K)
+      (state' : State) (seen : Lists K) → seen ≡ own
+      → lengths own ≡ right_lengths (size_of (state_of state).sheet)
+      → AreNoLonger h (lengths own) → IsAnswerOf act o answer
+      → IsCalled kind (state_of state) act o (cut h seen) (cut h seen) (state_of state')
+      → WasMade kind state own (call_for act h) answer state' own
+  reads act h o answer state' seen same right lent says meets =
+      was_made act h o answer state' (cut h seen) (cut h seen) own right
+      (parts_kept h own seen lent same) says meets
+
   -- a call that the state does not have is not made
   pub not_made : (call : Call K) → lengths own ≡ right_lengths (size_of (state_of state).sheet)
-      → IsWithin call.handed (lengths own) → allows (state_of state).phase call.act ≡ false
+      → AreNoLonger call.handed (lengths own) → allows (state_of state).phase call.act ≡ false
       → WasMade kind state own call NotMade state own
   not_made call right lent none =
-      was_made call.act call.handed absent NotMade state (cut call.handed own)
-      (cut call.handed own) own right (parts_kept call.handed own own lent refl) refl
+      reads call.act call.handed absent NotMade state own refl right lent refl
       (inr (none, refl, refl, refl))
 
   -- a call is told by what it asks for and the lengths that it is handed
-  pub makes_for : (call : Call K) (act : Act K) (made : InState × Result (Answer K) AllocError)
-      (own' : Tables K) → call.act ≡ act
+  pub makes_for : (call : Call K) (act : Act K) (made : State × Result (Answer K) AllocError)
+      (own' : Lists K) → call.act ≡ act
       → MakesOne kind state own (call_for act call.handed) made own'
       → MakesOne kind state own call made own'
   makes_for call act made own' e h =
       subst (λ (y : Act K). MakesOne kind state own (call_for y call.handed) made own') (sym e) h
 
-  pub made_for : (call : Call K) (act : Act K) (answer : Answer K) (state' : InState)
-      (own' : Tables K) → call.act ≡ act
+  pub made_for : (call : Call K) (act : Act K) (answer : Answer K) (state' : State)
+      (own' : Lists K) → call.act ≡ act
       → WasMade kind state own (call_for act call.handed) answer state' own'
       → WasMade kind state own call answer state' own'
   made_for call act answer state' own' e made =
       subst (λ (y : Act K). WasMade kind state own (call_for y call.handed) answer state' own')
       (sym e) made
+
+-- a call that writes some of the tables: it leaves these lists in what it was handed
+module _ {K : Type 0} (kind : Ghosts K) (state : State) (t : SheetTables K) (act : Act K)
+    (h : Lengths) (o : Reply (ValueOf K act)) (answer : Answer K) (state' : State) (seen : Lists K)
+    (same : seen ≡ tables_of t)
+    (right : lengths (tables_of t) ≡ right_lengths (size_of (state_of state).sheet))
+    (lent : AreNoLonger h (lengths (tables_of t))) (says : IsAnswerOf act o answer) where
+  abbrev own : Lists K
+  own = tables_of t
+
+  kept : Parts h own (cut h seen) (cut h seen) own
+  kept = parts_kept h own seen lent same
+
+  -- its table after it left this list in its first places
+  abbrev after : {X : Type 0} → Vec X Global → ℕ → (xs x' : List X) → List X
+  after v k xs x' = (with_items v (x' ++ drop (k - 0) xs)).items
+
+  pub writes_walk : (list : List ℕ) → length list ≡ length (cut h seen).walk
+      → IsCalled kind (state_of state) act o (cut h seen) (record (cut h seen) { walk = list })
+      (state_of state')
+      → WasMade kind state own (call_for act h) answer state'
+      (record own { walk = after t.walk h.walk seen.walk list })
+  writes_walk list long = was_made kind state own act h o answer state' _ _ _ right parts says
+    where
+      parts : Parts h own (cut h seen) (record (cut h seen) { walk = list })
+          (record own { walk = after t.walk h.walk seen.walk list })
+      parts the_costs = kept the_costs
+      parts the_standing = kept the_standing
+      parts the_partners = kept the_partners
+      parts the_left = kept the_left
+      parts the_right = kept the_right
+      parts the_walk = part_written h.walk t.walk seen.walk list lent.walk
+          (ap (λ y. y.walk) same) long
+      parts the_marks = kept the_marks
+
+  pub writes_marks : (list : List ℕ) → length list ≡ length (cut h seen).marks
+      → IsCalled kind (state_of state) act o (cut h seen) (record (cut h seen) { marks = list })
+      (state_of state')
+      → WasMade kind state own (call_for act h) answer state'
+      (record own { marks = after t.marks h.marks seen.marks list })
+  writes_marks list long = was_made kind state own act h o answer state' _ _ _ right parts says
+    where
+      parts : Parts h own (cut h seen) (record (cut h seen) { marks = list })
+          (record own { marks = after t.marks h.marks seen.marks list })
+      parts the_costs = kept the_costs
+      parts the_standing = kept the_standing
+      parts the_partners = kept the_partners
+      parts the_left = kept the_left
+      parts the_right = kept the_right
+      parts the_walk = kept the_walk
+      parts the_marks = part_written h.marks t.marks seen.marks list lent.marks
+          (ap (λ y. y.marks) same) long
+
+  pub writes_pairs : (costs : List K) (standing : List ℕ) → length costs ≡ length (cut h seen).costs
+      → length standing ≡ length (cut h seen).standing
+      → IsCalled kind (state_of state) act o (cut h seen)
+      (record (cut h seen) { costs = costs; standing = standing }) (state_of state')
+      → WasMade kind state own (call_for act h) answer state' (record own {
+        costs = after t.costs h.costs seen.costs costs;
+        standing = after t.standing h.standing seen.standing standing;
+      })
+  writes_pairs costs standing costs_long standing_long =
+      was_made kind state own act h o answer state' _ _ _ right parts says
+    where
+      parts : Parts h own (cut h seen) (record (cut h seen) { costs = costs; standing = standing })
+          (record own {
+            costs = after t.costs h.costs seen.costs costs;
+            standing = after t.standing h.standing seen.standing standing;
+          })
+      parts the_costs = part_written h.costs t.costs seen.costs costs lent.costs
+          (ap (λ y. y.costs) same) costs_long
+      parts the_standing = part_written h.standing t.standing seen.standing standing lent.standing
+          (ap (λ y. y.standing) same) standing_long
+      parts the_partners = kept the_partners
+      parts the_left = kept the_left
+      parts the_right = kept the_right
+      parts the_walk = kept the_walk
+      parts the_marks = kept the_marks
+
+  pub writes_settlement : (partners : List ℕ) (left right' : List K)
+      → length partners ≡ length (cut h seen).partners → length left ≡ length (cut h seen).left
+      → length right' ≡ length (cut h seen).right
+      → IsCalled kind (state_of state) act o (cut h seen)
+      (record (cut h seen) { partners = partners; left = left; right = right' }) (state_of state')
+      → WasMade kind state own (call_for act h) answer state' (record own {
+        partners = after t.partners h.partners seen.partners partners;
+        left = after t.left h.left seen.left left;
+        right = after t.right h.right seen.right right';
+      })
+  writes_settlement partners left right' partners_long left_long right_long =
+      was_made kind state own act h o answer state' _ _ _ right parts says
+    where
+      parts : Parts h own (cut h seen)
+          (record (cut h seen) { partners = partners; left = left; right = right' })
+          (record own {
+            partners = after t.partners h.partners seen.partners partners;
+            left = after t.left h.left seen.left left;
+            right = after t.right h.right seen.right right';
+          })
+      parts the_costs = kept the_costs
+      parts the_standing = kept the_standing
+      parts the_partners = part_written h.partners t.partners seen.partners partners lent.partners
+          (ap (λ y. y.partners) same) partners_long
+      parts the_left = part_written h.left t.left seen.left left lent.left
+          (ap (λ y. y.left) same) left_long
+      parts the_right = part_written h.right t.right seen.right right' lent.right
+          (ap (λ y. y.right) same) right_long
+      parts the_walk = kept the_walk
+      parts the_marks = kept the_marks

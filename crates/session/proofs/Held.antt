@@ -4,14 +4,12 @@
 -- pairing that was handed out last. What was told since the settle is right by the grid that was
 -- settled, which is the book's until the sheet is reopened.
 use Rattle.std.proofs.Common.{◌≡◌, ℕ, ◌+◌, ◌<◌, min, cond, List, ◌∷◌, length, get_or, Option, Some}
-use Rattle.std.proofs.Common.{None, sym, ap}
-use Rattle.std.proofs.Common.{◌∙◌, subst}
+use Rattle.std.proofs.Common.{None, sym, ap, ◌∙◌, subst, refl}
 use Rattle.std.specs.List.{AllByRecursion}
 use Rattle.cost.specs.declared.Cost.{Ghosts}
 use Rattle.pairing.specs.Grid.{Grid}
 use Rattle.pairing.specs.Optima.{optima}
 use Rattle.matching.specs.Answers.{IsNth, MarksOf}
-use Rattle.tables.specs.Lent.{lent}
 use Rattle.pairing.specs.Places.{place_of}
 use Rattle.tables.specs.PairTables.{cell, byte_of, says_stands}
 use Rattle.tables.specs.Together.{ArePairTables, Together}
@@ -19,9 +17,11 @@ use Rattle.sheet.specs.Size.{size_of}
 use Rattle.session.specs.declared.call.Act.{Act}
 use Rattle.session.specs.declared.call.Lengths.{Lengths}
 use Rattle.session.specs.Book.{Book, Phase, opened, settled, walking, step, grid_in}
-use Rattle.session.specs.Exchange.{Told, Outcome}
-use Rattle.session.specs.Promise.{Settling, noted_of, IsRight}
-use Rattle.session.specs.Program.{State, Tables, lending, SameFor, cost_in, byte_in}
+use Rattle.session.specs.Exchange.{ValueOf, Reply}
+use Rattle.session.specs.Lists.{Lists, SameIn, lent_of, rests_on, the_costs, the_standing}
+use Rattle.session.specs.Lists.{the_partners, the_left, the_right, the_walk}
+use Rattle.session.specs.Promise.{Settling, settling_by, IsRight}
+use Rattle.session.specs.Program.{SheetAt, cost_in, byte_in}
 use Rattle.session.proofs.Walks.{InTurn}
 
 -- the walk list is the pairing that the walk handed out last
@@ -40,37 +40,37 @@ module _ {K : Type 0} (kind : Ghosts K) (n : ℕ) where
     pub bytes_are : (l r : ℕ) → l < n → r < n → byte_of n standing l r ≡ byte_in (cells l r)
 
   -- what was told since a settle is right
-  pub record Sound (s : Settling K) : Type 0 where
+  pub record HasWalksInTurn (s : Settling K) : Type 0 where
     pub walks : AllByRecursion (InTurn (optima s.grid)) (s.walk ∷ s.earlier)
     pub marks : AllByRecursion (MarksOf n (optima s.grid)) s.marks
 
   -- the tables are as the settle left them
-  pub record Ready (g : Grid) (s : Settling K) (t : Tables K) : Type 0 where
+  pub record IsReady (g : Grid) (s : Settling K) (t : Lists K) : Type 0 where
     pub grid_is : s.grid ≡ g
-    pub left_is : t.left ≡ s.written.left
-    pub right_is : t.right ≡ s.written.right
+    pub left_is : t.left ≡ s.settlement.left
+    pub right_is : t.right ≡ s.settlement.right
     pub first : IsNth (optima g) 0 t.partners
-    pub together : Together kind (lending n t)
+    pub together : Together kind (lent_of n t)
 
   -- what the tables hold beyond the pairs
-  abbrev pub Beyond : Phase → Grid → Settling K → Tables K → Type 0
+  abbrev pub Beyond : Phase → Grid → Settling K → Lists K → Type 0
   Beyond opened g s t = Unit {0}
-  Beyond settled g s t = Ready g s t
-  Beyond walking g s t = Ready g s t × AtPlace (optima g) t.walk s.walk
+  Beyond settled g s t = IsReady g s t
+  Beyond walking g s t = IsReady g s t × AtPlace (optima g) t.walk s.walk
 
-  pub record Held (b : Book K) (s : Settling K) (state : State) (t : Tables K) : Type 0 where
+  pub record Keeps (b : Book K) (s : Settling K) (state : SheetAt) (t : Lists K) : Type 0 where
     pub phase_is : state.phase ≡ b.phase
     pub size_is : size_of state.sheet ≡ n
     pub shows : Shows b.cells t.costs t.standing
-    pub sound : Sound s
-    pub beyond : Beyond b.phase (grid_in kind n b) s t
+    pub walks : HasWalksInTurn s
+    pub beyond : Beyond state.phase (grid_in kind n b) s t
 
   -- one call: what came of it is right, and the tables go on with the book
-  pub record Next (b : Book K) (s : Settling K) (act : Act K) (h : Lengths)
-      (o : Outcome (Told K act)) (state : State) (t : Tables K) : Type 0 where
-    pub right : IsRight kind n b s (record { act = act; handed = h; outcome = o })
-    pub held : Held (step kind n b (record { act = act; handed = h })) (noted_of kind n b s act o)
-        state t
+  pub record GoesOn (b : Book K) (s : Settling K) (act : Act K) (h : Lengths)
+      (o : Reply (ValueOf K act)) (state : SheetAt) (t : Lists K) : Type 0 where
+    pub right : IsRight kind n b s (record { act = act; handed = h; reply = o })
+    pub keeps : Keeps (step kind n b (record { act = act; handed = h }))
+        (settling_by kind n b s act o) state t
 
 -- a cost and a byte tell the cell
 cell_told : {K : Type 0} (nought : K) (n : ℕ) (costs : List K) (standing : List ℕ) (l r : ℕ)
@@ -89,42 +89,48 @@ each kind n cells costs standing shows l r i j =
     cell_told kind.zero n costs standing l r (cells l r) (shows.costs_are l r i j)
     (shows.bytes_are l r i j)
 
-pub lent_alike : {K : Type 0} (n : ℕ) (c c' l l' r r' : List K) (s s' p p' : List ℕ) → c' ≡ c
-    → s' ≡ s → p' ≡ p → l' ≡ l → r' ≡ r → lent n c' s' p' l' r' ≡ lent n c s p l r
-lent_alike n c c' l l' r r' s s' p p' ec es ep el er =
-    ap (λ x. lent n x s' p' l' r') ec ∙ ap (λ x. lent n c x p' l' r') es
-    ∙ ap (λ x. lent n c s x l' r') ep ∙ ap (λ x. lent n c s p x r') el
-    ∙ ap (λ x. lent n c s p l x) er
+-- ---- Tables that hold the same
 
-module _ {K : Type 0} (kind : Ghosts K) (n : ℕ) (t t' : Tables K) (ec : t'.costs ≡ t.costs)
-    (es : t'.standing ≡ t.standing) where
-  pub ready_same : (g : Grid) (s : Settling K) → t'.partners ≡ t.partners → t'.left ≡ t.left
-      → t'.right ≡ t.right → Ready kind n g s t → Ready kind n g s t'
-  ready_same g s ep el er r = record {
-    grid_is = r.grid_is;
-    left_is = el ∙ r.left_is;
-    right_is = er ∙ r.right_is;
-    first = subst (λ xs. IsNth (optima g) 0 xs) (sym ep) r.first;
-    together = subst (Together kind) (sym (lent_alike n t.costs t'.costs t.left t'.left t.right
-        t'.right t.standing t'.standing t.partners t'.partners ec es ep el er)) r.together;
-  }
+-- lent tables are one value where each is one list
+pub lent_is : {K : Type 0} (n : ℕ) (t t' : Lists K) → t'.costs ≡ t.costs
+    → t'.standing ≡ t.standing → t'.partners ≡ t.partners → t'.left ≡ t.left → t'.right ≡ t.right
+    → lent_of n t' ≡ lent_of n t
+lent_is n t t' ec es ep el er = cc
 
-  beyond_same : (p : Phase) (g : Grid) (s : Settling K) → SameFor p t' t
-      → Beyond kind n p g s t → Beyond kind n p g s t'
-  beyond_same opened g s same b = tt
-  beyond_same settled g s same b = ready_same g s same.0 same.1 same.2 b
-  beyond_same walking g s same b = (
-    ready_same g s same.0.0 same.0.1 same.0.2 b.0,
-    subst (λ xs. AtPlace (optima g) xs s.walk) (sym same.1) b.1,
-  )
+module _ {K : Type 0} (kind : Ghosts K) (n : ℕ) (t t' : Lists K) where
+  pub shows_same : (cells : ℕ → ℕ → Option K) → t'.costs ≡ t.costs → t'.standing ≡ t.standing
+      → Shows kind n cells t.costs t.standing → Shows kind n cells t'.costs t'.standing
+  shows_same cells ec es shows = rw (ec, es) shows
 
-  pub held_same : (b : Book K) (s : Settling K) (state : State) → SameFor b.phase t' t
-      → Held kind n b s state t → Held kind n b s state t'
-  held_same b s state same h = record {
-    phase_is = h.phase_is;
-    size_is = h.size_is;
-    shows = subst (λ xs. Shows kind n b.cells xs t'.standing) (sym ec)
-        (subst (λ xs. Shows kind n b.cells t.costs xs) (sym es) h.shows);
-    sound = h.sound;
-    beyond = beyond_same b.phase (grid_in kind n b) s same h.beyond;
+  module _ (g : Grid) (s : Settling K) where
+    ready_same : lent_of n t' ≡ lent_of n t → IsReady kind n g s t → IsReady kind n g s t'
+    ready_same e ready = record {
+      grid_is = ready.grid_is;
+      left_is = ap (λ l. l.left) e ∙ ready.left_is;
+      right_is = ap (λ l. l.right) e ∙ ready.right_is;
+      first = subst (IsNth (optima g) 0) (sym (ap (λ l. l.partners) e)) ready.first;
+      together = subst (Together kind) (sym e) ready.together;
+    }
+
+    -- what a state rests on stays
+    beyond_same : (p : Phase) → SameIn (rests_on p) t' t → Beyond kind n p g s t
+        → Beyond kind n p g s t'
+    beyond_same opened same beyond = tt
+    beyond_same settled same beyond =
+        ready_same (lent_is n t t' (same the_costs refl) (same the_standing refl)
+        (same the_partners refl) (same the_left refl) (same the_right refl)) beyond
+    beyond_same walking same beyond = (
+      ready_same (lent_is n t t' (same the_costs refl) (same the_standing refl)
+          (same the_partners refl) (same the_left refl) (same the_right refl)) beyond.0,
+      subst (λ list. AtPlace (optima g) list s.walk) (sym (same the_walk refl)) beyond.1,
+    )
+
+  pub keeps_same : (b : Book K) (s : Settling K) (state : SheetAt)
+      → SameIn (rests_on state.phase) t' t → Keeps kind n b s state t → Keeps kind n b s state t'
+  keeps_same b s state same keeps = record {
+    phase_is = keeps.phase_is;
+    size_is = keeps.size_is;
+    shows = shows_same b.cells (same the_costs refl) (same the_standing refl) keeps.shows;
+    walks = keeps.walks;
+    beyond = beyond_same (grid_in kind n b) s state.phase same keeps.beyond;
   }

@@ -1,9 +1,9 @@
--- What came of a call is right where it is what the book says of the call, and what it tells is
+-- What came of a call is right where it is what the book says of the call, and what it gives is
 -- true.
 -- Idea: a refusal and a call that is not made add nothing to what was told, so that stays right; an
 -- accepted call adds what is then told. None of the book's needs is that tables hold together.
-use Rattle.std.proofs.Common.{◌≡◌, ◌≢◌, ℕ, Bool, true, false, not, cond, List, [], ◌∷◌, Some}
-use Rattle.std.proofs.Common.{None, Option, sym, refl, ap, ◌∙◌, subst, arith}
+use Rattle.std.proofs.Common.{◌≡◌, ◌≢◌, ℕ, Bool, true, false, not, cond, List, [], ◌∷◌, Some, None}
+use Rattle.std.proofs.Common.{Option, Result, Ok, Err, sym, refl, ap, ◌∙◌, subst}
 use Rattle.std.specs.Prelude.{MatchOption}
 use Rattle.std.specs.List.{AllByRecursion}
 use Rattle.cost.specs.declared.Cost.{Ghosts}
@@ -12,22 +12,24 @@ use Rattle.pairing.specs.Optima.{optima}
 use Rattle.matching.specs.Answers.{MarksOf}
 use Rattle.matching.specs.declared.augmenting.Shortfall.{Shortfall}
 use Rattle.sheet.specs.declared.fault.Cause.{Cause}
-use Rattle.sheet.specs.declared.fault.Cause.TheVariants.{TableLength, Block, CostRange, Absent}
 use Rattle.sheet.specs.declared.fault.Cause.TheVariants.{NoPerfectPairing, Inconsistent}
 use Rattle.sheet.specs.declared.fault.Fault.{Fault}
+use Rattle.sheet.specs.Needs.{Needs, AreMet, Responds}
 use Rattle.sheet.specs.Refusals.{fault}
 use Rattle.session.specs.declared.call.Act.{Act}
 use Rattle.session.specs.declared.call.Act.TheVariants.{Enter, Strike, Read, Settle, Quote, Total}
-use Rattle.session.specs.declared.call.Act.TheVariants.{Marks, Start, Next as NextAct, Close}
-use Rattle.session.specs.declared.call.Act.TheVariants.{Reopen}
+use Rattle.session.specs.declared.call.Act.TheVariants.{Marks, Start, Next, Close, Reopen}
 use Rattle.session.specs.declared.call.Lengths.{Lengths}
 use Rattle.session.specs.declared.call.Call.{Call}
 use Rattle.session.specs.Book.{Book, Verdict, not_allowed, refused, accepted, refusal_by, needs}
-use Rattle.session.specs.Book.{allows, moved, after_verdict, verdict_after, verdict, stands_in}
-use Rattle.session.specs.Exchange.{Told, Outcome, not_made, turned_down, tells}
-use Rattle.session.specs.Promise.{Settling, HandsOut, AgreesWith, noted, IsTrue, IsSound}
-use Rattle.session.specs.Program.{State, Tables}
-use Rattle.session.proofs.Held.{Sound, Held, Next}
+use Rattle.session.specs.Book.{allows, book_with, book_by, verdict_after, verdict, stands_in}
+use Rattle.session.specs.Exchange.{ValueOf, Reply, not_made, turned_down, gives}
+use Rattle.session.specs.Promise.{Settling, HandsOut, AgreesWith, settling_with, IsValue}
+use Rattle.session.specs.Promise.{HasRightWalks}
+use Rattle.session.specs.Lists.{Lists}
+use Rattle.session.specs.Program.{SheetAt, reply_by}
+use Rattle.session.proofs.Held.{HasWalksInTurn, Keeps, GoesOn}
+use Rattle.session.proofs.Needs.{Mirror, refuses, passes}
 use Rattle.session.proofs.Walks.{InTurn, hands_out, ended_whole}
 
 -- ---- What was told is right as a whole
@@ -59,7 +61,7 @@ module _ (n : ℕ) (ps : List (List ℕ)) where
 first_cause : (cause : Cause) (needs : List (Bool × Cause)) (f : Fault)
     → AllByRecursion (λ (need : Bool × Cause). need.1 ≢ cause) needs
     → refusal_by needs ≡ Some f → f.cause ≢ cause
-first_cause cause [] f h e = let z : ◌≡◌ {A = ℕ} 0 1 = cc in absurd (omega arith)
+first_cause cause [] f h e = cc
 first_cause cause (need ∷ needs) f h e =
     elim need.0 as (λ b. cond (not b) (Some (fault need.1 0)) (refusal_by needs) ≡ Some f
     → f.cause ≢ cause) [
@@ -68,19 +70,6 @@ first_cause cause (need ∷ needs) f h e =
           ap (λ (x : Fault). x.cause) g ∙ same)
     ] e
 
--- none of these is for want of a perfect pairing
-pub length_not_six : TableLength ≢ NoPerfectPairing
-length_not_six e = let z : ◌≡◌ {A = ℕ} 0 1 = cc in absurd (omega arith)
-
-pub block_not_six : Block ≢ NoPerfectPairing
-block_not_six e = let z : ◌≡◌ {A = ℕ} 0 1 = cc in absurd (omega arith)
-
-pub range_not_six : CostRange ≢ NoPerfectPairing
-range_not_six e = let z : ◌≡◌ {A = ℕ} 0 1 = cc in absurd (omega arith)
-
-pub absent_not_six : Absent ≢ NoPerfectPairing
-absent_not_six e = let z : ◌≡◌ {A = ℕ} 0 1 = cc in absurd (omega arith)
-
 pub never_six : (needs : List (Bool × Cause)) (f : Fault)
     → AllByRecursion (λ (need : Bool × Cause). need.1 ≢ NoPerfectPairing) needs
     → refusal_by needs ≡ Some f → f ≢ fault NoPerfectPairing 0
@@ -88,44 +77,29 @@ never_six needs f h q e =
     first_cause NoPerfectPairing needs f h q (ap (λ (x : Fault). x.cause) e)
 
 -- none of the book's is that the tables do not hold together
-pub length_not : TableLength ≢ Inconsistent
-length_not e = let z : ◌≡◌ {A = ℕ} 0 1 = cc in absurd (omega arith)
-
-pub block_not : Block ≢ Inconsistent
-block_not e = let z : ◌≡◌ {A = ℕ} 0 1 = cc in absurd (omega arith)
-
-range_not : CostRange ≢ Inconsistent
-range_not e = let z : ◌≡◌ {A = ℕ} 0 1 = cc in absurd (omega arith)
-
-pub absent_not : Absent ≢ Inconsistent
-absent_not e = let z : ◌≡◌ {A = ℕ} 0 1 = cc in absurd (omega arith)
-
-pub perfect_not : NoPerfectPairing ≢ Inconsistent
-perfect_not e = let z : ◌≡◌ {A = ℕ} 0 1 = cc in absurd (omega arith)
-
 module _ {K : Type 0} (kind : Ghosts K) (n : ℕ) where
   none_is_seven : (cells : ℕ → ℕ → Option K) (h : Lengths) (act : Act K)
       → AllByRecursion (λ (need : Bool × Cause). need.1 ≢ Inconsistent) (needs kind n cells h act)
-  none_is_seven cells h (Enter l r c) = (length_not, (block_not, (range_not, tt)))
-  none_is_seven cells h (Strike l r) = (length_not, (block_not, (absent_not, tt)))
-  none_is_seven cells h (Read l r) = (length_not, (block_not, (absent_not, tt)))
-  none_is_seven cells h Settle = (length_not, (perfect_not, tt))
-  none_is_seven cells h (Quote l r) = (length_not, (block_not, (absent_not, tt)))
-  none_is_seven cells h Total = (length_not, tt)
-  none_is_seven cells h Marks = (length_not, tt)
-  none_is_seven cells h Start = (length_not, tt)
-  none_is_seven cells h NextAct = (length_not, tt)
+  none_is_seven cells h (Enter l r c) = (λ e. cc, (λ e. cc, (λ e. cc, tt)))
+  none_is_seven cells h (Strike l r) = (λ e. cc, (λ e. cc, (λ e. cc, tt)))
+  none_is_seven cells h (Read l r) = (λ e. cc, (λ e. cc, (λ e. cc, tt)))
+  none_is_seven cells h Settle = (λ e. cc, (λ e. cc, tt))
+  none_is_seven cells h (Quote l r) = (λ e. cc, (λ e. cc, (λ e. cc, tt)))
+  none_is_seven cells h Total = (λ e. cc, tt)
+  none_is_seven cells h Marks = (λ e. cc, tt)
+  none_is_seven cells h Start = (λ e. cc, tt)
+  none_is_seven cells h Next = (λ e. cc, tt)
   none_is_seven cells h Close = tt
   none_is_seven cells h Reopen = tt
 
-  sound_is : (s : Settling K) → Sound kind n s → IsSound kind n s
-  sound_is s h = record {
+  walks_are : (s : Settling K) → HasWalksInTurn kind n s → HasRightWalks kind n s
+  walks_are s h = record {
     walks = all_hand_out (optima s.grid) (s.walk ∷ s.earlier) h.walks;
     agree = all_agree n (optima s.grid) (s.walk ∷ s.earlier) h.walks s.marks h.marks;
   }
 
-  module _ (b : Book K) (s : Settling K) (act : Act K) (h : Lengths) (o : Outcome (Told K act))
-      (state : State) (t : Tables K) where
+  module _ (b : Book K) (s : Settling K) (act : Act K) (h : Lengths) (o : Reply (ValueOf K act))
+      (state : SheetAt) (t : Lists K) where
     abbrev call : Call K
     call = record { act = act; handed = h }
 
@@ -137,52 +111,72 @@ module _ {K : Type 0} (kind : Ghosts K) (n : ℕ) where
         ∙ ap (λ x. cond ok (verdict_after x) not_allowed) er
 
     -- the book after a verdict that is known
-    held_after : (v : Verdict) (s' : Settling K) → verdict kind n b call ≡ v
-        → Held kind n (after_verdict v b act) s' state t
-        → Held kind n (after_verdict (verdict kind n b call) b act) s' state t
-    held_after v s' e held =
-        subst (λ x. Held kind n (after_verdict x b act) s' state t) (sym e) held
+    keeps_after : (v : Verdict) (s' : Settling K) → verdict kind n b call ≡ v
+        → Keeps kind n (book_by v b act) s' state t
+        → Keeps kind n (book_by (verdict kind n b call) b act) s' state t
+    keeps_after v s' e keeps =
+        subst (λ x. Keeps kind n (book_by x b act) s' state t) (sym e) keeps
 
-    pub not_made_next : o ≡ not_made → allows b.phase act ≡ false → Held kind n b s state t
-        → Next kind n b s act h o state t
-    not_made_next e ea held =
+    pub not_made_next : o ≡ not_made → allows b.phase act ≡ false → Keeps kind n b s state t
+        → GoesOn kind n b s act h o state t
+    not_made_next e ea keeps =
         let v : verdict kind n b call ≡ not_allowed = verdict_from false _ ea refl in
-        subst (λ x. Next kind n b s act h x state t) (sym e) (record {
-          right = record { verdict_is = sym v; told = tt; sound = sound_is s held.sound };
-          held = held_after not_allowed s v held;
+        subst (λ x. GoesOn kind n b s act h x state t) (sym e) (record {
+          right = record { verdict_is = sym v; reply_is = tt; walks_are = walks_are s keeps.walks };
+          keeps = keeps_after not_allowed s v keeps;
         })
 
     pub refused_next : (f : Fault) (w : Option Shortfall) → o ≡ turned_down f w
         → allows b.phase act ≡ true → refusal_by (needs kind n b.cells h act) ≡ Some f
         → MatchOption w (f ≢ fault NoPerfectPairing 0)
         (λ s. (f ≡ fault NoPerfectPairing 0) × Unpaired n (stands_in b.cells) s.crowd s.short)
-        → Held kind n b s state t → Next kind n b s act h o state t
-    refused_next f w e ea er explained held =
+        → Keeps kind n b s state t → GoesOn kind n b s act h o state t
+    refused_next f w e ea er explained keeps =
         let v : verdict kind n b call ≡ refused f = verdict_from true (Some f) ea er in
-        subst (λ x. Next kind n b s act h x state t) (sym e) (record {
+        subst (λ x. GoesOn kind n b s act h x state t) (sym e) (record {
           right = record {
             verdict_is = sym v;
-            told = record {
+            reply_is = record {
               explained = explained;
               never_seven = first_cause Inconsistent (needs kind n b.cells h act) f
                   (none_is_seven b.cells h act) er;
             };
-            sound = sound_is s held.sound;
+            walks_are = walks_are s keeps.walks;
           };
-          held = held_after (refused f) s v held;
+          keeps = keeps_after (refused f) s v keeps;
         })
 
-    pub accepted_next : (x : Told K act) → o ≡ tells x → allows b.phase act ≡ true
-        → refusal_by (needs kind n b.cells h act) ≡ None → IsTrue kind n b s act x
-        → Held kind n (moved b act) (noted kind n b s act x) state t
-        → Next kind n b s act h o state t
-    accepted_next x e ea er true' held =
+    pub accepted_next : (x : ValueOf K act) → o ≡ gives x → allows b.phase act ≡ true
+        → refusal_by (needs kind n b.cells h act) ≡ None → IsValue kind n b s act x
+        → Keeps kind n (book_with b act) (settling_with kind n b s act x) state t
+        → GoesOn kind n b s act h o state t
+    accepted_next x e ea er value keeps =
         let v : verdict kind n b call ≡ accepted = verdict_from true None ea er in
-        subst (λ y. Next kind n b s act h y state t) (sym e) (record {
+        subst (λ y. GoesOn kind n b s act h y state t) (sym e) (record {
           right = record {
             verdict_is = sym v;
-            told = true';
-            sound = sound_is (noted kind n b s act x) held.sound;
+            reply_is = value;
+            walks_are = walks_are (settling_with kind n b s act x) keeps.walks;
           };
-          held = held_after accepted (noted kind n b s act x) v held;
+          keeps = keeps_after accepted (settling_with kind n b s act x) v keeps;
         })
+
+    -- a call that answers by its needs, which the book's checks mirror; of its refusals none is for
+    -- want of a perfect pairing
+    pub goes_on_by : {R : Type 0} (needs' : Needs) (value : R → ValueOf K act) (a : Result R Fault)
+        (state' : SheetAt) → o ≡ reply_by value a → (Done : R → Type 0) (Kept : Type 0)
+        → Responds needs' a Done Kept → state' ≡ state → allows b.phase act ≡ true
+        → Mirror (needs kind n b.cells h act) needs'
+        → AllByRecursion (λ (need : Bool × Cause). need.1 ≢ NoPerfectPairing)
+        (needs kind n b.cells h act)
+        → ((r : R) → AreMet needs' → Done r → IsValue kind n b s act (value r)
+        × Keeps kind n (book_with b act) (settling_with kind n b s act (value r)) state t)
+        → (Kept → Keeps kind n b s state t) → GoesOn kind n b s act h o state' t
+    goes_on_by needs' value (Ok r) state' e Done Kept is es allowed mirror other done kept =
+        let here = done r is.0 is.1 in
+        subst (λ st. GoesOn kind n b s act h o st t) (sym es)
+        (accepted_next (value r) e allowed (passes _ needs' mirror is.0) here.0 here.1)
+    goes_on_by needs' value (Err f) state' e Done Kept is es allowed mirror other done kept =
+        let q = refuses _ needs' f mirror is.0 in
+        subst (λ st. GoesOn kind n b s act h o st t) (sym es)
+        (refused_next f None e allowed q (never_six _ f other q) (kept is.1))

@@ -1,208 +1,152 @@
--- What the calls on a settled sheet and on a walk are handed.
--- Idea: a table of the right length is the sheet's own, so the tables hold together and state the
--- book's grid inside; only lengths, blocks and absent pairs can refuse.
-use Rattle.std.proofs.Common.{◌≡◌, ◌≢◌, ℕ, Bool, true, not, ◌&&◌, ◌||◌, eqb}
-use Rattle.std.proofs.Common.{List, [], ◌∷◌, Some, None, sym}
-use Rattle.std.proofs.Common.{refl, ap, ◌∙◌, subst, ⊎_elim}
-use Rattle.std.specs.Bool.{Decides}
-use Rattle.std.proofs.lemmas.Bool.{or_right, cases_order}
+-- One call over the sheet's tables, and what it is handed of those that the state rests on.
+-- Idea: a table of the right length is the sheet's own, so from a settle on the tables hold
+-- together and state the book's grid inside.
+use Rattle.std.proofs.Common.{◌≡◌, ℕ, Bool, true, not, ◌||◌, List, length, refl, sym, ap, ◌∙◌}
+use Rattle.std.proofs.Common.{subst}
+use Rattle.std.proofs.lemmas.Bool.{or_left}
 use Rattle.cost.specs.declared.Cost.{Ghosts}
-use Rattle.cost.specs.Columns.{plus, minus}
 use Rattle.pairing.specs.Grid.{Grid}
-use Rattle.pairing.specs.Optima.{optima}
-use Rattle.pairing.proofs.Listing.{optima_are}
 use Rattle.matching.specs.Answers.{IsNth}
-use Rattle.tables.specs.Lent.{grid, HasLengths}
-use Rattle.tables.specs.PairTables.{byte_of, says_stands, cell}
-use Rattle.tables.specs.Said.{columns_at}
+use Rattle.pairing.specs.Optima.{optima}
+use Rattle.tables.specs.Lent.{Lent, grid, HasLengths}
+use Rattle.tables.specs.PairTables.{HavePlaces}
 use Rattle.tables.specs.Together.{Together}
-use Rattle.sheet.specs.declared.fault.Cause.TheVariants.{TableLength, Block, Absent, Inconsistent}
-use Rattle.sheet.specs.declared.fault.Cause.TheVariants.{NoPerfectPairing}
-use Rattle.sheet.specs.declared.fault.Fault.{Fault}
-use Rattle.sheet.specs.Needs.{Needs, need, nothing, IsFirstUnmet}
-use Rattle.sheet.specs.Pairs.{are_blocks}
-use Rattle.sheet.specs.Refusals.{fault}
 use Rattle.sheet.specs.Size.{Sheet, size_of}
-use Rattle.sheet.specs.Walking.{AreBlocks, IsQuote}
-use Rattle.sheet.proofs.Pairs.{blocks_from, blocks_told}
-use Rattle.session.specs.declared.call.Act.TheVariants.{Quote}
-use Rattle.session.specs.Book.{Book, Phase, stands_in, tables_fit, needs}
-use Rattle.session.specs.Book.{refusal_by, grid_in}
-use Rattle.session.specs.Promise.{Settling, IsQuoted}
-use Rattle.session.specs.Program.{state_at, Tables, lengths, lending, HandsAll}
-use Rattle.session.specs.Program.{priced}
-use Rattle.session.proofs.Cells.{alike, stands_alike}
-use Rattle.session.proofs.Fits.{fits, fits_with}
-use Rattle.session.proofs.Held.{Shows, Ready}
-use Rattle.session.proofs.Held.{each, lent_alike, ready_same}
-use Rattle.session.proofs.Judging.{never_six, length_not_six}
-use Rattle.session.proofs.Needs.{Mirror, refuses, passes, without}
+use Rattle.session.specs.declared.call.Act.{Act}
+use Rattle.session.specs.Book.{Book, Phase, settled, walking, allows, grid_in}
+use Rattle.session.specs.Lists.{Table, Lists, list_in, SameIn, lent_of, places_in, rests_on}
+use Rattle.session.specs.Lists.{the_costs, the_standing, the_partners, the_left, the_right}
+use Rattle.session.specs.Lists.{the_walk}
+use Rattle.session.specs.Lists.{the_marks}
+use Rattle.session.specs.Promise.{Settling}
+use Rattle.session.specs.Program.{SheetAt, state_at, HandsAll}
+use Rattle.session.proofs.Cells.{alike}
+use Rattle.session.proofs.Held.{Shows, IsReady, Keeps, keeps_same, lent_is, shows_same}
 
--- a place of the list is told by what stands there
-pub same_place : (g : Grid) (i j : ℕ) (p : List ℕ) → IsNth (optima g) i p → IsNth (optima g) j p
-    → i ≡ j
-same_place g i j p a b = ⊎_elim (λ e. e)
-    (λ differ. absurd (⊎_elim
-    (λ less. (optima_are g).list.distinct i j [] less b.0 (a.1 ∙ sym b.1))
-    (λ more. (optima_are g).list.distinct j i [] more a.0 (b.1 ∙ sym a.1)) differ))
-    (cases_order i j)
+-- a call on a sheet that keeps the book: the sheet's own tables before it, what it is handed and
+-- what it leaves there, and the sheet's own tables after it
+pub record OneCall {K : Type 0} (kind : Ghosts K) (swaps : Bool) (p : Phase) (b : Book K)
+    (s : Settling K) : Type 0 where
+  pub sheet : Sheet
+  pub own : Lists K
+  pub x : Lists K
+  pub x' : Lists K
+  pub own' : Lists K
+  pub keeps : Keeps kind (size_of sheet) b s (state_at p sheet) own
+  pub hands : HandsAll swaps (state_at p sheet) own x x' own'
 
-module _ {K : Type 0} (kind : Ghosts K) (sheet : Sheet) (swaps : Bool) (phase : Phase)
-    (rests : priced phase ≡ true) (b : Book K) (s : Settling K) (own x x' own' : Tables K)
-    (hands : HandsAll swaps (state_at phase sheet) own x x' own')
-    (shows : Shows kind (size_of sheet) b.cells own.costs own.standing)
-    (ready : Ready kind (size_of sheet) (grid_in kind (size_of sheet) b) s own) where
-  abbrev n : ℕ
-  n = size_of sheet
+module _ {K : Type 0} {kind : Ghosts K} {swaps : Bool} {p : Phase} {b : Book K} {s : Settling K}
+    (m : OneCall kind swaps p b s) where
+  abbrev pub n : ℕ
+  n = size_of m.sheet
 
-  abbrev book : Grid
+  abbrev pub here : SheetAt
+  here = state_at p m.sheet
+
+  abbrev pub book : Grid
   book = grid_in kind n b
 
-  pub needed : (not swaps || priced phase) ≡ true
-  needed = or_right (not swaps) (priced phase) rests
+  abbrev pub lent : Lent K
+  lent = lent_of n m.x
 
-  module _ (h : HasLengths (lending n x)) where
-    -- where the lengths are right, the call is handed the sheet's own tables
-    pub own_standing : x.standing ≡ own.standing
-    own_standing = hands.standing.handed refl h.room.standing_long
+  pub allowed : (act : Act K) → allows p act ≡ true → allows b.phase act ≡ true
+  allowed act e = subst (λ q. allows q act ≡ true) m.keeps.phase_is e
 
-    pub own_partners : x.partners ≡ own.partners
-    own_partners = hands.partners.handed needed h.partners_long
+  -- a table of the right length that the state rests on is the sheet's own
+  pub is_own : (table : Table) → rests_on p table ≡ true
+      → length (list_in m.x table) ≡ places_in n table → list_in m.x table ≡ list_in m.own table
+  is_own table rests long =
+      (m.hands table).handed (or_left (rests_on p table) (not swaps) rests) long
 
-    pub own_left : x.left ≡ own.left
-    own_left = hands.left.handed needed h.room.left_long
+  pub own_shows : HavePlaces n (length m.x.costs) (length m.x.standing)
+      → Shows kind n b.cells m.x.costs m.x.standing
+  own_shows have = shows_same kind n m.own m.x b.cells (is_own the_costs refl have.costs)
+      (is_own the_standing refl have.standing) m.keeps.shows
 
-    pub own_right : x.right ≡ own.right
-    own_right = hands.right.handed needed h.room.right_long
+  -- what the state rests on stays where the call leaves it
+  pub stay : SameIn (rests_on p) m.x' m.x → SameIn (rests_on p) m.own' m.own
+  stay same table rests =
+      (m.hands table).stays (or_left (rests_on p table) (not swaps) rests) (same table rests)
 
-    pub own_tables : lending n x ≡ lending n own
-    own_tables = lent_alike n own.costs x.costs own.left x.left own.right x.right own.standing
-        x.standing own.partners x.partners (hands.costs.handed refl h.room.costs_long) own_standing
-        own_partners own_left own_right
+  pub still : SameIn (rests_on p) m.x' m.x → Keeps kind n b s here m.own'
+  still same = keeps_same kind n m.own m.own' b s here (stay same) m.keeps
 
-    pub together : Together kind (lending n x)
-    together = subst (Together kind) (sym own_tables) ready.together
+-- a walk rests on all that a settled sheet does
+pub on_walk : (table : Table) → rests_on settled table ≡ true → rests_on walking table ≡ true
+on_walk the_costs e = refl
+on_walk the_standing e = refl
+on_walk the_partners e = refl
+on_walk the_left e = refl
+on_walk the_right e = refl
+on_walk the_walk e = refl
+on_walk the_marks e = e
 
-    pub grid_is : grid kind (lending n x) ≡ grid kind (lending n own)
-    grid_is = ap (λ t. grid kind t) own_tables
+-- a call that writes the walk list alone, or the marks alone
+pub walk_alone : {K : Type 0} (x x' : Lists K) → x' ≡ record x { walk = x'.walk }
+    → SameIn (rests_on settled) x' x
+walk_alone x x' e the_costs rests = ap (λ y. y.costs) e
+walk_alone x x' e the_standing rests = ap (λ y. y.standing) e
+walk_alone x x' e the_partners rests = ap (λ y. y.partners) e
+walk_alone x x' e the_left rests = ap (λ y. y.left) e
+walk_alone x x' e the_right rests = ap (λ y. y.right) e
+walk_alone x x' e the_walk rests = cc
+walk_alone x x' e the_marks rests = cc
 
-    pub optima_are_own : optima (grid kind (lending n x)) ≡ optima book
-    optima_are_own = ap optima grid_is ∙ (alike kind n b own.costs own.standing shows).optima
+pub marks_alone : {K : Type 0} (x x' : Lists K) → x' ≡ record x { marks = x'.marks }
+    → SameIn (rests_on settled) x' x
+marks_alone x x' e the_costs rests = ap (λ y. y.costs) e
+marks_alone x x' e the_standing rests = ap (λ y. y.standing) e
+marks_alone x x' e the_partners rests = ap (λ y. y.partners) e
+marks_alone x x' e the_left rests = ap (λ y. y.left) e
+marks_alone x x' e the_right rests = ap (λ y. y.right) e
+marks_alone x x' e the_walk rests = cc
+marks_alone x x' e the_marks rests = cc
 
-  -- ---- Quote
-  module _ (l r : ℕ) where
-    pub blocks_decided : Decides (are_blocks n l r) (AreBlocks n l r)
-    blocks_decided = (
-      λ e. let both = blocks_told n l r e in
-          record { left_below = both.0; right_below = both.1 },
-      λ are. blocks_from n l r are.left_below are.right_below,
-    )
+-- ---- From a settle on
 
-    pub stands_is : HasLengths (lending n x) → AreBlocks n l r
-        → says_stands (byte_of n x.standing l r) ≡ stands_in b.cells l r
-    stands_is h are = ap (λ xs. says_stands (byte_of n xs l r)) (own_standing h)
-        ∙ stands_alike kind n b own.costs own.standing shows l r are.left_below are.right_below
+module _ {K : Type 0} {kind : Ghosts K} {swaps : Bool} {p : Phase} {b : Book K} {s : Settling K}
+    (m : OneCall kind swaps p b s)
+    (rests : (table : Table) → rests_on settled table ≡ true → rests_on p table ≡ true)
+    (same : SameIn (rests_on settled) m.x' m.x) where
+  own_stays : SameIn (rests_on settled) m.own' m.own
+  own_stays table e =
+      (m.hands table).stays (or_left (rests_on p table) (not swaps) (rests table e)) (same table e)
 
-    abbrev pub lean_quote : Needs
-    lean_quote = need (HasLengths (lending n x)) TableLength (need (AreBlocks n l r) Block
-        (need (says_stands (byte_of n x.standing l r) ≡ true) Absent nothing))
+  pub still_shows : Shows kind (n m) b.cells m.own'.costs m.own'.standing
+  still_shows = shows_same kind (n m) m.own m.own' b.cells (own_stays the_costs refl)
+      (own_stays the_standing refl) m.keeps.shows
 
-    pub quote_mirror : Mirror (needs kind n b.cells (lengths x) (Quote l r)) lean_quote
-    quote_mirror = (
-      fits n x,
-      refl,
-      λ h. (
-        blocks_decided,
-        refl,
-        λ are. (
-          (λ e. stands_is h are ∙ e, λ e. sym (stands_is h are) ∙ e),
-          refl,
-          λ e. tt,
-        ),
-      ),
-    )
+  -- the tables that a call does not write stay ready, also where more was told since
+  pub still_ready : IsReady kind (n m) (book m) s m.own → (s' : Settling K) → s'.grid ≡ s.grid
+      → s'.settlement ≡ s.settlement → IsReady kind (n m) (book m) s' m.own'
+  still_ready ready s' eg ew =
+      let e = lent_is (n m) m.own m.own' (own_stays the_costs refl) (own_stays the_standing refl)
+      (own_stays the_partners refl) (own_stays the_left refl) (own_stays the_right refl) in
+      record {
+        grid_is = eg ∙ ready.grid_is;
+        left_is = ap (λ l. l.left) e ∙ ready.left_is ∙ ap (λ w. w.left) (sym ew);
+        right_is = ap (λ l. l.right) e ∙ ready.right_is ∙ ap (λ w. w.right) (sym ew);
+        first = subst (IsNth (optima (book m)) 0) (sym (ap (λ l. l.partners) e)) ready.first;
+        together = subst (Together kind) (sym e) ready.together;
+      }
 
-    pub quoted : (q : K × K) → HasLengths (lending n x) → AreBlocks n l r
-        → IsQuote kind (lending n x) l r q → IsQuoted kind n (b.cells l r) s.written l r q
-    quoted q h are is = record {
-      cost = sym (each kind n b.cells own.costs own.standing shows l r are.left_below
-          are.right_below)
-          ∙ ap (λ xs. cell kind.zero n xs own.standing l r)
-          (sym (hands.costs.handed refl h.room.costs_long))
-          ∙ ap (λ xs. cell kind.zero n x.costs xs l r) (sym (own_standing h)) ∙ is.cost;
-      slack = is.slack
-          ∙ ap (λ xs. minus (kind.meaning q.0) (plus (columns_at kind xs l)
-          (columns_at kind x.right r))) (own_left h ∙ ready.left_is)
-          ∙ ap (λ xs. minus (kind.meaning q.0) (plus (columns_at kind s.written.left l)
-          (columns_at kind xs r))) (own_right h ∙ ready.right_is);
-    }
+module _ {K : Type 0} {kind : Ghosts K} {swaps : Bool} {p : Phase} {b : Book K} {s : Settling K}
+    (m : OneCall kind swaps p b s)
+    (rests : (table : Table) → rests_on settled table ≡ true → rests_on p table ≡ true)
+    (ready : IsReady kind (n m) (book m) s m.own) where
+  -- where the lengths are right, the call is handed the sheet's own tables
+  module _ (h : HasLengths (lent m)) where
+    pub own_lent : lent m ≡ lent_of (n m) m.own
+    own_lent = lent_is (n m) m.own m.x
+        (is_own m the_costs (rests the_costs refl) h.room.costs_long)
+        (is_own m the_standing (rests the_standing refl) h.room.standing_long)
+        (is_own m the_partners (rests the_partners refl) h.partners_long)
+        (is_own m the_left (rests the_left refl) h.room.left_long)
+        (is_own m the_right (rests the_right refl) h.room.right_long)
 
-  -- ---- One table more
+    pub together : Together kind (lent m)
+    together = subst (Together kind) (sym own_lent) ready.together
 
-  abbrev pub lean : (long size : ℕ) → Needs
-  lean long size = need (HasLengths (lending n x) × (long ≡ size)) TableLength nothing
-
-  pub lean_mirror : (long size : ℕ)
-      → Mirror ((tables_fit n (lengths x) && eqb long size, TableLength) ∷ []) (lean long size)
-  lean_mirror long size = (fits_with n x long size, refl, λ h. tt)
-
-  pub lean_refuses : (long size : ℕ) (Second : Type 0) (f : Fault)
-      → (HasLengths (lending n x) × (long ≡ size) → Second)
-      → IsFirstUnmet (need (HasLengths (lending n x) × (long ≡ size)) TableLength
-      (need Second Inconsistent nothing)) f
-      → refusal_by ((tables_fit n (lengths x) && eqb long size, TableLength) ∷ []) ≡ Some f
-  lean_refuses long size Second f follows unmet =
-      refuses ((tables_fit n (lengths x) && eqb long size, TableLength) ∷ []) (lean long size) f
-      (lean_mirror long size)
-      (without (HasLengths (lending n x) × (long ≡ size)) Second TableLength Inconsistent nothing f
-      follows unmet)
-
-  pub lean_passes : (long size : ℕ) → HasLengths (lending n x) × (long ≡ size)
-      → refusal_by ((tables_fit n (lengths x) && eqb long size, TableLength) ∷ []) ≡ None
-  lean_passes long size h =
-      passes ((tables_fit n (lengths x) && eqb long size, TableLength) ∷ []) (lean long size)
-      (lean_mirror long size) (h, tt)
-
-  pub lean_not_six : (long size : ℕ) (f : Fault)
-      → refusal_by ((tables_fit n (lengths x) && eqb long size, TableLength) ∷ []) ≡ Some f
-      → f ≢ fault NoPerfectPairing 0
-  lean_not_six long size f q =
-      never_six ((tables_fit n (lengths x) && eqb long size, TableLength) ∷ []) f
-      (length_not_six, tt) q
-
-  -- the tables that the call does not write stay
-  module _ (ec : x'.costs ≡ x.costs) (es : x'.standing ≡ x.standing)
-      (ep : x'.partners ≡ x.partners) (el : x'.left ≡ x.left) (er : x'.right ≡ x.right) where
-    pub costs_stay : own'.costs ≡ own.costs
-    costs_stay = hands.costs.stays refl ec
-
-    pub standing_stays : own'.standing ≡ own.standing
-    standing_stays = hands.standing.stays refl es
-
-    pub partners_stay : own'.partners ≡ own.partners
-    partners_stay = hands.partners.stays needed ep
-
-    pub left_stays : own'.left ≡ own.left
-    left_stays = hands.left.stays needed el
-
-    pub right_stays : own'.right ≡ own.right
-    right_stays = hands.right.stays needed er
-
-    pub still_ready : Ready kind n book s own'
-    still_ready = ready_same kind n own own' costs_stay standing_stays book s partners_stay
-        left_stays right_stays ready
-
-    -- also where more was told since
-    pub ready_for : (s' : Settling K) → s'.grid ≡ s.grid → s'.written ≡ s.written
-        → Ready kind n book s' own'
-    ready_for s' eg ew = record {
-      grid_is = eg ∙ still_ready.grid_is;
-      left_is = still_ready.left_is ∙ ap (λ w. w.left) (sym ew);
-      right_is = still_ready.right_is ∙ ap (λ w. w.right) (sym ew);
-      first = still_ready.first;
-      together = still_ready.together;
-    }
-
-    pub still_shows : Shows kind n b.cells own'.costs own'.standing
-    still_shows = subst (λ xs. Shows kind n b.cells xs own'.standing) (sym costs_stay)
-        (subst (λ xs. Shows kind n b.cells own.costs xs) (sym standing_stays) shows)
+    pub optima_are : optima (grid kind (lent m)) ≡ optima (book m)
+    optima_are = ap (λ t. optima (grid kind t)) own_lent
+        ∙ (alike kind (n m) b m.own.costs m.own.standing m.keeps.shows).optima

@@ -23,20 +23,20 @@ use Rattle.matching.specs.Answers.{MarksOf}
 use Rattle.tables.specs.Said.{columns_at, Bounded}
 use Rattle.sheet.specs.declared.fault.Cause.{Cause}
 use Rattle.sheet.specs.declared.fault.Cause.TheVariants.{NoPerfectPairing, Inconsistent}
-use Rattle.sheet.specs.declared.fault.Cause.TheVariants.{TableLength}
+use Rattle.sheet.specs.declared.fault.Cause.TheVariants.{TableLength, Block, Absent}
 use Rattle.sheet.specs.declared.fault.Fault.{Fault}
 use Rattle.sheet.specs.Refusals.{fault}
-use Rattle.session.specs.Book.{Book, blank, step, grid_in, with_cell, stands_in}
+use Rattle.session.specs.Book.{Book, blank, verdict, step, grid_in, with_cell, stands_in}
 use Rattle.session.specs.Example.{whole_numbers, first, second, with_prices, entries, marks}
 use Rattle.session.specs.Example.{refusals, settled_calls, walk_calls, calls_again, full, since}
 use Rattle.session.specs.Example.{settled_book, whole, crowded, bare, lower_prices}
-use Rattle.session.specs.Exchange.{Exchange, call_of}
-use Rattle.session.specs.Promise.{AgreesWith, IsSettlement, IsMarked, IsRefusal, IsSound, ended}
-use Rattle.session.specs.Promise.{KeepsPromise, AllRight, Settling, fresh, noted_of}
+use Rattle.session.specs.Exchange.{Exchange, call_of, verdict_of}
+use Rattle.session.specs.Promise.{AgreesWith, IsSettlement, IsMarked, IsRefusal, HasRightWalks}
+use Rattle.session.specs.Promise.{has_ended}
+use Rattle.session.specs.Promise.{IsReply, IsRight}
+use Rattle.session.specs.Promise.{KeepsPromise, AllRight, Settling, fresh, settling_by}
 use Rattle.session.specs.Promise.{settling_of, book_after}
-use Rattle.session.proofs.Theorem.{told_after}
-use Rattle.session.proofs.Judging.{length_not_six, block_not_six, absent_not_six, length_not}
-use Rattle.session.proofs.Judging.{block_not, absent_not, perfect_not}
+use Rattle.session.proofs.Theorem.{settling_after}
 
 -- what is in the list is perfect
 perfect : (g : Grid) (p : List ℕ) → Contains (optima g) p → PerfectIn g p
@@ -54,6 +54,19 @@ below_two P a b zero h = a
 below_two P a b (suc zero) h = b
 below_two P a b (suc (suc k)) h = absurd (omega (arith, h))
 
+-- one call that is right
+pub is_right : {n : ℕ} {b : Book ℤ} {s : Settling ℤ} {e : Exchange ℤ}
+    → verdict_of e.reply ≡ verdict whole_numbers n b (call_of e)
+    → IsReply whole_numbers n b s e.act e.reply
+    → HasRightWalks whole_numbers n (settling_by whole_numbers n b s e.act e.reply)
+    → IsRight whole_numbers n b s e
+is_right verdict reply walks =
+    record { verdict_is = verdict; reply_is = reply; walks_are = walks }
+
+-- and calls after it
+also : {One More : Type 0} → One → More → One × More
+also one more = (one, more)
+
 -- ---- Refusals that are not for want of a perfect pairing
 
 refusal : (b : Book ℤ) (cause : Cause) → cause ≢ NoPerfectPairing → cause ≢ Inconsistent
@@ -64,7 +77,7 @@ refusal b cause six seven = record {
 }
 
 too_short : IsRefusal whole_numbers 3 full (fault TableLength 0) None
-too_short = refusal full TableLength length_not_six length_not
+too_short = refusal full TableLength (λ e. cc) (λ e. cc)
 
 -- ---- What the two settles wrote
 
@@ -127,7 +140,7 @@ marked_is : IsMarked whole_numbers 3 grid marks
 marked_is = record { long = refl; marks = marked }
 
 -- a walk that was not carried to its end agrees with any marks
-unended : (walk : List (Option (List ℕ))) → ended walk ≡ false → AgreesWith 3 marks walk
+unended : (walk : List (Option (List ℕ))) → has_ended walk ≡ false → AgreesWith 3 marks walk
 unended walk e k = absurd (false≢true (sym e ∙ k))
 
 -- what was told when the walk began, and when it was closed
@@ -142,142 +155,100 @@ told_walked = record told_settled {
 
 -- ---- What was told is right as a whole, at each point of the list
 
-sound_fresh : IsSound whole_numbers 3 (fresh whole_numbers 3)
+sound_fresh : HasRightWalks whole_numbers 3 (fresh whole_numbers 3)
 sound_fresh = record { walks = (refl, tt); agree = tt }
 
-sound_since : IsSound whole_numbers 3 since
+no_walks : {n : ℕ} → HasRightWalks whole_numbers n (fresh whole_numbers n)
+no_walks = record { walks = (refl, tt); agree = tt }
+
+sound_since : HasRightWalks whole_numbers 3 since
 sound_since = record { walks = (refl, tt); agree = tt }
 
-sound_marked : IsSound whole_numbers 3 told_settled
+sound_marked : HasRightWalks whole_numbers 3 told_settled
 sound_marked = record { walks = (refl, tt); agree = ((unended [] refl, tt), tt) }
 
 -- on a walk that handed out so much
 abbrev on_walk : List (Option (List ℕ)) → Settling ℤ
 on_walk walk = record told_settled { walk = walk; earlier = [] ∷ [] }
 
-sound_begun : IsSound whole_numbers 3 (on_walk (Some first ∷ []))
+sound_begun : HasRightWalks whole_numbers 3 (on_walk (Some first ∷ []))
 sound_begun = record {
   walks = (refl, (refl, tt));
   agree = ((unended (Some first ∷ []) refl, (unended [] refl, tt)), tt);
 }
 
-sound_went_on : IsSound whole_numbers 3 (on_walk (Some first ∷ Some second ∷ []))
+sound_went_on : HasRightWalks whole_numbers 3 (on_walk (Some first ∷ Some second ∷ []))
 sound_went_on = record {
   walks = (refl, (refl, tt));
   agree = ((unended (Some first ∷ Some second ∷ []) refl, (unended [] refl, tt)), tt);
 }
 
-sound_ended : IsSound whole_numbers 3 (on_walk (Some first ∷ Some second ∷ None ∷ []))
+sound_ended : HasRightWalks whole_numbers 3 (on_walk (Some first ∷ Some second ∷ None ∷ []))
 sound_ended = record {
   walks = (refl, (refl, tt));
   agree = (((λ _. marked), (unended [] refl, tt)), tt);
 }
 
-sound_walked : IsSound whole_numbers 3 told_walked
+sound_walked : HasRightWalks whole_numbers 3 told_walked
 sound_walked = record {
   walks = (refl, (refl, tt));
   agree = (((λ _. marked), (unended [] refl, tt)), tt);
 }
 
-sound_again : IsSound whole_numbers 3 (settling_of whole_numbers 3 struck_grid (with_prices second))
+sound_again : HasRightWalks whole_numbers 3
+    (settling_of whole_numbers 3 struck_grid (with_prices second))
 sound_again = record { walks = (refl, tt); agree = tt }
 
 -- ---- The list, part by part
 
 entries_right : AllRight whole_numbers 3 blank (fresh whole_numbers 3) entries
-entries_right = (
-  record { verdict_is = refl; told = tt; sound = sound_fresh },
-  (
-    record { verdict_is = refl; told = tt; sound = sound_fresh },
-    (
-      record { verdict_is = refl; told = tt; sound = sound_fresh },
-      (
-        record { verdict_is = refl; told = tt; sound = sound_fresh },
-        (
-          record { verdict_is = refl; told = tt; sound = sound_fresh },
-          (
-            record { verdict_is = refl; told = tt; sound = sound_fresh },
-            (
-              record { verdict_is = refl; told = tt; sound = sound_fresh },
-              tt,
-            ),
-          ),
-        ),
-      ),
-    ),
-  ),
-)
+entries_right =
+    also (is_right refl tt sound_fresh)
+    (also (is_right refl tt sound_fresh)
+    (also (is_right refl tt sound_fresh)
+    (also (is_right refl tt sound_fresh)
+    (also (is_right refl tt sound_fresh)
+    (also (is_right refl tt sound_fresh)
+    (also (is_right refl tt sound_fresh) tt))))))
 
 refusals_right : AllRight whole_numbers 3 full (fresh whole_numbers 3) refusals
-refusals_right = (
-  record { verdict_is = refl; told = refusal _ _ block_not_six block_not; sound = sound_fresh },
-  (
-    record { verdict_is = refl; told = refusal _ _ absent_not_six absent_not; sound = sound_fresh },
-    (
-      record { verdict_is = refl; told = too_short; sound = sound_fresh },
-      tt,
-    ),
-  ),
-)
+refusals_right =
+    also (is_right refl (refusal _ Block (λ e. cc) (λ e. cc)) sound_fresh)
+    (also (is_right refl (refusal _ Absent (λ e. cc) (λ e. cc)) sound_fresh)
+    (also (is_right refl too_short sound_fresh) tt))
 
 settled_right : AllRight whole_numbers 3 full (fresh whole_numbers 3) settled_calls
-settled_right = (
-  record { verdict_is = refl; told = settled_first; sound = sound_since },
-  (
-    record { verdict_is = refl; told = record { cost = refl; slack = refl }; sound = sound_since },
-    (
-      record { verdict_is = refl; told = tt; sound = sound_since },
-      (
-        record { verdict_is = refl; told = refl; sound = sound_since },
-        (
-          record { verdict_is = refl; told = marked_is; sound = sound_marked },
-          tt,
-        ),
-      ),
-    ),
-  ),
-)
+settled_right =
+    also (is_right refl settled_first sound_since)
+    (also (is_right refl (record { cost = refl; slack = refl }) sound_since)
+    (also (is_right refl tt sound_since)
+    (also (is_right refl refl sound_since)
+    (also (is_right refl marked_is sound_marked) tt))))
 
 walk_right : AllRight whole_numbers 3 settled_book told_settled walk_calls
-walk_right = (
-  record { verdict_is = refl; told = tt; sound = sound_begun },
-  (
-    record { verdict_is = refl; told = tt; sound = sound_went_on },
-    (
-      record { verdict_is = refl; told = tt; sound = sound_ended },
-      (
-        record { verdict_is = refl; told = tt; sound = sound_walked },
-        (
-          record { verdict_is = refl; told = tt; sound = sound_walked },
-          tt,
-        ),
-      ),
-    ),
-  ),
-)
+walk_right =
+    also (is_right refl tt sound_begun)
+    (also (is_right refl tt sound_went_on)
+    (also (is_right refl tt sound_ended)
+    (also (is_right refl tt sound_walked)
+    (also (is_right refl tt sound_walked) tt))))
 
 again_right : AllRight whole_numbers 3 settled_book told_walked calls_again
-again_right = (
-  record { verdict_is = refl; told = tt; sound = sound_walked },
-  (
-    record { verdict_is = refl; told = tt; sound = sound_walked },
-    (
-      record { verdict_is = refl; told = settled_second; sound = sound_again },
-      tt,
-    ),
-  ),
-)
+again_right =
+    also (is_right refl tt sound_walked)
+    (also (is_right refl tt sound_walked)
+    (also (is_right refl settled_second sound_again) tt))
 
 joined : (b : Book ℤ) (s : Settling ℤ) (es ds : List (Exchange ℤ))
     → AllRight whole_numbers 3 b s es
     → AllRight whole_numbers 3 (book_after whole_numbers 3 b es)
-    (told_after whole_numbers 3 b s es) ds
+    (settling_after whole_numbers 3 b s es) ds
     → AllRight whole_numbers 3 b s (es ++ ds)
 joined b s [] ds h i = i
 joined b s (e ∷ es) ds h i = (
   h.0,
   joined (step whole_numbers 3 b (call_of e))
-      (noted_of whole_numbers 3 b s e.act e.outcome) es ds h.1 i,
+      (settling_by whole_numbers 3 b s e.act e.reply) es ds h.1 i,
 )
 
 pub keeps : KeepsPromise whole_numbers 3 whole
@@ -295,7 +266,7 @@ keeps =
 explained : (n : ℕ) (b : Book ℤ) (crowd short : ℕ) → Unpaired n (stands_in b.cells) crowd short
     → IsRefusal whole_numbers n b (fault NoPerfectPairing 0)
     (Some (record { crowd = crowd; short = short }))
-explained n b crowd short is = record { explained = (refl, is); never_seven = perfect_not }
+explained n b crowd short is = record { explained = (refl, is); never_seven = λ e. cc }
 
 -- the worked grids without a perfect pairing are tables of the free kind
 abbrev costless : Ghosts Free
@@ -321,20 +292,10 @@ crowded_unpaired =
     (crowded_is costless)
 
 pub crowded_keeps : KeepsPromise whole_numbers 2 (crowded 3 1)
-crowded_keeps = (
-  record { verdict_is = refl; told = tt; sound = record { walks = (refl, tt); agree = tt } },
-  (
-    record { verdict_is = refl; told = tt; sound = record { walks = (refl, tt); agree = tt } },
-    (
-      record {
-        verdict_is = refl;
-        told = explained 2 crowded_book 3 1 crowded_unpaired;
-        sound = record { walks = (refl, tt); agree = tt };
-      },
-      tt,
-    ),
-  ),
-)
+crowded_keeps =
+    also (is_right refl tt no_walks)
+    (also (is_right refl tt no_walks)
+    (also (is_right refl (explained 2 crowded_book 3 1 crowded_unpaired) no_walks) tt))
 
 bare_alike : Alike 1 (bare_grid costless).stands (stands_in {K = ℤ} (λ l r. None))
 bare_alike zero zero i j = refl
@@ -342,17 +303,8 @@ bare_alike (suc l) r i j = absurd (omega (arith, i))
 bare_alike zero (suc r) i j = absurd (omega (arith, j))
 
 pub bare_keeps : KeepsPromise whole_numbers 1 (bare 1 1)
-bare_keeps = (
-  record {
-    verdict_is = refl;
-    told = explained 1 blank 1 1
-        (unpaired_like 1 (bare_grid costless).stands (stands_in {K = ℤ} (λ l r. None)) bare_alike 1
-        1
-        (bare_is costless));
-    sound = record { walks = (refl, tt); agree = tt };
-  },
-  tt,
-)
+bare_keeps =
+    also (is_right refl (explained 1 blank 1 1 (unpaired_like 1 (bare_grid costless).stands (stands_in {K = ℤ} (λ l r. None)) bare_alike 1 1 (bare_is costless))) no_walks) tt
 
 -- a crowd set without left block 1 is made up, and so is a shortage of 2
 pub not_one : Unpaired 2 (stands_in crowded_book.cells) 1 1 → ⊥

@@ -5,7 +5,7 @@
 use Rattle.std.proofs.Common.{◌≡◌, ℕ, zero, suc, ◌≤◌, true, List, [], ◌∷◌, ◌++◌, length, take, map}
 use Rattle.std.proofs.Common.{replicate, Some, None, Option, sym, refl, ap, ap₂, arith}
 use Rattle.matching.specs.Answers.{IsNth}
-use Rattle.session.specs.Promise.{HandsOut, ended, handed_out}
+use Rattle.session.specs.Promise.{HandsOut, has_ended, pairings_of}
 
 -- the pairings of the list in turn, and `End` exactly from when none is left
 abbrev pub InTurn : List (List ℕ) → List (Option (List ℕ)) → Type 0
@@ -36,16 +36,16 @@ ends (q ∷ ps) (Some x ∷ walk) h i = (h.0, ends ps walk h.1 (omega (arith, i)
 
 -- a walk that was carried to its end handed out the whole list
 pub ended_whole : (ps : List (List ℕ)) (walk : List (Option (List ℕ))) → InTurn ps walk
-    → ended walk ≡ true → handed_out walk ≡ ps
+    → has_ended walk ≡ true → pairings_of walk ≡ ps
 ended_whole [] [] h e = refl
 ended_whole [] (None ∷ walk) h e = none_more walk h
   where
-    none_more : (walk : List (Option (List ℕ))) → InTurn [] walk → handed_out walk ≡ []
+    none_more : (walk : List (Option (List ℕ))) → InTurn [] walk → pairings_of walk ≡ []
     none_more [] h = refl
     none_more (None ∷ walk) h = none_more walk h
     none_more (Some x ∷ walk) h = absurd h
 ended_whole [] (Some x ∷ walk) h e = absurd h
-ended_whole (q ∷ ps) [] h e = let z : ◌≡◌ {A = ℕ} 0 1 = cc in absurd (omega arith)
+ended_whole (q ∷ ps) [] h e = cc
 ended_whole (q ∷ ps) (None ∷ walk) h e = absurd h
 ended_whole (q ∷ ps) (Some x ∷ walk) h e = ap₂ (λ y ys. y ∷ ys) h.0 (ended_whole ps walk h.1 e)
 

@@ -90,23 +90,23 @@ module _ {K : Type 0} where
   allows phase act = same_phase phase (made_in act)
 
   -- the book after an accepted call
-  abbrev pub moved : Book K → Act K → Book K
-  moved b (Enter l r c) = record b { cells = with_cell b.cells l r (Some c) }
-  moved b (Strike l r) = record b { cells = with_cell b.cells l r None }
-  moved b (Read l r) = b
-  moved b Settle = record b { phase = settled }
-  moved b (Quote l r) = b
-  moved b Total = b
-  moved b Marks = b
-  moved b Start = record b { phase = walking }
-  moved b Next = b
-  moved b Close = record b { phase = settled }
-  moved b Reopen = record b { phase = opened }
+  abbrev pub book_with : Book K → Act K → Book K
+  book_with b (Enter l r c) = record b { cells = with_cell b.cells l r (Some c) }
+  book_with b (Strike l r) = record b { cells = with_cell b.cells l r None }
+  book_with b (Read l r) = b
+  book_with b Settle = record b { phase = settled }
+  book_with b (Quote l r) = b
+  book_with b Total = b
+  book_with b Marks = b
+  book_with b Start = record b { phase = walking }
+  book_with b Next = b
+  book_with b Close = record b { phase = settled }
+  book_with b Reopen = record b { phase = opened }
 
-  abbrev pub after_verdict : Verdict → Book K → Act K → Book K
-  after_verdict accepted b act = moved b act
-  after_verdict (refused f) b act = b
-  after_verdict not_allowed b act = b
+  abbrev pub book_by : Verdict → Book K → Act K → Book K
+  book_by accepted b act = book_with b act
+  book_by (refused f) b act = b
+  book_by not_allowed b act = b
 
 abbrev pub verdict_after : Option Fault → Verdict
 verdict_after None = accepted
@@ -139,7 +139,7 @@ module _ {K : Type 0} (kind : Ghosts K) (n : ℕ) where
 
   -- the book after a call
   abbrev pub step : Book K → Call K → Book K
-  step b call = after_verdict (verdict b call) b call.act
+  step b call = book_by (verdict b call) b call.act
 
   abbrev pub columns_in : Option K → List ℤ
   columns_in None = []

@@ -13,10 +13,11 @@ use Rattle.session.specs.declared.call.Act.TheVariants.{Enter, Strike, Read, Set
 use Rattle.session.specs.declared.call.Act.TheVariants.{Marks, Start, Next, Close, Reopen}
 use Rattle.session.specs.declared.call.Lengths.{Lengths}
 use Rattle.session.specs.Book.{Book, blank, grid_in}
-use Rattle.session.specs.Exchange.{Told, Outcome, Written, not_made, turned_down, tells, Exchange}
-use Rattle.session.specs.Program.{Tables, told_last}
+use Rattle.session.specs.Exchange.{ValueOf, Reply, Settlement, not_made, turned_down, gives}
+use Rattle.session.specs.Exchange.{Exchange}
+use Rattle.session.specs.Lists.{Lists, right_lengths}
+use Rattle.session.specs.Program.{lists_after}
 use Rattle.session.specs.Promise.{Settling, settling_of, AllRight, KeepsPromise, book_after}
-use Rattle.session.specs.Runs.{right_lengths}
 
 abbrev pub whole_numbers : Ghosts ℤ
 whole_numbers = record { columns = 1; meaning = λ z. z ∷ []; zero = pos 0 }
@@ -24,21 +25,21 @@ whole_numbers = record { columns = 1; meaning = λ z. z ∷ []; zero = pos 0 }
 -- ---- Calls with what came of them, over tables of the right lengths
 
 -- on n blocks a plane
-abbrev pub on_blocks : ℕ → (act : Act ℤ) → Outcome (Told ℤ act) → Exchange ℤ
-on_blocks n act outcome = record { act = act; handed = right_lengths n; outcome = outcome }
+abbrev pub on_blocks : ℕ → (act : Act ℤ) → Reply (ValueOf ℤ act) → Exchange ℤ
+on_blocks n act reply = record { act = act; handed = right_lengths n; reply = reply }
 
 -- on three blocks a plane
-abbrev pub said : (act : Act ℤ) → Told ℤ act → Exchange ℤ
-said act x = on_blocks 3 act (tells x)
+abbrev pub giving : (act : Act ℤ) → ValueOf ℤ act → Exchange ℤ
+giving act x = on_blocks 3 act (gives x)
 
-abbrev pub refused : Act ℤ → Cause → Option Shortfall → Exchange ℤ
-refused act cause shortfall = on_blocks 3 act (turned_down (fault cause 0) shortfall)
+abbrev pub refusing : Act ℤ → Cause → Option Shortfall → Exchange ℤ
+refusing act cause shortfall = on_blocks 3 act (turned_down (fault cause 0) shortfall)
 
-abbrev pub declined : Act ℤ → Exchange ℤ
-declined act = on_blocks 3 act not_made
+abbrev pub declining : Act ℤ → Exchange ℤ
+declining act = on_blocks 3 act not_made
 
-abbrev pub entered : ℕ → ℕ → ℕ → Exchange ℤ
-entered l r cost = said (Enter l r (pos cost)) tt
+abbrev pub entering : ℕ → ℕ → ℕ → Exchange ℤ
+entering l r cost = giving (Enter l r (pos cost)) tt
 
 -- one place of a left price or of a standing byte is missing
 abbrev pub short_left : Lengths
@@ -56,7 +57,7 @@ abbrev pub second : List ℕ
 second = 1 ∷ 0 ∷ 2 ∷ []
 
 -- the sheet's greatest prices
-abbrev pub with_prices : List ℕ → Written ℤ
+abbrev pub with_prices : List ℕ → Settlement ℤ
 with_prices partners = record {
   partners = partners;
   left = pos 4 ∷ pos 3 ∷ pos 2 ∷ [];
@@ -64,8 +65,8 @@ with_prices partners = record {
 }
 
 abbrev pub entries : List (Exchange ℤ)
-entries = entered 0 0 4 ∷ entered 0 1 2 ∷ entered 1 0 3 ∷ entered 1 1 1 ∷ entered 1 2 5
-    ∷ entered 2 1 6 ∷ entered 2 2 2 ∷ []
+entries = entering 0 0 4 ∷ entering 0 1 2 ∷ entering 1 0 3 ∷ entering 1 1 1 ∷ entering 1 2 5
+    ∷ entering 2 1 6 ∷ entering 2 2 2 ∷ []
 
 abbrev pub marks : List ℕ
 marks = 1 ∷ 1 ∷ 0 ∷ 1 ∷ 1 ∷ 0 ∷ 0 ∷ 0 ∷ 1 ∷ []
@@ -73,53 +74,53 @@ marks = 1 ∷ 1 ∷ 0 ∷ 1 ∷ 1 ∷ 0 ∷ 0 ∷ 0 ∷ 1 ∷ []
 -- calls that are refused
 abbrev pub refusals : List (Exchange ℤ)
 refusals =
-    refused (Enter 3 0 (pos 1)) Block None
-    ∷ refused (Strike 0 2) Absent None
+    refusing (Enter 3 0 (pos 1)) Block None
+    ∷ refusing (Strike 0 2) Absent None
     ∷ record {
       act = Settle;
       handed = short_left;
-      outcome = turned_down (fault TableLength 0) None;
+      reply = turned_down (fault TableLength 0) None;
     }
     ∷ []
 
 -- the sheet is settled, quoted and marked; the open sheet's calls are not to be had
 abbrev pub settled_calls : List (Exchange ℤ)
 settled_calls =
-    said Settle (with_prices first)
-    ∷ said (Quote 1 2) (pos 5, pos 2)
-    ∷ declined (Enter 0 2 (pos 1))
-    ∷ said Total (pos 7)
-    ∷ said Marks marks
+    giving Settle (with_prices first)
+    ∷ giving (Quote 1 2) (pos 5, pos 2)
+    ∷ declining (Enter 0 2 (pos 1))
+    ∷ giving Total (pos 7)
+    ∷ giving Marks marks
     ∷ []
 
 -- a walk is carried to its end and closed
 abbrev pub walk_calls : List (Exchange ℤ)
 walk_calls =
-    said Start first
-    ∷ said Next (Some second)
-    ∷ said Next None
-    ∷ said Next None
-    ∷ said Close tt
+    giving Start first
+    ∷ giving Next (Some second)
+    ∷ giving Next None
+    ∷ giving Next None
+    ∷ giving Close tt
     ∷ []
 
 -- and the sheet is settled again without one of its pairs
 abbrev pub calls_again : List (Exchange ℤ)
 calls_again =
-    said Reopen tt
-    ∷ said (Strike 0 0) tt
-    ∷ said Settle (with_prices second)
+    giving Reopen tt
+    ∷ giving (Strike 0 0) tt
+    ∷ giving Settle (with_prices second)
     ∷ []
 
 abbrev pub whole : List (Exchange ℤ)
 whole = entries ++ (refusals ++ (settled_calls ++ (walk_calls ++ calls_again)))
 
--- ---- Sheets without a perfect pairing: a settle is refused, and tells this crowd set and shortage
+-- ---- Sheets without a perfect pairing: a settle is refused, and gives this crowd set and shortage
 
 -- two blocks a plane, of which both left ones stand with right block 0 alone
 abbrev pub crowded : (crowd short : ℕ) → List (Exchange ℤ)
 crowded crowd short =
-    on_blocks 2 (Enter 0 0 (pos 0)) (tells tt)
-    ∷ on_blocks 2 (Enter 1 0 (pos 0)) (tells tt)
+    on_blocks 2 (Enter 0 0 (pos 0)) (gives tt)
+    ∷ on_blocks 2 (Enter 1 0 (pos 0)) (gives tt)
     ∷ on_blocks 2 Settle (turned_down (fault NoPerfectPairing 0)
     (Some (record { crowd = crowd; short = short })))
     ∷ []
@@ -138,7 +139,7 @@ abbrev pub full : Book ℤ
 full = book_after whole_numbers 3 blank entries
 
 abbrev pub settled_book : Book ℤ
-settled_book = book_after whole_numbers 3 full (said Settle (with_prices first) ∷ [])
+settled_book = book_after whole_numbers 3 full (giving Settle (with_prices first) ∷ [])
 
 abbrev pub since : Settling ℤ
 since = settling_of whole_numbers 3 (grid_in whole_numbers 3 full) (with_prices first)
@@ -149,7 +150,7 @@ Right es = AllRight whole_numbers 3 settled_book since es
 
 -- the sheet's prices, with each left price raised and each right one lowered by one: they are valid
 -- too, and not the greatest
-abbrev pub lower_prices : Written ℤ
+abbrev pub lower_prices : Settlement ℤ
 lower_prices = record {
   partners = first;
   left = pos 5 ∷ pos 4 ∷ pos 3 ∷ [];
@@ -161,7 +162,7 @@ pub record Shown : Type 0 where
   pub crowded_keeps : KeepsPromise whole_numbers 2 (crowded 3 1)
   pub bare_keeps : KeepsPromise whole_numbers 1 (bare 1 1)
   -- what the calls told last of each table: the second settle, the marks, and the walk to its end
-  pub tables : (lent : Tables ℤ) → told_last lent whole
+  pub tables : (lent : Lists ℤ) → lists_after lent whole
       ≡ record lent {
         partners = second;
         left = (with_prices second).left;
@@ -170,44 +171,44 @@ pub record Shown : Type 0 where
         marks = marks;
       }
   -- a walk that repeats, one that skips, one that ends early, and one that goes on past its end
-  pub repeats : Right (said Start first ∷ said Next (Some first) ∷ []) → ⊥
-  pub skips : Right (said Start second ∷ []) → ⊥
-  pub ends_early : Right (said Start first ∷ said Next None ∷ []) → ⊥
-  pub goes_on : Right (said Start first ∷ said Next (Some second) ∷ said Next (Some second) ∷ [])
-      → ⊥
+  pub repeats : Right (giving Start first ∷ giving Next (Some first) ∷ []) → ⊥
+  pub skips : Right (giving Start second ∷ []) → ⊥
+  pub ends_early : Right (giving Start first ∷ giving Next None ∷ []) → ⊥
+  pub goes_on : Right
+      (giving Start first ∷ giving Next (Some second) ∷ giving Next (Some second) ∷ []) → ⊥
   -- marks that are all yes, all no, or too few
-  pub all_yes : Right (said Marks (replicate 9 1) ∷ []) → ⊥
-  pub all_no : Right (said Marks (replicate 9 0) ∷ []) → ⊥
-  pub too_few : Right (said Marks (1 ∷ 1 ∷ 0 ∷ []) ∷ []) → ⊥
-  -- an enter that stores nothing, as a read tells, and a read of another cost
+  pub all_yes : Right (giving Marks (replicate 9 1) ∷ []) → ⊥
+  pub all_no : Right (giving Marks (replicate 9 0) ∷ []) → ⊥
+  pub too_few : Right (giving Marks (1 ∷ 1 ∷ 0 ∷ []) ∷ []) → ⊥
+  -- an enter that stores nothing, as a read gives, and a read of another cost
   pub stores_nothing : KeepsPromise whole_numbers 3
-      (entered 0 0 4 ∷ refused (Read 0 0) Absent None ∷ []) → ⊥
+      (entering 0 0 4 ∷ refusing (Read 0 0) Absent None ∷ []) → ⊥
   pub wrong_read : KeepsPromise whole_numbers 3
-      (entered 0 0 4 ∷ said (Read 0 0) (pos 5) ∷ []) → ⊥
+      (entering 0 0 4 ∷ giving (Read 0 0) (pos 5) ∷ []) → ⊥
   -- an accepted strike of an absent pair
-  pub strikes_nothing : KeepsPromise whole_numbers 3 (said (Strike 0 0) tt ∷ []) → ⊥
+  pub strikes_nothing : KeepsPromise whole_numbers 3 (giving (Strike 0 0) tt ∷ []) → ⊥
   -- the refusal of a block before that of a length, and a table of another length that is taken
   pub block_first : KeepsPromise whole_numbers 3 (record {
     act = Enter 3 0 (pos 1);
     handed = short_standing;
-    outcome = turned_down (fault Block 0) None;
+    reply = turned_down (fault Block 0) None;
   } ∷ []) → ⊥
-  pub short_taken : Right (record { act = Total; handed = short_left; outcome = tells (pos 7) }
+  pub short_taken : Right (record { act = Total; handed = short_left; reply = gives (pos 7) }
       ∷ []) → ⊥
   -- a settle that refuses what can be paired; one that writes the second pairing, no prices, or
   -- prices that are valid and not the greatest
   pub refuses_all : AllRight whole_numbers 3 full since
-      (refused Settle NoPerfectPairing (Some (record { crowd = 7; short = 3 })) ∷ []) → ⊥
-  pub not_first : AllRight whole_numbers 3 full since (said Settle (with_prices second) ∷ []) → ⊥
+      (refusing Settle NoPerfectPairing (Some (record { crowd = 7; short = 3 })) ∷ []) → ⊥
+  pub not_first : AllRight whole_numbers 3 full since (giving Settle (with_prices second) ∷ []) → ⊥
   pub no_prices : AllRight whole_numbers 3 full since
-      (said Settle (record { partners = first; left = []; right = [] }) ∷ []) → ⊥
-  pub not_greatest : AllRight whole_numbers 3 full since (said Settle lower_prices ∷ []) → ⊥
+      (giving Settle (record { partners = first; left = []; right = [] }) ∷ []) → ⊥
+  pub not_greatest : AllRight whole_numbers 3 full since (giving Settle lower_prices ∷ []) → ⊥
   -- a crowd set that is made up, a shortage that is, and none at all
   pub crowd_made_up : KeepsPromise whole_numbers 2 (crowded 1 1) → ⊥
   pub short_made_up : KeepsPromise whole_numbers 2 (crowded 3 2) → ⊥
   pub unexplained : KeepsPromise whole_numbers 1
       (on_blocks 1 Settle (turned_down (fault NoPerfectPairing 0) None) ∷ []) → ⊥
   -- a quote by other prices, another total, and a refusal for tables that do not hold together
-  pub other_prices : Right (said (Quote 1 2) (pos 5, pos 3) ∷ []) → ⊥
-  pub wrong_total : Right (said Total (pos 8) ∷ []) → ⊥
-  pub seven : Right (refused Total Inconsistent None ∷ []) → ⊥
+  pub other_prices : Right (giving (Quote 1 2) (pos 5, pos 3) ∷ []) → ⊥
+  pub wrong_total : Right (giving Total (pos 8) ∷ []) → ⊥
+  pub seven : Right (refusing Total Inconsistent None ∷ []) → ⊥

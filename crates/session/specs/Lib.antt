@@ -1,5 +1,6 @@
 pub mod Book
 pub mod Exchange
+pub mod Lists
 pub mod Promise
 pub mod Program
 pub mod Runs

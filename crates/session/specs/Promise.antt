@@ -21,7 +21,7 @@ use Rattle.session.specs.declared.call.Act.{Act}
 use Rattle.session.specs.declared.call.Act.TheVariants.{Enter, Strike, Read, Settle, Quote, Total}
 use Rattle.session.specs.declared.call.Act.TheVariants.{Marks, Start, Next, Close, Reopen}
 use Rattle.session.specs.Book.{Book, blank, stands_in, verdict, step, grid_in}
-use Rattle.session.specs.Exchange.{Written, Told, Outcome, not_made, turned_down, tells}
+use Rattle.session.specs.Exchange.{Settlement, ValueOf, Reply, not_made, turned_down, gives}
 use Rattle.session.specs.Exchange.{Exchange, call_of, verdict_of}
 
 -- ---- Walks: what a walk handed out so far, in order: a pairing, or nothing where it answered
@@ -33,21 +33,21 @@ HandsOut pairings walk =
     walk ≡ take (length walk) (map Some pairings ++ replicate (length walk) None)
 
 -- it was carried to its end
-abbrev pub ended : List (Option (List ℕ)) → Bool
-ended [] = false
-ended (None ∷ walk) = true
-ended (Some p ∷ walk) = ended walk
+abbrev pub has_ended : List (Option (List ℕ)) → Bool
+has_ended [] = false
+has_ended (None ∷ walk) = true
+has_ended (Some p ∷ walk) = has_ended walk
 
 -- the pairings that it handed out
-abbrev pub handed_out : List (Option (List ℕ)) → List (List ℕ)
-handed_out [] = []
-handed_out (None ∷ walk) = handed_out walk
-handed_out (Some p ∷ walk) = p ∷ handed_out walk
+abbrev pub pairings_of : List (Option (List ℕ)) → List (List ℕ)
+pairings_of [] = []
+pairings_of (None ∷ walk) = pairings_of walk
+pairings_of (Some p ∷ walk) = p ∷ pairings_of walk
 
 -- a walk that was carried to its end has handed out a pairing with a pair exactly if the marks say
 -- yes to it
 abbrev pub AgreesWith : ℕ → List ℕ → List (Option (List ℕ)) → Type 0
-AgreesWith n table walk = ended walk ≡ true → MarksOf n (handed_out walk) table
+AgreesWith n table walk = has_ended walk ≡ true → MarksOf n (pairings_of walk) table
 
 -- ---- Settlings
 
@@ -56,42 +56,42 @@ AgreesWith n table walk = ended walk ≡ true → MarksOf n (handed_out walk) ta
 -- did. Before the first settle, and before the first start, nothing was told.
 pub record Settling (K : Type 0) : Type 0 where
   pub grid : Grid
-  pub written : Written K
+  pub settlement : Settlement K
   pub marks : List (List ℕ)
   pub walk : List (Option (List ℕ))
   pub earlier : List (List (Option (List ℕ)))
 
 module _ {K : Type 0} (kind : Ghosts K) (n : ℕ) where
-  abbrev pub settling_of : Grid → Written K → Settling K
-  settling_of grid w = record { grid = grid; written = w; marks = []; walk = []; earlier = [] }
+  abbrev pub settling_of : Grid → Settlement K → Settling K
+  settling_of grid w = record { grid = grid; settlement = w; marks = []; walk = []; earlier = [] }
 
   abbrev pub fresh : Settling K
   fresh = settling_of (grid_in kind n blank) (record { partners = []; left = []; right = [] })
 
   -- what an accepted call adds
-  abbrev pub noted : Book K → Settling K → (act : Act K) → Told K act → Settling K
-  noted b s (Enter l r c) x = s
-  noted b s (Strike l r) x = s
-  noted b s (Read l r) x = s
-  noted b s Settle x = settling_of (grid_in kind n b) x
-  noted b s (Quote l r) x = s
-  noted b s Total x = s
-  noted b s Marks x = record s { marks = x ∷ s.marks }
-  noted b s Start x = record s { walk = Some x ∷ []; earlier = s.walk ∷ s.earlier }
-  noted b s Next x = record s { walk = s.walk ++ x ∷ [] }
-  noted b s Close x = s
-  noted b s Reopen x = s
+  abbrev pub settling_with : Book K → Settling K → (act : Act K) → ValueOf K act → Settling K
+  settling_with b s (Enter l r c) x = s
+  settling_with b s (Strike l r) x = s
+  settling_with b s (Read l r) x = s
+  settling_with b s Settle x = settling_of (grid_in kind n b) x
+  settling_with b s (Quote l r) x = s
+  settling_with b s Total x = s
+  settling_with b s Marks x = record s { marks = x ∷ s.marks }
+  settling_with b s Start x = record s { walk = Some x ∷ []; earlier = s.walk ∷ s.earlier }
+  settling_with b s Next x = record s { walk = s.walk ++ x ∷ [] }
+  settling_with b s Close x = s
+  settling_with b s Reopen x = s
 
-  abbrev pub noted_of : Book K → Settling K → (act : Act K) → Outcome (Told K act) → Settling K
-  noted_of b s act not_made = s
-  noted_of b s act (turned_down f shortfall) = s
-  noted_of b s act (tells x) = noted b s act x
+  abbrev pub settling_by : Book K → Settling K → (act : Act K) → Reply (ValueOf K act) → Settling K
+  settling_by b s act not_made = s
+  settling_by b s act (turned_down f shortfall) = s
+  settling_by b s act (gives x) = settling_with b s act x
 
   -- ---- A single answer
 
   -- the partners are the first of all optimum pairings of the grid; the prices are the greatest
   -- valid ones with no right price above zero, one for each block, within 10^12 in each column
-  pub record IsSettlement (g : Grid) (w : Written K) : Type 0 where
+  pub record IsSettlement (g : Grid) (w : Settlement K) : Type 0 where
     pub first : IsNth (optima g) 0 w.partners
     pub partners_long : length w.partners ≡ n
     pub greatest : Greatest g (columns_at kind w.left) (columns_at kind w.right) w.partners
@@ -101,7 +101,7 @@ module _ {K : Type 0} (kind : Ghosts K) (n : ℕ) where
     pub right_near : Bounded kind PRICE_LIMIT n w.right
 
   -- the pair's cost, and what it exceeds the two prices by that the settle wrote
-  pub record IsQuoted (cell : Option K) (w : Written K) (l r : ℕ) (quote : K × K) : Type 0 where
+  pub record IsQuoted (cell : Option K) (w : Settlement K) (l r : ℕ) (quote : K × K) : Type 0 where
     pub cost : cell ≡ Some quote.0
     pub slack : kind.meaning quote.1
         ≡ minus (kind.meaning quote.0) (plus (columns_at kind w.left l) (columns_at kind w.right r))
@@ -111,21 +111,21 @@ module _ {K : Type 0} (kind : Ghosts K) (n : ℕ) where
     pub long : length table ≡ places_of n
     pub marks : MarksOf n (optima g) table
 
-  -- what an accepted call tells is true of the book's pairs and costs. What start and next tell is
+  -- what an accepted call gives is true of the book's pairs and costs. What start and next tell is
   -- said of the walk as a whole
-  abbrev pub IsTrue : Book K → Settling K → (act : Act K) → Told K act → Type 0
-  IsTrue b s (Enter l r c) x = Unit {0}
-  IsTrue b s (Strike l r) x = Unit {0}
-  IsTrue b s (Read l r) x = b.cells l r ≡ Some x
-  IsTrue b s Settle x = IsSettlement (grid_in kind n b) x
-  IsTrue b s (Quote l r) x = IsQuoted (b.cells l r) s.written l r x
-  IsTrue b s Total x = kind.meaning x
+  abbrev pub IsValue : Book K → Settling K → (act : Act K) → ValueOf K act → Type 0
+  IsValue b s (Enter l r c) x = Unit {0}
+  IsValue b s (Strike l r) x = Unit {0}
+  IsValue b s (Read l r) x = b.cells l r ≡ Some x
+  IsValue b s Settle x = IsSettlement (grid_in kind n b) x
+  IsValue b s (Quote l r) x = IsQuoted (b.cells l r) s.settlement l r x
+  IsValue b s Total x = kind.meaning x
       ≡ total (grid_in kind n b) (slice_index_or (optima (grid_in kind n b)) 0 [])
-  IsTrue b s Marks x = IsMarked (grid_in kind n b) x
-  IsTrue b s Start x = Unit {0}
-  IsTrue b s Next x = Unit {0}
-  IsTrue b s Close x = Unit {0}
-  IsTrue b s Reopen x = Unit {0}
+  IsValue b s Marks x = IsMarked (grid_in kind n b) x
+  IsValue b s Start x = Unit {0}
+  IsValue b s Next x = Unit {0}
+  IsValue b s Close x = Unit {0}
+  IsValue b s Reopen x = Unit {0}
 
   -- a refusal is for want of a perfect pairing exactly if the crowd set and its shortage come
   -- along, and these are those of the book's pairs. It is never because the tables do not hold
@@ -135,15 +135,15 @@ module _ {K : Type 0} (kind : Ghosts K) (n : ℕ) where
         (λ s. (f ≡ fault NoPerfectPairing 0) × Unpaired n (stands_in b.cells) s.crowd s.short)
     pub never_seven : f.cause ≢ Inconsistent
 
-  abbrev pub Tells : Book K → Settling K → (act : Act K) → Outcome (Told K act) → Type 0
-  Tells b s act not_made = Unit {0}
-  Tells b s act (turned_down f shortfall) = IsRefusal b f shortfall
-  Tells b s act (tells x) = IsTrue b s act x
+  abbrev pub IsReply : Book K → Settling K → (act : Act K) → Reply (ValueOf K act) → Type 0
+  IsReply b s act not_made = Unit {0}
+  IsReply b s act (turned_down f shortfall) = IsRefusal b f shortfall
+  IsReply b s act (gives x) = IsValue b s act x
 
   -- ---- The promise
 
   -- what was told since a settle is right as a whole
-  pub record IsSound (s : Settling K) : Type 0 where
+  pub record HasRightWalks (s : Settling K) : Type 0 where
     -- each walk hands out the optimum pairings in turn, none left out and none twice, and `End`
     -- exactly from when none is left
     pub walks : AllByRecursion (HandsOut (optima s.grid)) (s.walk ∷ s.earlier)
@@ -154,15 +154,15 @@ module _ {K : Type 0} (kind : Ghosts K) (n : ℕ) where
   -- one call, by the book and by what was told before it
   pub record IsRight (b : Book K) (s : Settling K) (e : Exchange K) : Type 0 where
     -- what the state does not have, what is refused and by which number, is what the book says
-    pub verdict_is : verdict_of e.outcome ≡ verdict kind n b (call_of e)
-    pub told : Tells b s e.act e.outcome
-    pub sound : IsSound (noted_of b s e.act e.outcome)
+    pub verdict_is : verdict_of e.reply ≡ verdict kind n b (call_of e)
+    pub reply_is : IsReply b s e.act e.reply
+    pub walks_are : HasRightWalks (settling_by b s e.act e.reply)
 
   -- each call of a list, from a book and what was told before on
   abbrev pub AllRight : Book K → Settling K → List (Exchange K) → Type 0
   AllRight b s [] = Unit {0}
   AllRight b s (e ∷ es) = IsRight b s e
-      × AllRight (step kind n b (call_of e)) (noted_of b s e.act e.outcome) es
+      × AllRight (step kind n b (call_of e)) (settling_by b s e.act e.reply) es
 
   -- THE PROMISE, of the calls on a sheet that was just opened
   abbrev pub KeepsPromise : List (Exchange K) → Type 0

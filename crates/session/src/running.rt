@@ -3,8 +3,8 @@
 ghost use Rattle.std.specs.Bool.{MatchBool};
 ghost use Rattle.std.specs.Prelude.{◌≡◌, IfOk, OnErr, MatchResult};
 ghost use Rattle.sheet.specs.Size.{size_of};
-ghost use Rattle.session.specs.Program.{lengths};
-ghost use Rattle.session.specs.Runs.{state_of, tables_of, right_lengths, IsWithin, MakesOne, Runs};
+ghost use Rattle.session.specs.Lists.{lengths, right_lengths};
+ghost use Rattle.session.specs.Runs.{state_of, tables_of, AreNoLonger, MakesOne, Runs};
 ghost use Rattle.session.specs.Runs.{AreLent, ExceedsLent, Begins, IsSheet, IsNoSheet};
 
 mod answers;
@@ -46,7 +46,7 @@ pub fn make<K: Cost>(
 ) -> (State, Result<Answer<K>, AllocError>)
     requires right { lengths (tables_of tables.old)
         ≡ right_lengths (size_of (state_of state).sheet) }
-    requires lent { IsWithin call.handed (lengths (tables_of tables.old)) }
+    requires lent { AreNoLonger call.handed (lengths (tables_of tables.old)) }
     ensures makes { MakesOne K.Cost state (tables_of tables.old) call result
         (tables_of tables.new) }
     ensures same_size { size_of (state_of result.0).sheet ≡ size_of (state_of state).sheet }

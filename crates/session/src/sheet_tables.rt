@@ -1,8 +1,8 @@
 //! The tables of one sheet as one value, and their lengths.
 
 ghost use Rattle.std.specs.Prelude.{◌≡◌, IfOk, ◌↔◌, IsTrue, replicate};
-ghost use Rattle.session.specs.Runs.{tables_of, right_lengths, IsWithin};
-ghost use Rattle.session.specs.Program.{lengths};
+ghost use Rattle.session.specs.Runs.{tables_of, AreNoLonger};
+ghost use Rattle.session.specs.Lists.{lengths, right_lengths};
 ghost use Rattle.session.specs.Zeros.{zeros};
 
 use crate::call::Lengths;
@@ -78,7 +78,7 @@ impl Lengths {
 
     /// Whether each length is at most the other.
     pub fn within(self, most: Lengths) -> bool
-        ensures { IsTrue result ↔ IsWithin self most }
+        ensures { IsTrue result ↔ AreNoLonger self most }
     {
         self.costs <= most.costs
             && self.standing <= most.standing

@@ -1,4 +1,4 @@
-pub mod Opening
+pub mod Needs
 pub mod Pairs
 pub mod Refused
 pub mod Quoting

@@ -13,7 +13,8 @@ use Rattle.tables.specs.Said.{columns_at}
 use Rattle.tables.specs.Lent.{Lent, left_price, right_price}
 use Rattle.tables.specs.Together.{Together}
 use Rattle.tables.proofs.Cells.{place_below}
-use Rattle.sheet.specs.Walking.{AreBlocks, IsQuote}
+use Rattle.sheet.specs.Pairs.{AreBlocks}
+use Rattle.sheet.specs.Walking.{IsQuote}
 
 -- the columns of a value that was read
 pub read_columns : {K : Type 0} (kind : Ghosts K) (xs : List K) (k : ℕ) (x : K)

@@ -1,23 +1,23 @@
 -- What `open` answers, and what it leaves in the tables, at every input.
-use Rattle.std.specs.Prelude.{◌≡◌, ℕ, not, ◌||◌, List, [], ◌∷◌, length, Option, Result, ◌==◌}
-use Rattle.std.specs.Prelude.{nat_lt}
-use Rattle.blockset.specs.declared.TheConstants.{MOST_BLOCKS}
-use Rattle.tables.specs.PairTables.{have_places, costs_opened, standing_opened}
-use Rattle.sheet.specs.Size.{Sheet, sheet_of}
-use Rattle.sheet.specs.Refusals.{fault, first_of, answer, after}
+use Rattle.std.specs.Prelude.{◌≡◌, ℕ, List, length, Result}
+use Rattle.tables.specs.PairTables.{HavePlaces, costs_opened, standing_opened}
+use Rattle.sheet.specs.Needs.{Needs, need, nothing, Responds}
+use Rattle.sheet.specs.Pairs.{PairTablesAre}
+use Rattle.sheet.specs.Size.{Sheet, sheet_of, IsSize}
 use Rattle.sheet.specs.declared.fault.Fault.{Fault}
 use Rattle.sheet.specs.declared.fault.Cause.TheVariants.{Size, TableLength}
 
--- costs and stands are the lengths of the two pair tables
-unfoldable pub open_refusal : (n costs stands : ℕ) → Option Fault
-open_refusal n costs stands = first_of (
-    (n == 0 || nat_lt MOST_BLOCKS n, fault Size 0) ∷
-    (not (have_places n costs stands), fault TableLength 0) ∷ [])
+-- a size that a sheet can have, and a place for each pair; costs and bytes are the lengths of the
+-- two pair tables
+abbrev pub open_needs : (n costs bytes : ℕ) → Needs
+open_needs n costs bytes =
+    need (IsSize n) Size (need (HavePlaces n costs bytes) TableLength nothing)
 
-pub record Opened {K : Type 0} (nought : K) (n : ℕ) (costs : List K) (standing : List ℕ)
-    (r : Result Sheet Fault) (costs' : List K) (standing' : List ℕ) : Type 0 where
-  pub answers : r ≡ answer (open_refusal n (length costs) (length standing)) (sheet_of n)
-  pub blanks : costs' ≡ after (open_refusal n (length costs) (length standing)) costs
-      (costs_opened nought n)
-  pub clears : standing' ≡ after (open_refusal n (length costs) (length standing)) standing
-      (standing_opened n)
+-- a sheet of n blocks a plane is open, over tables in which every pair is absent and at cost zero
+abbrev pub Opened : {K : Type 0} (nought : K) (n : ℕ) (costs : List K) (standing : List ℕ)
+    → Result Sheet Fault → (costs' : List K) (standing' : List ℕ) → Type 0
+Opened nought n costs standing answer costs' standing' =
+    Responds (open_needs n (length costs) (length standing)) answer
+    (λ sheet. (sheet ≡ sheet_of n)
+    × PairTablesAre (costs_opened nought n) (standing_opened n) costs' standing')
+    (PairTablesAre costs standing costs' standing')

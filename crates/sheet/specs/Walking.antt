@@ -1,6 +1,6 @@
 -- What the calls on a settled sheet and on a walk answer, and what they leave in the tables, at
 -- every input.
-use Rattle.std.specs.Prelude.{◌≡◌, ℕ, ◌<◌, true, List, length, None, Some, Result, MatchResult}
+use Rattle.std.specs.Prelude.{◌≡◌, ℕ, true, List, length, None, Some, Result, MatchResult}
 use Rattle.cost.specs.declared.Cost.{Ghosts}
 use Rattle.cost.specs.Columns.{plus, minus}
 use Rattle.pairing.specs.Grid.{Optimum}
@@ -14,12 +14,8 @@ use Rattle.matching.specs.declared.stepping.Step.{Step}
 use Rattle.sheet.specs.declared.fault.Cause.TheVariants.{TableLength, Block, Absent, Inconsistent}
 use Rattle.sheet.specs.declared.fault.Refusal.{Refusal}
 use Rattle.sheet.specs.Needs.{Needs, need, nothing, AreMet, IsFirstUnmet}
+use Rattle.sheet.specs.Pairs.{AreBlocks}
 use Rattle.sheet.specs.Size.{Sheet}
-
--- there are a left block l and a right block r, of n each
-pub record AreBlocks (n l r : ℕ) : Type 0 where
-  pub left_below : l < n
-  pub right_below : r < n
 
 module _ {K : Type 0} (kind : Ghosts K) (t : Lent K) where
   -- ---- Quote and total

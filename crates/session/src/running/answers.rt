@@ -2,9 +2,9 @@
 
 ghost use Rattle.std.specs.Prelude.{◌≡◌, MatchResult};
 ghost use Rattle.session.specs.Book.{opened, settled, walking};
-ghost use Rattle.session.specs.Program.{moved_to};
-ghost use Rattle.session.specs.Runs.{state_of, TellsSettle, TellsStart, TellsStep};
-ghost use Rattle.session.specs.Runs.{TellsRefusal};
+ghost use Rattle.session.specs.Program.{state_after};
+ghost use Rattle.session.specs.Runs.{state_of, IsSettleAnswer, IsStartAnswer, IsStepAnswer};
+ghost use Rattle.session.specs.Runs.{IsRefusalAnswer};
 ghost use Rattle.session.specs.declared.answer.Answer.TheVariants.{Done, Amount, Quoted, Marked};
 ghost use Rattle.session.specs.declared.answer.Answer.TheVariants.{Refused};
 
@@ -55,7 +55,7 @@ pub(super) fn marked<K: Cost>(outcome: Result<(), Fault>, table: Vec<u8>) -> Ans
 
 // The answer to a step of a walk, with a copy of the walk list as the call left it.
 pub(super) fn stepped<K: Cost>(outcome: Result<Step, Fault>, list: Vec<u16>) -> Answer<K>
-    ensures { TellsStep outcome list result }
+    ensures { IsStepAnswer outcome list result }
 {
     match outcome {
         Ok(Step::Next) => Answer::Pairing(list),
@@ -69,8 +69,8 @@ pub(super) fn started<K: Cost>(
     outcome: Result<Walk, Refusal<SettledSheet>>,
     list: Vec<u16>,
 ) -> (State, Answer<K>)
-    ensures state { state_of result.0 ≡ moved_to walking settled outcome }
-    ensures answer { TellsStart outcome list result.1 }
+    ensures state { state_of result.0 ≡ state_after walking settled outcome }
+    ensures answer { IsStartAnswer outcome list result.1 }
 {
     match outcome {
         Ok(walk) => (State::Walking(walk), Answer::Pairing(list)),
@@ -92,8 +92,8 @@ pub(super) fn settled<K: Cost>(
     left: Vec<K>,
     right: Vec<K>,
 ) -> (State, Answer<K>)
-    ensures state { state_of result.0 ≡ moved_to settled opened outcome }
-    ensures answer { TellsSettle outcome partners left right result.1 }
+    ensures state { state_of result.0 ≡ state_after settled opened outcome }
+    ensures answer { IsSettleAnswer outcome partners left right result.1 }
 {
     match outcome {
         Ok(settled) => {
@@ -117,7 +117,7 @@ pub(super) fn settled<K: Cost>(
 
 // The answer to a call that was refused, perhaps with a crowd set.
 fn refused<K: Cost>(fault: Fault, shortfall: Option<Shortfall>) -> Answer<K>
-    ensures { TellsRefusal fault shortfall result }
+    ensures { IsRefusalAnswer fault shortfall result }
 {
     match shortfall {
         Some(shortfall) => Answer::Unmatched(fault, shortfall),

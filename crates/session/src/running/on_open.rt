@@ -4,8 +4,8 @@ ghost use Rattle.std.specs.Prelude.{◌≡◌, IfOk};
 ghost use Rattle.sheet.specs.Size.{size_of};
 ghost use Rattle.session.specs.declared.call.Act.TheVariants.{Enter, Strike, Read, Settle};
 ghost use Rattle.session.specs.declared.state.State.TheVariants.{Open};
-ghost use Rattle.session.specs.Program.{lengths};
-ghost use Rattle.session.specs.Runs.{tables_of, right_lengths, IsWithin, MakesOne, WasMade};
+ghost use Rattle.session.specs.Lists.{lengths, right_lengths};
+ghost use Rattle.session.specs.Runs.{tables_of, AreNoLonger, MakesOne, WasMade};
 ghost use Rattle.session.specs.Runs.{call_for};
 
 use super::answers::{amount, done, settled};
@@ -24,7 +24,7 @@ pub(super) fn make<K: Cost>(
     call: Call<K>,
 ) -> (State, Result<Answer<K>, AllocError>)
     requires right { lengths (tables_of tables.old) ≡ right_lengths (size_of sheet) }
-    requires lent { IsWithin call.handed (lengths (tables_of tables.old)) }
+    requires lent { AreNoLonger call.handed (lengths (tables_of tables.old)) }
     ensures { MakesOne K.Cost (Open sheet) (tables_of tables.old) call result
         (tables_of tables.new) }
 {
@@ -56,7 +56,7 @@ fn enter<K: Cost>(
     cost: K,
 ) -> Answer<K>
     requires right { lengths (tables_of tables.old) ≡ right_lengths (size_of sheet.now) }
-    requires lent { IsWithin h (lengths (tables_of tables.old)) }
+    requires lent { AreNoLonger h (lengths (tables_of tables.old)) }
     ensures { WasMade K.Cost (Open sheet.now) (tables_of tables.old)
         (call_for (Enter left right cost) h) result (Open sheet.now) (tables_of tables.new) }
 {
@@ -73,7 +73,7 @@ fn strike<K: Cost>(
     right: u16,
 ) -> Answer<K>
     requires right { lengths (tables_of tables.old) ≡ right_lengths (size_of sheet.now) }
-    requires lent { IsWithin h (lengths (tables_of tables.old)) }
+    requires lent { AreNoLonger h (lengths (tables_of tables.old)) }
     ensures { WasMade K.Cost (Open sheet.now) (tables_of tables.old)
         (call_for (Strike left right) h) result (Open sheet.now) (tables_of tables.new) }
 {
@@ -90,7 +90,7 @@ fn read<K: Cost>(
     right: u16,
 ) -> Answer<K>
     requires right { lengths (tables_of tables.now) ≡ right_lengths (size_of sheet.now) }
-    requires lent { IsWithin h (lengths (tables_of tables.now)) }
+    requires lent { AreNoLonger h (lengths (tables_of tables.now)) }
     ensures { WasMade K.Cost (Open sheet.now) (tables_of tables.now) (call_for (Read left right) h)
         result (Open sheet.now) (tables_of tables.now) }
 {
@@ -131,7 +131,7 @@ fn settle<K: Cost>(
     h: Lengths,
 ) -> (State, Result<Answer<K>, AllocError>)
     requires right { lengths (tables_of tables.old) ≡ right_lengths (size_of sheet) }
-    requires lent { IsWithin h (lengths (tables_of tables.old)) }
+    requires lent { AreNoLonger h (lengths (tables_of tables.old)) }
     ensures { MakesOne K.Cost (Open sheet) (tables_of tables.old) (call_for Settle h) result
         (tables_of tables.new) }
 {

@@ -4,8 +4,8 @@ ghost use Rattle.std.specs.Prelude.{◌≡◌};
 ghost use Rattle.sheet.specs.Size.{size_of};
 ghost use Rattle.session.specs.declared.call.Act.TheVariants.{Quote, Total, Marks, Start};
 ghost use Rattle.session.specs.declared.state.State.TheVariants.{Settled};
-ghost use Rattle.session.specs.Program.{lengths};
-ghost use Rattle.session.specs.Runs.{tables_of, right_lengths, IsWithin, MakesOne, WasMade};
+ghost use Rattle.session.specs.Lists.{lengths, right_lengths};
+ghost use Rattle.session.specs.Runs.{tables_of, AreNoLonger, MakesOne, WasMade};
 ghost use Rattle.session.specs.Runs.{call_for};
 
 use super::answers::{amount, marked, quoted, started};
@@ -24,7 +24,7 @@ pub(super) fn make<K: Cost>(
     call: Call<K>,
 ) -> (State, Result<Answer<K>, AllocError>)
     requires right { lengths (tables_of tables.old) ≡ right_lengths (size_of sheet) }
-    requires lent { IsWithin call.handed (lengths (tables_of tables.old)) }
+    requires lent { AreNoLonger call.handed (lengths (tables_of tables.old)) }
     ensures { MakesOne K.Cost (Settled sheet) (tables_of tables.old) call result
         (tables_of tables.new) }
 {
@@ -56,7 +56,7 @@ fn quote<K: Cost>(
     right_block: u16,
 ) -> Answer<K>
     requires right { lengths (tables_of tables.now) ≡ right_lengths (size_of sheet.now) }
-    requires lent { IsWithin h (lengths (tables_of tables.now)) }
+    requires lent { AreNoLonger h (lengths (tables_of tables.now)) }
     ensures { WasMade K.Cost (Settled sheet.now) (tables_of tables.now)
         (call_for (Quote left_block right_block) h) result (Settled sheet.now)
         (tables_of tables.now) }
@@ -75,7 +75,7 @@ fn quote<K: Cost>(
 
 fn total<K: Cost>(sheet: &SettledSheet, tables: &SheetTables<K>, h: Lengths) -> Answer<K>
     requires right { lengths (tables_of tables.now) ≡ right_lengths (size_of sheet.now) }
-    requires lent { IsWithin h (lengths (tables_of tables.now)) }
+    requires lent { AreNoLonger h (lengths (tables_of tables.now)) }
     ensures { WasMade K.Cost (Settled sheet.now) (tables_of tables.now) (call_for Total h) result
         (Settled sheet.now) (tables_of tables.now) }
 {
@@ -97,7 +97,7 @@ fn marks<K: Cost>(
     h: Lengths,
 ) -> Result<Answer<K>, AllocError>
     requires right { lengths (tables_of tables.old) ≡ right_lengths (size_of sheet.now) }
-    requires lent { IsWithin h (lengths (tables_of tables.old)) }
+    requires lent { AreNoLonger h (lengths (tables_of tables.old)) }
     ensures { MakesOne K.Cost (Settled sheet.now) (tables_of tables.old) (call_for Marks h)
         (Settled sheet.now, result) (tables_of tables.new) }
 {
@@ -122,7 +122,7 @@ fn start<K: Cost>(
     h: Lengths,
 ) -> (State, Result<Answer<K>, AllocError>)
     requires right { lengths (tables_of tables.old) ≡ right_lengths (size_of sheet) }
-    requires lent { IsWithin h (lengths (tables_of tables.old)) }
+    requires lent { AreNoLonger h (lengths (tables_of tables.old)) }
     ensures { MakesOne K.Cost (Settled sheet) (tables_of tables.old) (call_for Start h) result
         (tables_of tables.new) }
 {

@@ -4,8 +4,8 @@ ghost use Rattle.std.specs.Prelude.{◌≡◌};
 ghost use Rattle.sheet.specs.Size.{size_of};
 ghost use Rattle.session.specs.declared.call.Act.TheVariants.{Next};
 ghost use Rattle.session.specs.declared.state.State.TheVariants.{Walking};
-ghost use Rattle.session.specs.Program.{lengths};
-ghost use Rattle.session.specs.Runs.{tables_of, right_lengths, IsWithin, MakesOne};
+ghost use Rattle.session.specs.Lists.{lengths, right_lengths};
+ghost use Rattle.session.specs.Runs.{tables_of, AreNoLonger, MakesOne};
 ghost use Rattle.session.specs.Runs.{call_for};
 
 use super::answers::stepped;
@@ -24,7 +24,7 @@ pub(super) fn make<K: Cost>(
     call: Call<K>,
 ) -> (State, Result<Answer<K>, AllocError>)
     requires right { lengths (tables_of tables.old) ≡ right_lengths (size_of walk) }
-    requires lent { IsWithin call.handed (lengths (tables_of tables.old)) }
+    requires lent { AreNoLonger call.handed (lengths (tables_of tables.old)) }
     ensures { MakesOne K.Cost (Walking walk) (tables_of tables.old) call result
         (tables_of tables.new) }
 {
@@ -46,7 +46,7 @@ fn next<K: Cost>(
     h: Lengths,
 ) -> Result<Answer<K>, AllocError>
     requires right { lengths (tables_of tables.old) ≡ right_lengths (size_of walk.now) }
-    requires lent { IsWithin h (lengths (tables_of tables.old)) }
+    requires lent { AreNoLonger h (lengths (tables_of tables.old)) }
     ensures { MakesOne K.Cost (Walking walk.now) (tables_of tables.old) (call_for Next h)
         (Walking walk.now, result) (tables_of tables.new) }
 {

@@ -1,14 +1,11 @@
 //! The calls on an open sheet: open one, then enter, strike and read pairs, and settle.
 
-ghost use Rattle.std.specs.Prelude.{◌≡◌, ◌<◌, length, IfOk, OnOk, OnErr, Some, None};
-ghost use Rattle.cost.specs.Columns.{within};
-ghost use Rattle.tables.specs.PairTables.{byte_of, cell, ChangesCell, AllAbsent, HavePlaces};
-ghost use Rattle.tables.specs.PairTables.{costs_entered, standing_entered};
+ghost use Rattle.std.specs.Prelude.{◌≡◌, ◌<◌, ⊤, length, IfOk, OnOk, OnErr, Some, None};
+ghost use Rattle.tables.specs.PairTables.{cell, ChangesCell, AllAbsent, HavePlaces};
 ghost use Rattle.pairing.specs.Places.{place_of};
+ghost use Rattle.sheet.specs.Needs.{nothing, Responds};
 ghost use Rattle.sheet.specs.Opening.{Opened};
-ghost use Rattle.sheet.specs.Pairs.{placement_checks, strike_refusal};
-ghost use Rattle.sheet.specs.Pairs.{Entered, Struck, Reads};
-ghost use Rattle.sheet.specs.Refusals.{first_of, answer};
+ghost use Rattle.sheet.specs.Pairs.{place_needs, strike_needs, Enters, Strikes, Reads};
 ghost use Rattle.sheet.specs.Settling.{Settles};
 ghost use Rattle.sheet.specs.Size.{IsSize, size_of};
 ghost use Rattle.tables.specs.Lent.{lent};
@@ -60,8 +57,8 @@ impl OpenSheet {
         right: u16,
         cost: K,
     ) -> Result<(), Fault>
-        ensures call { Entered (size_of self.now) costs.old standing.old left right cost
-            (within COST_LIMIT (K.meaning cost)) result costs.new standing.new }
+        ensures call { Enters K.Cost (size_of self.now) costs.old standing.old left right cost
+            result costs.new standing.new }
         ensures cells { let n = size_of self.now in
             OnOk result (ChangesCell n left right (Some cost)
             (cell K.zero n costs.old standing.old) (cell K.zero n costs.new standing.new)) }
@@ -85,7 +82,7 @@ impl OpenSheet {
         left: u16,
         right: u16,
     ) -> Result<(), Fault>
-        ensures call { Struck K.zero (size_of self.now) costs.old standing.old left right result
+        ensures call { Strikes K.Cost (size_of self.now) costs.old standing.old left right result
             costs.new standing.new }
         ensures cells { let n = size_of self.now in
             OnOk result (ChangesCell n left right None
@@ -105,7 +102,7 @@ impl OpenSheet {
         left: u16,
         right: u16,
     ) -> Result<K, Fault>
-        ensures call { Reads K.zero (size_of self.now) costs.now standing.now left right result }
+        ensures call { Reads K.Cost (size_of self.now) costs.now standing.now left right result }
         ensures cell { let n = size_of self.now in
             IfOk result (λ cost. cell K.zero n costs.now standing.now left right ≡ Some cost) }
         ensures no_cell { let n = size_of self.now in
@@ -155,8 +152,8 @@ impl OpenSheet {
     // place.
     fn locate(&self, costs: usize, standing: usize, left: u16, right: u16) -> Result<usize, Fault>
         ensures answers { let n = size_of self.now in
-            result ≡ answer (first_of (placement_checks n costs standing left right))
-            (place_of n left right) }
+            Responds (place_needs n costs standing left right nothing) result
+            (λ at. at ≡ place_of n left right) ⊤ }
         ensures inside { IfOk result (λ at. (at < costs) × (at < standing)) }
     {
         if !have_places(self.n, costs, standing) {
@@ -177,8 +174,8 @@ impl OpenSheet {
         right: u16,
     ) -> Result<usize, Fault>
         ensures answers { let n = size_of self.now in
-            result ≡ answer (strike_refusal n (length costs.now) (length standing.now) left right
-            (byte_of n standing.now left right)) (place_of n left right) }
+            Responds (strike_needs K.Cost n costs.now standing.now left right) result
+            (λ at. at ≡ place_of n left right) ⊤ }
         ensures inside { IfOk result (λ at. (at < length costs.now) × (at < length standing.now)) }
     {
         let at = self.locate(costs.len(), standing.len(), left, right)?;

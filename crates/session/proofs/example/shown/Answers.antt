@@ -24,28 +24,28 @@ returns c = record {
   tables = λ lent. refl;
   repeats = λ h.
       let e : ◌≡◌ {A = List (Option (List ℕ))} (Some first ∷ Some first ∷ [])
-      (Some first ∷ Some second ∷ []) = h.1.0.sound.walks.0 in
+      (Some first ∷ Some second ∷ []) = h.1.0.walks_are.walks.0 in
       let z : ◌≡◌ {A = ℕ} 0 1 = cc in omega (arith, z);
   skips = λ h.
       let e : ◌≡◌ {A = List (Option (List ℕ))} (Some second ∷ []) (Some first ∷ []) =
-      h.0.sound.walks.0 in
+      h.0.walks_are.walks.0 in
       let z : ◌≡◌ {A = ℕ} 0 1 = cc in omega (arith, z);
   ends_early = λ h.
       let e : ◌≡◌ {A = List (Option (List ℕ))} (Some first ∷ None ∷ [])
-      (Some first ∷ Some second ∷ []) = h.1.0.sound.walks.0 in
+      (Some first ∷ Some second ∷ []) = h.1.0.walks_are.walks.0 in
       let z : ◌≡◌ {A = ℕ} 0 1 = cc in omega (arith, z);
   goes_on = λ h.
       let e : ◌≡◌ {A = List (Option (List ℕ))} (Some first ∷ Some second ∷ Some second ∷ [])
-      (Some first ∷ Some second ∷ None ∷ []) = h.1.1.0.sound.walks.0 in
+      (Some first ∷ Some second ∷ None ∷ []) = h.1.1.0.walks_are.walks.0 in
       let z : ◌≡◌ {A = ℕ} 0 1 = cc in omega (arith, z);
-  all_yes = λ h. omega (arith, h.0.told.marks 0 2 (omega arith) (omega arith));
-  all_no = λ h. omega (arith, h.0.told.marks 0 0 (omega arith) (omega arith));
-  too_few = λ h. omega (arith, h.0.told.long);
+  all_yes = λ h. omega (arith, h.0.reply_is.marks 0 2 (omega arith) (omega arith));
+  all_no = λ h. omega (arith, h.0.reply_is.marks 0 0 (omega arith) (omega arith));
+  too_few = λ h. omega (arith, h.0.reply_is.long);
   stores_nothing = λ h.
       let e : ◌≡◌ {A = Verdict} (refused (fault Absent 0)) accepted = h.1.0.verdict_is in
       let z : ◌≡◌ {A = ℕ} 0 1 = cc in omega (arith, z);
   wrong_read = λ h.
-      let e : ◌≡◌ {A = Option ℤ} (Some (pos 4)) (Some (pos 5)) = h.1.0.told in
+      let e : ◌≡◌ {A = Option ℤ} (Some (pos 4)) (Some (pos 5)) = h.1.0.reply_is in
       let z : ◌≡◌ {A = ℕ} 4 5 = cc in omega (arith, z);
   strikes_nothing = λ h.
       let e : ◌≡◌ {A = Verdict} accepted (refused (fault Absent 0)) = h.0.verdict_is in
@@ -56,21 +56,21 @@ returns c = record {
       let e : ◌≡◌ {A = Verdict} accepted (refused (fault TableLength 0)) = h.0.verdict_is in
       let z : ◌≡◌ {A = ℕ} 0 1 = cc in omega (arith, z);
   not_first = λ h.
-      let e : first ≡ second = h.0.told.first.1 in
+      let e : first ≡ second = h.0.reply_is.first.1 in
       let z : ◌≡◌ {A = ℕ} 0 1 = cc in omega (arith, z);
-  not_greatest = λ h. not_greatest h.0.told;
-  crowd_made_up = λ h. not_one h.1.1.0.told.explained.1;
-  short_made_up = λ h. not_two h.1.1.0.told.explained.1;
-  unexplained = λ h. h.0.told.explained refl;
+  not_greatest = λ h. not_greatest h.0.reply_is;
+  crowd_made_up = λ h. not_one h.1.1.0.reply_is.explained.1;
+  short_made_up = λ h. not_two h.1.1.0.reply_is.explained.1;
+  unexplained = λ h. h.0.reply_is.explained refl;
   wrong_total = λ h.
-      let e : ◌≡◌ {A = List ℤ} (pos 8 ∷ []) (pos 7 ∷ []) = h.0.told in
+      let e : ◌≡◌ {A = List ℤ} (pos 8 ∷ []) (pos 7 ∷ []) = h.0.reply_is in
       let z : ◌≡◌ {A = ℕ} 8 7 = cc in omega (arith, z);
   refuses_all = λ h.
       let e : ◌≡◌ {A = Verdict} (refused (fault NoPerfectPairing 0)) accepted = h.0.verdict_is in
       let z : ◌≡◌ {A = ℕ} 0 1 = cc in omega (arith, z);
-  no_prices = λ h. omega (arith, h.0.told.left_long);
+  no_prices = λ h. omega (arith, h.0.reply_is.left_long);
   other_prices = λ h.
-      let e : ◌≡◌ {A = List ℤ} (pos 3 ∷ []) (pos 2 ∷ []) = h.0.told.slack in
+      let e : ◌≡◌ {A = List ℤ} (pos 3 ∷ []) (pos 2 ∷ []) = h.0.reply_is.slack in
       let z : ◌≡◌ {A = ℕ} 3 2 = cc in omega (arith, z);
-  seven = λ h. h.0.told.never_seven refl;
+  seven = λ h. h.0.reply_is.never_seven refl;
 }

@@ -6,8 +6,9 @@ use Rattle.std.proofs.Common.{arith}
 use Rattle.std.specs.Prelude.{OnOk, is_err}
 use Rattle.session.specs.declared.call.Call.{Call}
 use Rattle.session.specs.declared.call.Lengths.{Lengths}
-use Rattle.session.specs.Program.{Tables, lengths, EveryProgramKeeps}
-use Rattle.session.specs.Runs.{tables_of, right_lengths, IsWithin, AreLent}
+use Rattle.session.specs.Lists.{Lists, lengths, right_lengths}
+use Rattle.session.specs.Program.{EveryProgramKeeps}
+use Rattle.session.specs.Runs.{tables_of, AreNoLonger, AreLent}
 use Rattle.session.proofs.Going.{made_as, not_made_then, going_none, going_on, finished, stopped}
 use Rattle.session.proofs.Theorem.{every_program_keeps}
 use Rattle.session.proofs.running.run.Given.{Over}
@@ -17,7 +18,7 @@ use Rattle.session.proofs.running.run.Goals as goal
 room_for_one : {E : Type 0} (r : Result (Unit {0}) E) (Room : Type 0) → is_err r ≡ false
     → OnOk r Room → Room
 room_for_one (Ok u) Room e h = h
-room_for_one (Err x) Room e h = let z : ◌≡◌ {A = ℕ} 0 1 = cc in absurd (omega arith)
+room_for_one (Err x) Room e h = absurd (let z : ⊥ = cc in z)
 
 -- what the law says of the kind
 law : (g : Over) → EveryProgramKeeps g.K.Cost
@@ -31,7 +32,7 @@ loop-call-init g c =
 
 -- each call is handed no more than is lent
 all_lent : (g : Over) (calls : List (Call g.row.K.Denot)) (seen : Lengths)
-    (t : Tables g.row.K.Denot) → seen ≡ lengths t → AreLent g.K.Cost calls seen
+    (t : Lists g.row.K.Denot) → seen ≡ lengths t → AreLent g.K.Cost calls seen
     → AreLent g.K.Cost calls (lengths t)
 all_lent g calls seen t e h = subst (λ (m : Lengths). AreLent g.K.Cost calls m) e h
 
@@ -58,10 +59,10 @@ pub make-next-requires-clause-lent : goal.make-next-requires-clause-lent
 make-next-requires-clause-lent g c =
     let call = c.call-item.result in
     let lent = c.lengths-lent.result in
-    let within : IsWithin call.handed lent =
-    subst (λ (x : Call g.row.K.Denot). IsWithin x.handed lent) (sym c.call-item.is)
+    let within : AreNoLonger call.handed lent =
+    subst (λ (x : Call g.row.K.Denot). AreNoLonger x.handed lent) (sym c.call-item.is)
     (c.if-not-all_lent.ensures c.loop-call.call-index call c.loop-call-test.true) in
-    subst (λ (m : Lengths). IsWithin call.handed m)
+    subst (λ (m : Lengths). AreNoLonger call.handed m)
     (c.lengths-lent.ensures ∙ sym c.loop-call.invariant.long) within
 
 pub push_reserved-requires : goal.push_reserved-requires

@@ -5,12 +5,12 @@ use Rattle.session.specs.declared.answer.Answer.TheVariants.{Done}
 use Rattle.session.specs.declared.call.Act.TheVariants.{Marks, Start, Reopen}
 use Rattle.session.specs.declared.state.State.TheVariants.{Open, Settled}
 use Rattle.session.specs.Book.{opened}
-use Rattle.session.specs.Exchange.{tells}
-use Rattle.session.specs.Program.{Tables, state_at}
+use Rattle.session.specs.Exchange.{gives}
+use Rattle.session.specs.Lists.{Lists}
+use Rattle.session.specs.Program.{state_at}
 use Rattle.session.specs.Runs.{tables_of}
 use Rattle.session.proofs.Allowing.{settled_allows}
-use Rattle.session.proofs.Handing.{cut, parts_kept, was_made, not_made, made_for}
-use Rattle.session.proofs.Handing.{makes_for}
+use Rattle.session.proofs.Handing.{reads, not_made, made_for, makes_for}
 use Rattle.session.proofs.running.on_settled.make.Goals as goal
 
 pub returns-in-Marks : goal.returns-in-Marks
@@ -25,12 +25,12 @@ returns-in-Start g c =
 
 pub returns-in-Reopen : goal.returns-in-Reopen
 returns-in-Reopen g c =
-    let h = c.args.call.handed in
-    let own : Tables g.row.K.Denot = tables_of c.args.tables.now in
+    let own : Lists g.row.K.Denot = tables_of c.args.tables.now in
     let state = Settled c.args.sheet in
-    made_for g.K.Cost state own c.args.call Reopen Done (Open c.reopen.result) own c.in-Reopen.is
-    (was_made g.K.Cost state own Reopen h (tells tt) Done (Open c.reopen.result) (cut h own)
-    (cut h own) own c.requires.right (parts_kept h own own c.requires.lent refl) refl
+    let next = Open c.reopen.result in
+    made_for g.K.Cost state own c.args.call Reopen Done next own c.in-Reopen.is
+    (reads g.K.Cost state own Reopen c.args.call.handed (gives tt) Done next own refl
+    c.requires.right c.requires.lent refl
     (inl (refl, (refl, refl, ap (state_at opened) c.reopen.ensures))))
 
 pub returns-in_default : goal.returns-in_default

@@ -5,12 +5,12 @@ use Rattle.session.specs.declared.answer.Answer.TheVariants.{Done}
 use Rattle.session.specs.declared.call.Act.TheVariants.{Next, Close}
 use Rattle.session.specs.declared.state.State.TheVariants.{Settled, Walking}
 use Rattle.session.specs.Book.{settled}
-use Rattle.session.specs.Exchange.{tells}
-use Rattle.session.specs.Program.{Tables, state_at}
+use Rattle.session.specs.Exchange.{gives}
+use Rattle.session.specs.Lists.{Lists}
+use Rattle.session.specs.Program.{state_at}
 use Rattle.session.specs.Runs.{tables_of}
 use Rattle.session.proofs.Allowing.{walk_allows}
-use Rattle.session.proofs.Handing.{cut, parts_kept, was_made, not_made, made_for}
-use Rattle.session.proofs.Handing.{makes_for}
+use Rattle.session.proofs.Handing.{reads, not_made, made_for, makes_for}
 use Rattle.session.proofs.running.on_walk.make.Goals as goal
 
 pub returns-in-Next : goal.returns-in-Next
@@ -20,12 +20,12 @@ returns-in-Next g c =
 
 pub returns-in-Close : goal.returns-in-Close
 returns-in-Close g c =
-    let h = c.args.call.handed in
-    let own : Tables g.row.K.Denot = tables_of c.args.tables.now in
+    let own : Lists g.row.K.Denot = tables_of c.args.tables.now in
     let state = Walking c.args.walk in
-    made_for g.K.Cost state own c.args.call Close Done (Settled c.close.result) own c.in-Close.is
-    (was_made g.K.Cost state own Close h (tells tt) Done (Settled c.close.result) (cut h own)
-    (cut h own) own c.requires.right (parts_kept h own own c.requires.lent refl) refl
+    let next = Settled c.close.result in
+    made_for g.K.Cost state own c.args.call Close Done next own c.in-Close.is
+    (reads g.K.Cost state own Close c.args.call.handed (gives tt) Done next own refl
+    c.requires.right c.requires.lent refl
     (inl (refl, (refl, refl, ap (state_at settled) c.close.ensures))))
 
 pub returns-in_default : goal.returns-in_default

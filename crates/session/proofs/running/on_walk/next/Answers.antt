@@ -1,23 +1,23 @@
 -- A step of a walk is a step of a program.
 -- Idea: the call reads all tables but the walk list, and leaves that as its contract says.
-use Rattle.std.proofs.Common.{inl, refl}
+use Rattle.std.proofs.Common.{◌≡◌, inl, refl}
 use Rattle.session.specs.declared.call.Act.TheVariants.{Next}
 use Rattle.session.specs.declared.state.State.TheVariants.{Walking}
-use Rattle.session.specs.Program.{Tables, next_told}
-use Rattle.session.specs.Runs.{tables_of}
-use Rattle.session.proofs.Handing.{cut, parts_kept, part_written, with_walk, seen_are}
-use Rattle.session.proofs.Handing.{was_made}
-use Rattle.session.proofs.Saying.{says_step}
+use Rattle.session.specs.Lists.{Lists}
+use Rattle.session.specs.Program.{reply_by, pairing_by}
+use Rattle.session.specs.Runs.{tables_of, IsOnwardAnswer}
+use Rattle.session.proofs.Handing.{writes_walk}
+use Rattle.session.proofs.Saying.{says_reply, says_step}
 use Rattle.session.proofs.running.on_walk.next.Goals as goal
 
 pub returns : goal.returns
 returns g c =
-    let h = c.args.h in
     let state = Walking c.args.walk.now in
-    let own : Tables g.row.K.Denot = tables_of c.args.tables.now in
-    let outcome = c.next-outcome.result in
+    let a = c.next-outcome.result in
     let list = c.next-outcome.new.list in
-    let seen : Tables g.row.K.Denot = record own {
+    let copy = c.copy_from_slice.new.self in
+    let answer = c.stepped.result in
+    let seen : Lists g.row.K.Denot = record (tables_of c.args.tables.now) {
       costs = c.as_slice.result.now;
       standing = c.as_slice-2.result.now;
       partners = c.as_slice-3.result.now;
@@ -25,14 +25,9 @@ returns g c =
       right = c.as_slice-5.result.now;
       walk = c.as_mut_slice.result.now;
     } in
-    let kept = parts_kept h own seen c.requires.lent (seen_are own seen c.as_slice.ensures.value
-    c.as_slice-2.ensures.value c.as_slice-3.ensures.value c.as_slice-4.ensures.value
-    c.as_slice-5.ensures.value c.as_mut_slice.ensures.value refl) in
-    was_made g.K.Cost state own Next h (next_told list outcome) c.stepped.result state (cut h seen)
-    (record (cut h seen) { walk = list }) _ c.requires.right
-    (with_walk h own (cut h seen) (cut h seen) own kept list _
-    (part_written h.walk c.args.tables.now.walk seen.walk list c.requires.lent.walk
-    c.as_mut_slice.ensures.value c.next-outcome.auto.list))
-    (says_step c.stepped.result outcome c.copy_from_slice.new.self list
-    c.copy_from_slice.ensures.items c.stepped.ensures)
-    (inl (refl, (outcome, refl, c.next-outcome.ensures, refl, refl)))
+    writes_walk g.K.Cost state c.args.tables.now Next c.args.h (reply_by (pairing_by list) a)
+    answer state seen (cc) c.requires.right c.requires.lent
+    (says_reply Next answer (pairing_by list) a (λ step. IsOnwardAnswer step copy answer)
+    (says_step answer copy list c.copy_from_slice.ensures.items) c.stepped.ensures)
+    list c.next-outcome.auto.list
+    (inl (refl, (a, refl, c.next-outcome.ensures, refl, refl)))

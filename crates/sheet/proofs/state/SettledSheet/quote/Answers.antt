@@ -3,7 +3,8 @@ use Rattle.std.proofs.Common.{◌≡◌, ℕ, true, get_or, sym, ap, ◌∙◌, 
 use Rattle.pairing.specs.Places.{place_of}
 use Rattle.tables.specs.PairTables.{says_stands, byte_of}
 use Rattle.tables.specs.Lent.{lent}
-use Rattle.sheet.specs.Walking.{AreBlocks, quote_needs, total_needs, IsQuote}
+use Rattle.sheet.specs.Pairs.{AreBlocks}
+use Rattle.sheet.specs.Walking.{quote_needs, total_needs, IsQuote}
 use Rattle.sheet.specs.Needs.{AreMet}
 use Rattle.sheet.proofs.Quoting.{quoted}
 use Rattle.sheet.proofs.state.SettledSheet.quote.Goals as goal
