@@ -7,7 +7,7 @@ use Rattle.tables.specs.Lent.{HasLengths}
 use Rattle.tables.specs.PairTables.{HavePlaces}
 use Rattle.tables.proofs.Lengths.{places_from, places_told}
 use Rattle.session.specs.Book.{pair_tables_fit, tables_fit}
-use Rattle.session.specs.Lists.{Lists, lengths, lent_of}
+use Rattle.session.specs.Lists.{TableLists, lengths, lent_of}
 use Rattle.sheet.specs.Pairs.{AreBlocks, are_blocks}
 use Rattle.sheet.proofs.Pairs.{blocks_from, blocks_told}
 
@@ -17,7 +17,7 @@ blocks_decided n l r = (
   λ are. blocks_from n l r are.left_below are.right_below,
 )
 
-module _ {K : Type 0} (n : ℕ) (x : Lists K) where
+module _ {K : Type 0} (n : ℕ) (x : TableLists K) where
   pub pairs_fit : Decides (pair_tables_fit n (lengths x))
       (HavePlaces n (length x.costs) (length x.standing))
   pairs_fit = (

@@ -27,7 +27,7 @@ use Rattle.session.specs.declared.state.State.{State}
 use Rattle.session.specs.declared.state.State.TheVariants.{Open}
 use Rattle.session.specs.Exchange.{ValueOf, Reply, Exchange, call_of}
 use Rattle.session.specs.Book.{Phase}
-use Rattle.session.specs.Lists.{Lists, lengths, right_lengths}
+use Rattle.session.specs.Lists.{TableLists, lengths, right_lengths}
 use Rattle.session.specs.Program.{SheetAt, state_after, IsAnswered, IsCalled, Program, opens, calls}
 use Rattle.session.specs.Program.{EveryProgramKeeps}
 use Rattle.session.specs.Runs.{state_of, IsAnswerOf, AreAnswersOf, WasMade, WereMade, Begins}
@@ -48,7 +48,7 @@ module _ {K : Type 0} (kind : Ghosts K) where
   start_size sheet x list list' next back (Ok s) h = ap size_of h.same
   start_size sheet x list list' next back (Err r) h = ap size_of h.same
 
-  answers_size : (s : SheetAt) (act : Act K) (o : Reply (ValueOf K act)) (x x' : Lists K)
+  answers_size : (s : SheetAt) (act : Act K) (o : Reply (ValueOf K act)) (x x' : TableLists K)
       (s' : SheetAt) → IsAnswered kind s act o x x' s' → size_of s'.sheet ≡ size_of s.sheet
   answers_size s (Enter l r c) o x x' s' m = ap (λ t. size_of t.sheet) m.4
   answers_size s (Strike l r) o x x' s' m = ap (λ t. size_of t.sheet) m.4
@@ -64,15 +64,15 @@ module _ {K : Type 0} (kind : Ghosts K) where
   answers_size s Close o x x' s' m = ap (λ t. size_of t.sheet) m.2
   answers_size s Reopen o x x' s' m = ap (λ t. size_of t.sheet) m.2
 
-  meets_size : (s : SheetAt) (act : Act K) (o : Reply (ValueOf K act)) (x x' : Lists K)
+  meets_size : (s : SheetAt) (act : Act K) (o : Reply (ValueOf K act)) (x x' : TableLists K)
       (s' : SheetAt) → IsCalled kind s act o x x' s' → size_of s'.sheet ≡ size_of s.sheet
   meets_size s act o x x' s' (inl m) = answers_size s act o x x' s' m.1
   meets_size s act o x x' s' (inr m) = ap (λ t. size_of t.sheet) m.3
 
   -- ---- What a call came to, once it is known
 
-  module _ (state : State) (old : Lists K) (call : Call K)
-      (made : State × Result (Answer K) AllocError) (new : Lists K)
+  module _ (state : State) (old : TableLists K) (call : Call K)
+      (made : State × Result (Answer K) AllocError) (new : TableLists K)
       (makes : MakesOne kind state old call made new) where
     came_to : (r : Result (Answer K) AllocError) → made.1 ≡ r
         → MatchResult r (λ answer. WasMade kind state old call answer made.0 new)
@@ -88,7 +88,7 @@ module _ {K : Type 0} (kind : Ghosts K) where
     pub not_made_then : (none : AllocError) → made.1 ≡ Err none → new ≡ old
     not_made_then none e = (came_to (Err none) e).2
 
--- ---- Lists
+-- ---- TableLists
 
 answers_more : {K : Type 0} (cs : List (Call K)) (answers : List (Answer K))
     (es : List (Exchange K)) (call : Call K) (answer : Answer K) (e : Exchange K)
@@ -153,9 +153,9 @@ module _ {K : Type 0} (kind : Ghosts K) (n : ℕ) where
         }
 
   -- the calls that were made so far over the tables as they were lent, and what came of them
-  module _ (lent : Lists K) where
+  module _ (lent : TableLists K) where
     pub record Going (made : List (Call K)) (answers : List (Answer K)) (state : State)
-        (own : Lists K) : Type 0 where
+        (own : TableLists K) : Type 0 where
       pub exchanges : List (Exchange K)
       pub answer : AreAnswersOf made answers exchanges
       pub program : Program kind false n lent exchanges (state_of state) own
@@ -163,7 +163,7 @@ module _ {K : Type 0} (kind : Ghosts K) (n : ℕ) where
       pub sheet : IsSheet kind n (lengths lent)
       pub long : lengths own ≡ lengths lent
 
-    pub going_none : (state : State) (answers : List (Answer K)) (own : Lists K)
+    pub going_none : (state : State) (answers : List (Answer K)) (own : TableLists K)
         → answers ≡ [] → IsSheet kind n (lengths lent) → lengths own ≡ lengths lent
         → Begins kind n lent state own → Going [] answers state own
     going_none state answers own e sheet long b =
@@ -179,7 +179,7 @@ module _ {K : Type 0} (kind : Ghosts K) (n : ℕ) where
     -- one call more
     pub going_on : (cs : List (Call K)) (i : ℕ) (call : Call K)
         (answers reserved answers' : List (Answer K)) (answer : Answer K) (state state' : State)
-        (own own' : Lists K) → i < length cs → call ≡ get_or cs i call → reserved ≡ answers
+        (own own' : TableLists K) → i < length cs → call ≡ get_or cs i call → reserved ≡ answers
         → answers' ≡ reserved ++ answer ∷ [] → WasMade kind state own call answer state' own'
         → Going (take i cs) answers state own
         → Going (take (i + 1) cs) answers' state' own'
@@ -205,7 +205,7 @@ module _ {K : Type 0} (kind : Ghosts K) (n : ℕ) where
 
     -- the calls that were made kept the promise
     were_made : EveryProgramKeeps kind → (made : List (Call K)) (answers : List (Answer K))
-        (state : State) (own : Lists K) → Going made answers state own
+        (state : State) (own : TableLists K) → Going made answers state own
         → WereMade kind n lent made answers own
     were_made law made answers state own g =
         let kept = law false n lent g.exchanges (state_of state) own g.program in
@@ -221,14 +221,14 @@ module _ {K : Type 0} (kind : Ghosts K) (n : ℕ) where
 
     -- all calls were made; or memory ran out before the call at i
     pub finished : EveryProgramKeeps kind → (cs : List (Call K)) (i : ℕ)
-        (answers : List (Answer K)) (state : State) (own : Lists K) → length cs ≤ i
+        (answers : List (Answer K)) (state : State) (own : TableLists K) → length cs ≤ i
         → Going (take i cs) answers state own → WereMade kind n lent cs answers own
     finished law cs i answers state own all g =
         subst (λ (xs : List (Call K)). WereMade kind n lent xs answers own) (take_all i cs all)
         (were_made law (take i cs) answers state own g)
 
     pub stopped : EveryProgramKeeps kind → (cs : List (Call K)) (i : ℕ)
-        (answers answers' : List (Answer K)) (state : State) (own own' : Lists K)
+        (answers answers' : List (Answer K)) (state : State) (own own' : TableLists K)
         → i < length cs → answers' ≡ answers → own' ≡ own → Going (take i cs) answers state own
         → (length answers' < length cs)
         × WereMade kind n lent (take (length answers') cs) answers' own'
@@ -238,8 +238,8 @@ module _ {K : Type 0} (kind : Ghosts K) (n : ℕ) where
           omega (arith, count, ap length ea),
           subst (λ (zs : List (Answer K)). WereMade kind n lent (take (length zs) cs) zs own')
               (sym ea)
-              (subst (λ (y : Lists K). WereMade kind n lent (take (length answers) cs) answers y)
-              (sym eo)
+              (subst (λ (y : TableLists K). WereMade kind n lent (take
+              (length answers) cs) answers y) (sym eo)
               (subst (λ (j : ℕ). WereMade kind n lent (take j cs) answers own) (sym count)
               (were_made law (take i cs) answers state own g))),
         )

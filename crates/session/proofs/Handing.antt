@@ -22,7 +22,7 @@ use Rattle.session.specs.declared.sheet_tables.SheetTables.{SheetTables}
 use Rattle.session.specs.declared.state.State.{State}
 use Rattle.session.specs.Book.{allows}
 use Rattle.session.specs.Exchange.{ValueOf, Reply, not_made as absent}
-use Rattle.session.specs.Lists.{Table, Item, Lists, list_in, lengths_by, lengths, places_in}
+use Rattle.session.specs.Lists.{Table, Item, TableLists, list_in, lengths_by, lengths, places_in}
 use Rattle.session.specs.Lists.{right_lengths, the_costs, the_standing, the_partners, the_left}
 use Rattle.session.specs.Lists.{the_right, the_walk, the_marks}
 use Rattle.session.specs.Program.{SheetAt, Hands, HandsAll, IsCalled}
@@ -101,7 +101,7 @@ length_in h the_walk = h.walk
 length_in h the_marks = h.marks
 
 -- a list for each table, made one by one
-abbrev lists_of : {K : Type 0} → ((table : Table) → List (Item K table)) → Lists K
+abbrev lists_of : {K : Type 0} → ((table : Table) → List (Item K table)) → TableLists K
 lists_of list = record {
   costs = list the_costs;
   standing = list the_standing;
@@ -136,22 +136,22 @@ length_in_is f the_walk = refl
 length_in_is f the_marks = refl
 
 -- how long a table is, of tables of known lengths
-length_is : {K : Type 0} (x : Lists K) (f : Table → ℕ) → lengths x ≡ lengths_by f
+length_is : {K : Type 0} (x : TableLists K) (f : Table → ℕ) → lengths x ≡ lengths_by f
     → (table : Table) → length (list_in x table) ≡ f table
 length_is x f e table = sym (length_in_is (λ t. length (list_in x t)) table)
     ∙ ap (λ h. length_in h table) e ∙ length_in_is f table
 
-abbrev pub Parts : {K : Type 0} (h : Lengths) (own x x' own' : Lists K) → Type 0
+abbrev pub Parts : {K : Type 0} (h : Lengths) (own x x' own' : TableLists K) → Type 0
 Parts h own x x' own' = (table : Table)
     → Part (length_in h table) (list_in own table) (list_in x table) (list_in x' table)
     (list_in own' table)
 
 -- the first places of all tables
-abbrev pub cut : {K : Type 0} → Lengths → Lists K → Lists K
+abbrev pub cut : {K : Type 0} → Lengths → TableLists K → TableLists K
 cut h seen = lists_of (λ table. take (length_in h table - 0) (list_in seen table))
 
 -- tables that the call leaves as they are: `seen` are the slices that their places were cut from
-pub parts_kept : {K : Type 0} (h : Lengths) (own seen : Lists K) → AreNoLonger h (lengths own)
+pub parts_kept : {K : Type 0} (h : Lengths) (own seen : TableLists K) → AreNoLonger h (lengths own)
     → seen ≡ own → Parts h own (cut h seen) (cut h seen) own
 parts_kept h own seen lent e the_costs = part_kept _ _ _ lent.costs (ap (λ t. t.costs) e)
 parts_kept h own seen lent e the_standing = part_kept _ _ _ lent.standing (ap (λ t. t.standing) e)
@@ -161,7 +161,8 @@ parts_kept h own seen lent e the_right = part_kept _ _ _ lent.right (ap (λ t. t
 parts_kept h own seen lent e the_walk = part_kept _ _ _ lent.walk (ap (λ t. t.walk) e)
 parts_kept h own seen lent e the_marks = part_kept _ _ _ lent.marks (ap (λ t. t.marks) e)
 
-module _ {K : Type 0} (h : Lengths) (own x x' own' : Lists K) (parts : Parts h own x x' own') where
+module _ {K : Type 0} (h : Lengths) (own x x' own' : TableLists K)
+    (parts : Parts h own x x' own') where
   parts_lengths : h ≡ lengths x
   parts_lengths = same_lengths (length_in h) (λ table. length (list_in x table))
       (λ table. sym (part_length _ _ _ _ _ (parts table)))
@@ -177,9 +178,9 @@ module _ {K : Type 0} (h : Lengths) (own x x' own' : Lists K) (parts : Parts h o
 
 -- ---- A step
 
-module _ {K : Type 0} (kind : Ghosts K) (state : State) (own : Lists K) where
+module _ {K : Type 0} (kind : Ghosts K) (state : State) (own : TableLists K) where
   pub was_made : (act : Act K) (h : Lengths) (o : Reply (ValueOf K act)) (answer : Answer K)
-      (state' : State) (x x' own' : Lists K)
+      (state' : State) (x x' own' : TableLists K)
       → lengths own ≡ right_lengths (size_of (state_of state).sheet) → Parts h own x x' own'
       → IsAnswerOf act o answer → IsCalled kind (state_of state) act o x x' (state_of state')
       → WasMade kind state own (call_for act h) answer state' own'
@@ -198,7 +199,7 @@ module _ {K : Type 0} (kind : Ghosts K) (state : State) (own : Lists K) where
 
   -- a call that leaves all tables
   pub reads : (act : Act K) (h : Lengths) (o : Reply (ValueOf K act)) (answer : Answer K)
-      (state' : State) (seen : Lists K) → seen ≡ own
+      (state' : State) (seen : TableLists K) → seen ≡ own
       → lengths own ≡ right_lengths (size_of (state_of state).sheet)
       → AreNoLonger h (lengths own) → IsAnswerOf act o answer
       → IsCalled kind (state_of state) act o (cut h seen) (cut h seen) (state_of state')
@@ -217,14 +218,14 @@ module _ {K : Type 0} (kind : Ghosts K) (state : State) (own : Lists K) where
 
   -- a call is told by what it asks for and the lengths that it is handed
   pub makes_for : (call : Call K) (act : Act K) (made : State × Result (Answer K) AllocError)
-      (own' : Lists K) → call.act ≡ act
+      (own' : TableLists K) → call.act ≡ act
       → MakesOne kind state own (call_for act call.handed) made own'
       → MakesOne kind state own call made own'
   makes_for call act made own' e h =
       subst (λ (y : Act K). MakesOne kind state own (call_for y call.handed) made own') (sym e) h
 
   pub made_for : (call : Call K) (act : Act K) (answer : Answer K) (state' : State)
-      (own' : Lists K) → call.act ≡ act
+      (own' : TableLists K) → call.act ≡ act
       → WasMade kind state own (call_for act call.handed) answer state' own'
       → WasMade kind state own call answer state' own'
   made_for call act answer state' own' e made =
@@ -233,11 +234,11 @@ module _ {K : Type 0} (kind : Ghosts K) (state : State) (own : Lists K) where
 
 -- a call that writes some of the tables: it leaves these lists in what it was handed
 module _ {K : Type 0} (kind : Ghosts K) (state : State) (t : SheetTables K) (act : Act K)
-    (h : Lengths) (o : Reply (ValueOf K act)) (answer : Answer K) (state' : State) (seen : Lists K)
-    (same : seen ≡ tables_of t)
+    (h : Lengths) (o : Reply (ValueOf K act)) (answer : Answer K) (state' : State)
+    (seen : TableLists K) (same : seen ≡ tables_of t)
     (right : lengths (tables_of t) ≡ right_lengths (size_of (state_of state).sheet))
     (lent : AreNoLonger h (lengths (tables_of t))) (says : IsAnswerOf act o answer) where
-  abbrev own : Lists K
+  abbrev own : TableLists K
   own = tables_of t
 
   kept : Parts h own (cut h seen) (cut h seen) own

@@ -18,7 +18,7 @@ use Rattle.session.specs.declared.call.Act.{Act}
 use Rattle.session.specs.declared.call.Lengths.{Lengths}
 use Rattle.session.specs.Book.{Book, Phase, opened, settled, walking, step, grid_in}
 use Rattle.session.specs.Exchange.{ValueOf, Reply}
-use Rattle.session.specs.Lists.{Lists, SameIn, lent_of, rests_on, the_costs, the_standing}
+use Rattle.session.specs.Lists.{TableLists, SameIn, lent_of, rests_on, the_costs, the_standing}
 use Rattle.session.specs.Lists.{the_partners, the_left, the_right, the_walk}
 use Rattle.session.specs.Promise.{Settling, settling_by, IsRight}
 use Rattle.session.specs.Program.{SheetAt, cost_in, byte_in}
@@ -45,7 +45,7 @@ module _ {K : Type 0} (kind : Ghosts K) (n : ℕ) where
     pub marks : AllByRecursion (MarksOf n (optima s.grid)) s.marks
 
   -- the tables are as the settle left them
-  pub record IsReady (g : Grid) (s : Settling K) (t : Lists K) : Type 0 where
+  pub record IsReady (g : Grid) (s : Settling K) (t : TableLists K) : Type 0 where
     pub grid_is : s.grid ≡ g
     pub left_is : t.left ≡ s.settlement.left
     pub right_is : t.right ≡ s.settlement.right
@@ -53,12 +53,12 @@ module _ {K : Type 0} (kind : Ghosts K) (n : ℕ) where
     pub together : Together kind (lent_of n t)
 
   -- what the tables hold beyond the pairs
-  abbrev pub Beyond : Phase → Grid → Settling K → Lists K → Type 0
+  abbrev pub Beyond : Phase → Grid → Settling K → TableLists K → Type 0
   Beyond opened g s t = Unit {0}
   Beyond settled g s t = IsReady g s t
   Beyond walking g s t = IsReady g s t × AtPlace (optima g) t.walk s.walk
 
-  pub record Keeps (b : Book K) (s : Settling K) (state : SheetAt) (t : Lists K) : Type 0 where
+  pub record Keeps (b : Book K) (s : Settling K) (state : SheetAt) (t : TableLists K) : Type 0 where
     pub phase_is : state.phase ≡ b.phase
     pub size_is : size_of state.sheet ≡ n
     pub shows : Shows b.cells t.costs t.standing
@@ -67,7 +67,7 @@ module _ {K : Type 0} (kind : Ghosts K) (n : ℕ) where
 
   -- one call: what came of it is right, and the tables go on with the book
   pub record GoesOn (b : Book K) (s : Settling K) (act : Act K) (h : Lengths)
-      (o : Reply (ValueOf K act)) (state : SheetAt) (t : Lists K) : Type 0 where
+      (o : Reply (ValueOf K act)) (state : SheetAt) (t : TableLists K) : Type 0 where
     pub right : IsRight kind n b s (record { act = act; handed = h; reply = o })
     pub keeps : Keeps (step kind n b (record { act = act; handed = h }))
         (settling_by kind n b s act o) state t
@@ -92,12 +92,12 @@ each kind n cells costs standing shows l r i j =
 -- ---- Tables that hold the same
 
 -- lent tables are one value where each is one list
-pub lent_is : {K : Type 0} (n : ℕ) (t t' : Lists K) → t'.costs ≡ t.costs
+pub lent_is : {K : Type 0} (n : ℕ) (t t' : TableLists K) → t'.costs ≡ t.costs
     → t'.standing ≡ t.standing → t'.partners ≡ t.partners → t'.left ≡ t.left → t'.right ≡ t.right
     → lent_of n t' ≡ lent_of n t
 lent_is n t t' ec es ep el er = cc
 
-module _ {K : Type 0} (kind : Ghosts K) (n : ℕ) (t t' : Lists K) where
+module _ {K : Type 0} (kind : Ghosts K) (n : ℕ) (t t' : TableLists K) where
   pub shows_same : (cells : ℕ → ℕ → Option K) → t'.costs ≡ t.costs → t'.standing ≡ t.standing
       → Shows kind n cells t.costs t.standing → Shows kind n cells t'.costs t'.standing
   shows_same cells ec es shows = rw (ec, es) shows

@@ -26,7 +26,7 @@ use Rattle.session.specs.Book.{allows, book_with, book_by, verdict_after, verdic
 use Rattle.session.specs.Exchange.{ValueOf, Reply, not_made, turned_down, gives}
 use Rattle.session.specs.Promise.{Settling, HandsOut, AgreesWith, settling_with, IsValue}
 use Rattle.session.specs.Promise.{HasRightWalks}
-use Rattle.session.specs.Lists.{Lists}
+use Rattle.session.specs.Lists.{TableLists}
 use Rattle.session.specs.Program.{SheetAt, reply_by}
 use Rattle.session.proofs.Held.{HasWalksInTurn, Keeps, GoesOn}
 use Rattle.session.proofs.Needs.{Mirror, refuses, passes}
@@ -99,7 +99,7 @@ module _ {K : Type 0} (kind : Ghosts K) (n : ℕ) where
   }
 
   module _ (b : Book K) (s : Settling K) (act : Act K) (h : Lengths) (o : Reply (ValueOf K act))
-      (state : SheetAt) (t : Lists K) where
+      (state : SheetAt) (t : TableLists K) where
     abbrev call : Call K
     call = record { act = act; handed = h }
 

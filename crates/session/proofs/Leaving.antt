@@ -19,7 +19,7 @@ use Rattle.session.specs.declared.call.Act.TheVariants.{Enter, Strike, Read, Set
 use Rattle.session.specs.declared.call.Act.TheVariants.{Marks, Start, Next, Close, Reopen}
 use Rattle.session.specs.Book.{Phase, opened, settled, walking, made_in}
 use Rattle.session.specs.Exchange.{ValueOf, Reply, not_made, turned_down, gives, Exchange}
-use Rattle.session.specs.Lists.{Table, Lists, list_in, lent_of, is_pair_table, the_costs}
+use Rattle.session.specs.Lists.{Table, TableLists, list_in, lent_of, is_pair_table, the_costs}
 use Rattle.session.specs.Lists.{the_standing, the_partners, the_left, the_right, the_walk}
 use Rattle.session.specs.Lists.{the_marks}
 use Rattle.session.specs.Program.{SheetAt, state_at, HandsAll, is_fixed, HoldLast, reply_of}
@@ -29,7 +29,7 @@ use Rattle.session.specs.Program.{IsAnswered, IsCalled, Makes, Program, opens, c
 use Rattle.session.proofs.Allowing.{phase_told}
 
 -- a call that gives nothing of the tables
-nothing_given : {K : Type 0} (act : Act K) (t : Lists K)
+nothing_given : {K : Type 0} (act : Act K) (t : TableLists K)
     → ((x : ValueOf K act) → lists_by act (gives x) t ≡ t) → (o : Reply (ValueOf K act))
     → lists_by act o t ≡ t
 nothing_given act t h not_made = refl
@@ -37,12 +37,12 @@ nothing_given act t h (turned_down f shortfall) = refl
 nothing_given act t h (gives x) = h x
 
 -- a call that writes no table
-all_same : {K : Type 0} (x x' : Lists K) → x' ≡ x → (table : Table)
+all_same : {K : Type 0} (x x' : TableLists K) → x' ≡ x → (table : Table)
     → is_pair_table table ≡ false → list_in x' table ≡ list_in x table
 all_same x x' e table beside = ap (λ y. list_in y table) e
 
 -- a call that writes the pair tables alone
-beside_pairs : {K : Type 0} (x x' : Lists K)
+beside_pairs : {K : Type 0} (x x' : TableLists K)
     → x' ≡ record x { costs = x'.costs; standing = x'.standing } → (table : Table)
     → is_pair_table table ≡ false → list_in x' table ≡ list_in x table
 beside_pairs x x' e the_costs beside = cc
@@ -55,7 +55,8 @@ beside_pairs x x' e the_marks beside = ap (λ y. y.marks) e
 
 -- ---- One step
 
-module _ {K : Type 0} (kind : Ghosts K) (swaps : Bool) (sheet : Sheet) (own x x' own' t : Lists K)
+module _ {K : Type 0} (kind : Ghosts K) (swaps : Bool) (sheet : Sheet)
+    (own x x' own' t : TableLists K)
   where
     abbrev n : ℕ
     n = size_of sheet
@@ -75,7 +76,7 @@ module _ {K : Type 0} (kind : Ghosts K) (swaps : Bool) (sheet : Sheet) (own x x'
           → (o : Reply (ValueOf K act))
           → ((table : Table) → is_pair_table table ≡ false → list_in x' table ≡ list_in x table)
           → HoldLast swaps p own' (lists_by act o t)
-      quiet act silent o same = subst (λ (u : Lists K). HoldLast swaps p own' u)
+      quiet act silent o same = subst (λ (u : TableLists K). HoldLast swaps p own' u)
           (sym (nothing_given act t silent o)) (λ table beside.
           stays table (same table beside) beside)
 
@@ -227,7 +228,7 @@ module _ {K : Type 0} (kind : Ghosts K) (swaps : Bool) (sheet : Sheet) (own x x'
 -- ---- Along a program
 
 module _ {K : Type 0} (kind : Ghosts K) (swaps : Bool) where
-  step_leaves : (state state' : SheetAt) (own own' t : Lists K) (e : Exchange K)
+  step_leaves : (state state' : SheetAt) (own own' t : TableLists K) (e : Exchange K)
       → Makes kind swaps state own e state' own' → HoldLast swaps state.phase own t
       → HoldLast swaps state'.phase own' (lists_by e.act e.reply t)
   step_leaves state state' own own' t e m last = by m.meets
@@ -246,16 +247,17 @@ module _ {K : Type 0} (kind : Ghosts K) (swaps : Bool) where
           h.1 h.3
           (all_stay kind swaps state.sheet own m.x m.x' own' t state.phase m.hands last h.2)
 
-  lists_after_more : (t : Lists K) (es : List (Exchange K)) (e : Exchange K)
+  lists_after_more : (t : TableLists K) (es : List (Exchange K)) (e : Exchange K)
       → lists_after t (es ++ e ∷ []) ≡ lists_by e.act e.reply (lists_after t es)
   lists_after_more t [] e = refl
   lists_after_more t (d ∷ es) e = lists_after_more (lists_by d.act d.reply t) es e
 
-  pub hold_last : (n : ℕ) (lent : Lists K) {es : List (Exchange K)} {state : SheetAt}
-      {own : Lists K} → Program kind swaps n lent es state own
+  pub hold_last : (n : ℕ) (lent : TableLists K) {es : List (Exchange K)} {state : SheetAt}
+      {own : TableLists K} → Program kind swaps n lent es state own
       → HoldLast swaps state.phase own (lists_after lent es)
   hold_last k lent (opens sheet own o e) =
       λ table beside fixed. beside_pairs lent own e table beside
   hold_last k lent (calls {es = es} {s = s} {s' = s'} {own = own} {own' = own'} {e = e} program m) =
-      subst (λ (t : Lists K). HoldLast swaps s'.phase own' t) (sym (lists_after_more lent es e))
+      subst (λ (t : TableLists K). HoldLast swaps s'.phase own' t) (sym
+      (lists_after_more lent es e))
       (step_leaves s s' own own' (lists_after lent es) e m (hold_last k lent program))

@@ -5,10 +5,10 @@ pub mod Judging
 pub mod Fits
 pub mod Cells
 pub mod Resting
-pub mod Opened
+pub mod OnOpen
 pub mod Settles
-pub mod Asked
-pub mod Walked
+pub mod OnSettled
+pub mod OnWalk
 pub mod Leaving
 pub mod Theorem
 pub mod Shown

@@ -14,7 +14,7 @@ use Rattle.tables.specs.Together.{Together}
 use Rattle.sheet.specs.Size.{Sheet, size_of}
 use Rattle.session.specs.declared.call.Act.{Act}
 use Rattle.session.specs.Book.{Book, Phase, settled, walking, allows, grid_in}
-use Rattle.session.specs.Lists.{Table, Lists, list_in, SameIn, lent_of, places_in, rests_on}
+use Rattle.session.specs.Lists.{Table, TableLists, list_in, SameIn, lent_of, places_in, rests_on}
 use Rattle.session.specs.Lists.{the_costs, the_standing, the_partners, the_left, the_right}
 use Rattle.session.specs.Lists.{the_walk}
 use Rattle.session.specs.Lists.{the_marks}
@@ -28,10 +28,10 @@ use Rattle.session.proofs.Held.{Shows, IsReady, Keeps, keeps_same, lent_is, show
 pub record OneCall {K : Type 0} (kind : Ghosts K) (swaps : Bool) (p : Phase) (b : Book K)
     (s : Settling K) : Type 0 where
   pub sheet : Sheet
-  pub own : Lists K
-  pub x : Lists K
-  pub x' : Lists K
-  pub own' : Lists K
+  pub own : TableLists K
+  pub x : TableLists K
+  pub x' : TableLists K
+  pub own' : TableLists K
   pub keeps : Keeps kind (size_of sheet) b s (state_at p sheet) own
   pub hands : HandsAll swaps (state_at p sheet) own x x' own'
 
@@ -82,7 +82,7 @@ on_walk the_walk e = refl
 on_walk the_marks e = e
 
 -- a call that writes the walk list alone, or the marks alone
-pub walk_alone : {K : Type 0} (x x' : Lists K) → x' ≡ record x { walk = x'.walk }
+pub walk_alone : {K : Type 0} (x x' : TableLists K) → x' ≡ record x { walk = x'.walk }
     → SameIn (rests_on settled) x' x
 walk_alone x x' e the_costs rests = ap (λ y. y.costs) e
 walk_alone x x' e the_standing rests = ap (λ y. y.standing) e
@@ -92,7 +92,7 @@ walk_alone x x' e the_right rests = ap (λ y. y.right) e
 walk_alone x x' e the_walk rests = cc
 walk_alone x x' e the_marks rests = cc
 
-pub marks_alone : {K : Type 0} (x x' : Lists K) → x' ≡ record x { marks = x'.marks }
+pub marks_alone : {K : Type 0} (x x' : TableLists K) → x' ≡ record x { marks = x'.marks }
     → SameIn (rests_on settled) x' x
 marks_alone x x' e the_costs rests = ap (λ y. y.costs) e
 marks_alone x x' e the_standing rests = ap (λ y. y.standing) e

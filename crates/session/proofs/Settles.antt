@@ -27,7 +27,8 @@ use Rattle.sheet.specs.Size.{Sheet, size_of}
 use Rattle.session.specs.declared.call.Act.TheVariants.{Settle}
 use Rattle.session.specs.Book.{Book, opened, settled, stands_in, has_perfect, needs}
 use Rattle.session.specs.Exchange.{Settlement, Reply}
-use Rattle.session.specs.Lists.{Lists, SameIn, lengths, lent_of, rests_on, the_costs, the_standing}
+use Rattle.session.specs.Lists.{TableLists, SameIn, lengths, lent_of, rests_on, the_costs}
+use Rattle.session.specs.Lists.{the_standing}
 use Rattle.session.specs.Lists.{the_partners, the_left, the_right}
 use Rattle.session.specs.Promise.{Settling, IsSettlement, settling_of}
 use Rattle.session.specs.Program.{SheetAt, state_at, IsAnswered, reply_of, settlement_in}
@@ -37,7 +38,7 @@ use Rattle.session.proofs.Fits.{fits}
 use Rattle.session.proofs.Held.{Shows, Keeps, GoesOn, lent_is, shows_same}
 use Rattle.session.proofs.Judging.{refused_next, accepted_next}
 use Rattle.session.proofs.Needs.{Mirror, refuses, passes}
-use Rattle.session.proofs.Opened.{kept_pairs}
+use Rattle.session.proofs.OnOpen.{kept_pairs}
 use Rattle.session.proofs.Resting.{OneCall, n, here, book, lent, allowed, own_shows, still}
 
 -- some pairing is perfect exactly if the list of them has one

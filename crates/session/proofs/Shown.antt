@@ -304,7 +304,8 @@ bare_alike zero (suc r) i j = absurd (omega (arith, j))
 
 pub bare_keeps : KeepsPromise whole_numbers 1 (bare 1 1)
 bare_keeps =
-    also (is_right refl (explained 1 blank 1 1 (unpaired_like 1 (bare_grid costless).stands (stands_in {K = ℤ} (λ l r. None)) bare_alike 1 1 (bare_is costless))) no_walks) tt
+    also (is_right refl (explained 1 blank 1 1 (unpaired_like 1 (bare_grid costless).stands
+    (stands_in {K = ℤ} (λ l r. None)) bare_alike 1 1 (bare_is costless))) no_walks) tt
 
 -- a crowd set without left block 1 is made up, and so is a shortage of 2
 pub not_one : Unpaired 2 (stands_in crowded_book.cells) 1 1 → ⊥

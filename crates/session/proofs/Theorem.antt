@@ -13,20 +13,20 @@ use Rattle.session.specs.declared.call.Act.TheVariants.{Enter, Strike, Read, Set
 use Rattle.session.specs.declared.call.Act.TheVariants.{Marks, Start, Next, Close, Reopen}
 use Rattle.session.specs.Book.{Book, opened, made_in, allows, blank, step}
 use Rattle.session.specs.Exchange.{ValueOf, Reply, Exchange, call_of}
-use Rattle.session.specs.Lists.{Lists, list_in, lengths, rests_on}
+use Rattle.session.specs.Lists.{TableLists, list_in, lengths, rests_on}
 use Rattle.session.specs.Promise.{Settling, fresh, settling_by, IsRight, AllRight, book_after}
 use Rattle.session.specs.Program.{SheetAt, state_at, HandsAll, IsAnswered, IsCalled, Makes, Program}
 use Rattle.session.specs.Program.{opens, calls, EveryProgramKeeps}
 use Rattle.session.proofs.Allowing.{phase_told}
-use Rattle.session.proofs.Asked as asked
+use Rattle.session.proofs.OnSettled as settled_calls
 use Rattle.session.proofs.Cells.{opened_shows}
 use Rattle.session.proofs.Held.{Keeps, GoesOn, keeps_same}
 use Rattle.session.proofs.Judging.{not_made_next}
 use Rattle.session.proofs.Leaving.{hold_last}
-use Rattle.session.proofs.Opened as opening
+use Rattle.session.proofs.OnOpen as open_calls
 use Rattle.session.proofs.Resting.{OneCall, n, here}
 use Rattle.session.proofs.Settles.{settles}
-use Rattle.session.proofs.Walked as walked
+use Rattle.session.proofs.OnWalk as walk_calls
 
 -- ---- One step
 
@@ -35,20 +35,20 @@ made : {K : Type 0} {kind : Ghosts K} {swaps : Bool} {b : Book K} {s : Settling 
     (m : OneCall kind swaps (made_in act) b s) (o : Reply (ValueOf K act)) (state : SheetAt)
     → IsAnswered kind (here m) act o m.x m.x' state
     → GoesOn kind (n m) b s act (lengths m.x) o state m.own'
-made (Enter l r c) m o state h = opening.enters m l r c o state h
-made (Strike l r) m o state h = opening.strikes m l r o state h
-made (Read l r) m o state h = opening.reads m l r o state h
+made (Enter l r c) m o state h = open_calls.enters m l r c o state h
+made (Strike l r) m o state h = open_calls.strikes m l r o state h
+made (Read l r) m o state h = open_calls.reads m l r o state h
 made Settle m o state h = settles m o state h
-made (Quote l r) m o state h = asked.quotes m l r o state h
-made Total m o state h = asked.totals m o state h
-made Marks m o state h = asked.marks m o state h
-made Start m o state h = asked.starts m o state h
-made Next m o state h = walked.steps m o state h
-made Close m o state h = walked.closes m o state h
-made Reopen m o state h = asked.reopens m o state h
+made (Quote l r) m o state h = settled_calls.quotes m l r o state h
+made Total m o state h = settled_calls.totals m o state h
+made Marks m o state h = settled_calls.marks m o state h
+made Start m o state h = settled_calls.starts m o state h
+made Next m o state h = walk_calls.steps m o state h
+made Close m o state h = walk_calls.closes m o state h
+made Reopen m o state h = settled_calls.reopens m o state h
 
 module _ {K : Type 0} (kind : Ghosts K) (swaps : Bool) where
-  next_of : (state state' : SheetAt) (own own' : Lists K) (e : Exchange K)
+  next_of : (state state' : SheetAt) (own own' : TableLists K) (e : Exchange K)
       → Makes kind swaps state own e state' own' → (b : Book K) (s : Settling K)
       → Keeps kind (size_of state.sheet) b s state own
       → GoesOn kind (size_of state.sheet) b s e.act e.handed e.reply state' own'
@@ -114,13 +114,13 @@ module _ {K : Type 0} (kind : Ghosts K) (n : ℕ) where
       settling_after_more (step kind n b (call_of d)) (settling_by kind n b s d.act d.reply) es e
 
   -- all calls so far were right, and the tables hold what the book says
-  pub record RightSoFar (es : List (Exchange K)) (state : SheetAt) (own : Lists K) : Type 0 where
-    pub right : AllRight kind n blank (fresh kind n) es
+  pub record RightSoFar (es : List (Exchange K)) (state : SheetAt)
+    (own : TableLists K) : Type 0 where pub right : AllRight kind n blank (fresh kind n) es
     pub keeps : Keeps kind n (book_after kind n blank es) (settling_after blank (fresh kind n) es)
         state own
 
   going_more : (es : List (Exchange K)) (e : Exchange K) (state state' : SheetAt)
-      (own own' : Lists K) → RightSoFar es state own
+      (own own' : TableLists K) → RightSoFar es state own
       → GoesOn kind n (book_after kind n blank es) (settling_after blank (fresh kind n) es) e.act
       e.handed e.reply state' own'
       → RightSoFar (es ++ e ∷ []) state' own'
@@ -133,7 +133,7 @@ module _ {K : Type 0} (kind : Ghosts K) (n : ℕ) where
         own') (sym (settling_after_more blank (fresh kind n) es e)) next.keeps);
   }
 
-  begun : (sheet : Sheet) (costs : List K) (standing : List ℕ) (own : Lists K)
+  begun : (sheet : Sheet) (costs : List K) (standing : List ℕ) (own : TableLists K)
       → Opened kind.zero n costs standing (Ok sheet) own.costs own.standing
       → RightSoFar [] (state_at opened sheet) own
   begun sheet costs standing own is = record {
@@ -147,8 +147,9 @@ module _ {K : Type 0} (kind : Ghosts K) (n : ℕ) where
     };
   }
 
-module _ {K : Type 0} (kind : Ghosts K) (swaps : Bool) (n : ℕ) (lent : Lists K) where
-  gone_on : (es : List (Exchange K)) (e : Exchange K) (state state' : SheetAt) (own own' : Lists K)
+module _ {K : Type 0} (kind : Ghosts K) (swaps : Bool) (n : ℕ) (lent : TableLists K) where
+  gone_on : (es : List (Exchange K)) (e : Exchange K) (state state' : SheetAt)
+      (own own' : TableLists K)
       → Makes kind swaps state own e state' own' → RightSoFar kind n es state own
       → RightSoFar kind n (es ++ e ∷ []) state' own'
   gone_on es e state state' own own' m g =
@@ -158,7 +159,7 @@ module _ {K : Type 0} (kind : Ghosts K) (swaps : Bool) (n : ℕ) (lent : Lists K
       going_more kind n es e state state' own own' g
       (next (book_after kind n blank es) (settling_after kind n blank (fresh kind n) es) g.keeps)
 
-  pub going : {es : List (Exchange K)} {state : SheetAt} {own : Lists K}
+  pub going : {es : List (Exchange K)} {state : SheetAt} {own : TableLists K}
       → Program kind swaps n lent es state own → RightSoFar kind n es state own
   going (opens sheet own o e) = begun kind n sheet lent.costs lent.standing own o
   going (calls {es = es} {s = s} {s' = s'} {own = own} {own' = own'} {e = e} program m) =

@@ -15,7 +15,7 @@ use Rattle.session.specs.declared.call.Lengths.{Lengths}
 use Rattle.session.specs.Book.{Book, blank, grid_in}
 use Rattle.session.specs.Exchange.{ValueOf, Reply, Settlement, not_made, turned_down, gives}
 use Rattle.session.specs.Exchange.{Exchange}
-use Rattle.session.specs.Lists.{Lists, right_lengths}
+use Rattle.session.specs.Lists.{TableLists, right_lengths}
 use Rattle.session.specs.Program.{lists_after}
 use Rattle.session.specs.Promise.{Settling, settling_of, AllRight, KeepsPromise, book_after}
 
@@ -162,7 +162,7 @@ pub record Shown : Type 0 where
   pub crowded_keeps : KeepsPromise whole_numbers 2 (crowded 3 1)
   pub bare_keeps : KeepsPromise whole_numbers 1 (bare 1 1)
   -- what the calls told last of each table: the second settle, the marks, and the walk to its end
-  pub tables : (lent : Lists ℤ) → lists_after lent whole
+  pub tables : (lent : TableLists ℤ) → lists_after lent whole
       ≡ record lent {
         partners = second;
         left = (with_prices second).left;

@@ -22,7 +22,7 @@ Item K the_right = K
 Item K _ = ℕ
 
 -- a list for each table: what the sheet's own tables hold, or what a call is handed or leaves
-pub record Lists (K : Type 0) : Type 0 where
+pub record TableLists (K : Type 0) : Type 0 where
   pub costs : List K
   pub standing : List ℕ
   pub partners : List ℕ
@@ -31,7 +31,7 @@ pub record Lists (K : Type 0) : Type 0 where
   pub walk : List ℕ
   pub marks : List ℕ
 
-abbrev pub list_in : {K : Type 0} → Lists K → (table : Table) → List (Item K table)
+abbrev pub list_in : {K : Type 0} → TableLists K → (table : Table) → List (Item K table)
 list_in x the_costs = x.costs
 list_in x the_standing = x.standing
 list_in x the_partners = x.partners
@@ -41,11 +41,11 @@ list_in x the_walk = x.walk
 list_in x the_marks = x.marks
 
 -- the same list in each of these tables
-abbrev pub SameIn : {K : Type 0} → (Table → Bool) → (x y : Lists K) → Type 0
+abbrev pub SameIn : {K : Type 0} → (Table → Bool) → (x y : TableLists K) → Type 0
 SameIn these x y = (table : Table) → these table ≡ true → list_in x table ≡ list_in y table
 
 -- the tables that most calls on a sheet of n blocks a plane are handed, as one value
-abbrev pub lent_of : {K : Type 0} → ℕ → Lists K → Lent K
+abbrev pub lent_of : {K : Type 0} → ℕ → TableLists K → Lent K
 lent_of n x = as_one n x.costs x.standing x.partners x.left x.right
 
 -- ---- Lengths
@@ -61,7 +61,7 @@ lengths_by places = record {
   marks = places the_marks;
 }
 
-abbrev pub lengths : {K : Type 0} → Lists K → Lengths
+abbrev pub lengths : {K : Type 0} → TableLists K → Lengths
 lengths x = lengths_by (λ table. length (list_in x table))
 
 -- how many places a table has for n blocks a plane

@@ -24,7 +24,8 @@ use Rattle.session.specs.declared.call.Act.TheVariants.{Marks, Start, Next, Clos
 use Rattle.session.specs.Book.{Phase, opened, settled, walking, allows, blank}
 use Rattle.session.specs.Exchange.{Settlement, ValueOf, Reply, not_made, turned_down, gives}
 use Rattle.session.specs.Exchange.{Exchange}
-use Rattle.session.specs.Lists.{Table, Lists, list_in, lent_of, lengths, places_in, is_pair_table}
+use Rattle.session.specs.Lists.{Table, TableLists, list_in, lent_of, lengths, places_in}
+use Rattle.session.specs.Lists.{is_pair_table}
 use Rattle.session.specs.Lists.{rests_on}
 use Rattle.session.specs.Promise.{KeepsPromise, book_after}
 
@@ -39,7 +40,7 @@ state_at phase sheet = record { phase = phase; sheet = sheet }
 -- ---- What calls give of tables
 
 -- the tables with what an accepted call gives of them
-abbrev pub lists_with : {K : Type 0} (act : Act K) → ValueOf K act → Lists K → Lists K
+abbrev pub lists_with : {K : Type 0} (act : Act K) → ValueOf K act → TableLists K → TableLists K
 lists_with (Enter l r c) x t = t
 lists_with (Strike l r) x t = t
 lists_with (Read l r) x t = t
@@ -53,14 +54,15 @@ lists_with Next None t = t
 lists_with Close x t = t
 lists_with Reopen x t = t
 
-abbrev pub lists_by : {K : Type 0} (act : Act K) → Reply (ValueOf K act) → Lists K → Lists K
+abbrev pub lists_by : {K : Type 0} (act : Act K) → Reply (ValueOf K act) → TableLists K
+    → TableLists K
 lists_by act not_made t = t
 lists_by act (turned_down f shortfall) t = t
 lists_by act (gives x) t = lists_with act x t
 
 -- what some calls gave last of each table but the pair tables; what it held before where they gave
 -- nothing of it
-abbrev pub lists_after : {K : Type 0} → Lists K → List (Exchange K) → Lists K
+abbrev pub lists_after : {K : Type 0} → TableLists K → List (Exchange K) → TableLists K
 lists_after t [] = t
 lists_after t (e ∷ es) = lists_after (lists_by e.act e.reply t) es
 
@@ -83,13 +85,14 @@ abbrev pub is_fixed : (swaps : Bool) → Phase → Table → Bool
 is_fixed swaps phase table = rests_on phase table || not swaps
 
 -- all tables in one step of a sheet in a state
-abbrev pub HandsAll : {K : Type 0} (swaps : Bool) (s : SheetAt) (own x x' own' : Lists K) → Type 0
+abbrev pub HandsAll : {K : Type 0} (swaps : Bool) (s : SheetAt) (own x x' own' : TableLists K)
+    → Type 0
 HandsAll swaps s own x x' own' =
     (table : Table) → Hands (places_in (size_of s.sheet) table) (is_fixed swaps s.phase table)
     (list_in own table) (list_in x table) (list_in x' table) (list_in own' table)
 
 -- the fixed tables hold this, but for the pair tables
-abbrev pub HoldLast : {K : Type 0} (swaps : Bool) → Phase → (own last : Lists K) → Type 0
+abbrev pub HoldLast : {K : Type 0} (swaps : Bool) → Phase → (own last : TableLists K) → Type 0
 HoldLast swaps phase own last = (table : Table) → is_pair_table table ≡ false
     → is_fixed swaps phase table ≡ true → list_in own table ≡ list_in last table
 
@@ -109,7 +112,7 @@ state_after next back (Ok sheet) = state_at next sheet
 state_after next back (Err r) = state_at back r.state
 
 -- the partners and the prices, as a settle gives them
-abbrev pub settlement_in : {K : Type 0} → Lists K → Settlement K
+abbrev pub settlement_in : {K : Type 0} → TableLists K → Settlement K
 settlement_in x = record { partners = x.partners; left = x.left; right = x.right }
 
 -- the pairing that a step of a walk gives, with this in the walk list
@@ -135,7 +138,7 @@ module _ {K : Type 0} (kind : Ghosts K) where
   -- What the contract of each public function says: the state, what is asked for, what came of it,
   -- the tables x that the call is handed and x' that it leaves, and the state after it. What an
   -- answer gives of a table is what the call left there; the tables that it does not take stay.
-  abbrev pub IsAnswered : SheetAt → (act : Act K) → Reply (ValueOf K act) → (x x' : Lists K)
+  abbrev pub IsAnswered : SheetAt → (act : Act K) → Reply (ValueOf K act) → (x x' : TableLists K)
       → SheetAt → Type 0
   IsAnswered s (Enter l r c) o x x' s' = (a : Result (Unit {0}) Fault) × (o ≡ reply_by (λ u. u) a)
       × Enters kind (size_of s.sheet) x.costs x.standing l r c a x'.costs x'.standing
@@ -174,17 +177,17 @@ module _ {K : Type 0} (kind : Ghosts K) where
   IsAnswered s Reopen o x x' s' = (o ≡ gives tt) × (x' ≡ x) × (s' ≡ state_at opened s.sheet)
 
   -- a call that the state has is made; one that it does not have is not
-  abbrev pub IsCalled : SheetAt → (act : Act K) → Reply (ValueOf K act) → (x x' : Lists K) → SheetAt
-      → Type 0
+  abbrev pub IsCalled : SheetAt → (act : Act K) → Reply (ValueOf K act) → (x x' : TableLists K)
+      → SheetAt → Type 0
   IsCalled s act o x x' s' = ((allows s.phase act ≡ true) × IsAnswered s act o x x' s')
       ⊎ ((allows s.phase act ≡ false) × (o ≡ not_made) × (x' ≡ x) × (s' ≡ s))
 
   -- One step: the state and the sheet's own tables before it, the call with what came of it, and
   -- the state and the sheet's own tables after it. The call is handed x and leaves x'.
-  pub record Makes (swaps : Bool) (s : SheetAt) (own : Lists K) (e : Exchange K) (s' : SheetAt)
-      (own' : Lists K) : Type 0 where
-    pub x : Lists K
-    pub x' : Lists K
+  pub record Makes (swaps : Bool) (s : SheetAt) (own : TableLists K) (e : Exchange K) (s' : SheetAt)
+      (own' : TableLists K) : Type 0 where
+    pub x : TableLists K
+    pub x' : TableLists K
     pub lengths_are : e.handed ≡ lengths x
     pub hands : HandsAll swaps s own x x' own'
     pub meets : IsCalled s e.act e.reply x x' s'
@@ -193,20 +196,20 @@ module _ {K : Type 0} (kind : Ghosts K) where
   -- tables that it is lent, of which `open` takes the two pair tables and the others stay as they
   -- were; and then it makes one call after the other, each in the state and with the tables that
   -- the one before left.
-  pub data Program (swaps : Bool) (n : ℕ) (lent : Lists K)
-      : List (Exchange K) → SheetAt → Lists K → Type 0 where
-    opens : (sheet : Sheet) (own : Lists K)
+  pub data Program (swaps : Bool) (n : ℕ) (lent : TableLists K)
+      : List (Exchange K) → SheetAt → TableLists K → Type 0 where
+    opens : (sheet : Sheet) (own : TableLists K)
         → Opened kind.zero n lent.costs lent.standing (Ok sheet) own.costs own.standing
         → own ≡ record lent { costs = own.costs; standing = own.standing }
         → Program swaps n lent [] (state_at opened sheet) own
-    calls : {es : List (Exchange K)} {s s' : SheetAt} {own own' : Lists K} {e : Exchange K}
+    calls : {es : List (Exchange K)} {s s' : SheetAt} {own own' : TableLists K} {e : Exchange K}
         → Program swaps n lent es s own → Makes swaps s own e s' own'
         → Program swaps n lent (es ++ e ∷ []) s' own'
 
   -- ---- What a program leaves
 
   -- the pair tables of n blocks a plane show these cells, and nothing else
-  pub record ShowCells (n : ℕ) (cells : ℕ → ℕ → Option K) (own : Lists K) : Type 0 where
+  pub record ShowCells (n : ℕ) (cells : ℕ → ℕ → Option K) (own : TableLists K) : Type 0 where
     pub costs_long : length own.costs ≡ places_of n
     pub standing_long : length own.standing ≡ places_of n
     pub costs : (l r : ℕ) → l < n → r < n
@@ -218,8 +221,8 @@ module _ {K : Type 0} (kind : Ghosts K) where
   -- prices are what the last settle wrote, and the walk list is the pairing that was handed out
   -- last. Of a program that swaps no tables this is so of all tables in every state: a table that
   -- no call gave anything of is as it was lent.
-  pub record Leaves (swaps : Bool) (n : ℕ) (lent : Lists K) (es : List (Exchange K)) (s : SheetAt)
-      (own : Lists K) : Type 0 where
+  pub record Leaves (swaps : Bool) (n : ℕ) (lent : TableLists K) (es : List (Exchange K))
+      (s : SheetAt) (own : TableLists K) : Type 0 where
     pub phase : s.phase ≡ (book_after kind n blank es).phase
     pub size : size_of s.sheet ≡ n
     pub cells : ShowCells n (book_after kind n blank es).cells own
@@ -228,6 +231,6 @@ module _ {K : Type 0} (kind : Ghosts K) where
   -- THE MAIN THEOREM: every program keeps the promise, and its tables hold what is said above after
   -- its last call. The beginning of a program is a program, so this is said after every call.
   abbrev pub EveryProgramKeeps : Type 0
-  EveryProgramKeeps = (swaps : Bool) (n : ℕ) (lent : Lists K) (es : List (Exchange K)) (s : SheetAt)
-      (own : Lists K) → Program swaps n lent es s own
+  EveryProgramKeeps = (swaps : Bool) (n : ℕ) (lent : TableLists K) (es : List (Exchange K))
+      (s : SheetAt) (own : TableLists K) → Program swaps n lent es s own
       → KeepsPromise kind n es × Leaves swaps n lent es s own

@@ -31,7 +31,7 @@ use Rattle.session.specs.declared.sheet_tables.SheetTables.{SheetTables}
 use Rattle.session.specs.Book.{opened, settled, walking}
 use Rattle.session.specs.Exchange.{ValueOf, Reply, not_made, turned_down, gives, Exchange}
 use Rattle.session.specs.Exchange.{call_of}
-use Rattle.session.specs.Lists.{Lists, lengths, right_lengths}
+use Rattle.session.specs.Lists.{TableLists, lengths, right_lengths}
 use Rattle.session.specs.Program.{SheetAt, state_at, Makes, Program, Leaves}
 use Rattle.session.specs.Promise.{KeepsPromise}
 
@@ -42,7 +42,7 @@ state_of (Open sheet) = state_at opened sheet
 state_of (IsSettled sheet) = state_at settled sheet
 state_of (Walking sheet) = state_at walking sheet
 
-abbrev pub tables_of : {K : Type 0} → SheetTables K → Lists K
+abbrev pub tables_of : {K : Type 0} → SheetTables K → TableLists K
 tables_of t = record {
   costs = t.costs.items;
   standing = t.standing.items;
@@ -134,8 +134,8 @@ module _ {K : Type 0} (kind : Ghosts K) where
 
   -- the call was made, and this is its answer: a step of a program over the tables, which keep
   -- their lengths
-  pub record WasMade (state : State) (old : Lists K) (call : Call K) (answer : Answer K)
-      (state' : State) (new : Lists K) : Type 0 where
+  pub record WasMade (state : State) (old : TableLists K) (call : Call K) (answer : Answer K)
+      (state' : State) (new : TableLists K) : Type 0 where
     pub reply : Reply (ValueOf K call.act)
     pub answers : IsAnswerOf call.act reply answer
     pub makes : Makes kind false (state_of state) old
@@ -144,8 +144,8 @@ module _ {K : Type 0} (kind : Ghosts K) where
 
   -- want of memory, which only an answer with copies can meet, is found before the call is made:
   -- the state comes back, and the tables are as they were
-  abbrev pub MakesOne : (state : State) (old : Lists K) → Call K
-      → State × Result (Answer K) AllocError → (new : Lists K) → Type 0
+  abbrev pub MakesOne : (state : State) (old : TableLists K) → Call K
+      → State × Result (Answer K) AllocError → (new : TableLists K) → Type 0
   MakesOne state old call made new =
       MatchResult made.1 (λ answer. WasMade state old call answer made.0 new)
       (λ e. (holds_copies call.act ≡ true) × (made.0 ≡ state) × (new ≡ old))
@@ -174,8 +174,8 @@ module _ {K : Type 0} (kind : Ghosts K) where
   -- A sheet was opened over the tables as they were lent, the calls were made and have these
   -- answers, and the tables hold what the last call left: the calls are a program, so they keep the
   -- promise, and the tables hold what a program leaves.
-  pub record WereMade (n : ℕ) (lent : Lists K) (calls : List (Call K)) (answers : List (Answer K))
-      (new : Lists K) : Type 0 where
+  pub record WereMade (n : ℕ) (lent : TableLists K) (calls : List (Call K))
+      (answers : List (Answer K)) (new : TableLists K) : Type 0 where
     pub sheet : IsSheet n (lengths lent)
     pub exchanges : List (Exchange K)
     pub answer : AreAnswersOf calls answers exchanges
@@ -185,15 +185,16 @@ module _ {K : Type 0} (kind : Ghosts K) where
     pub leaves : Leaves kind false n lent exchanges state new
 
   -- a sheet of n blocks a plane is open over the tables: a program begins
-  pub record Begins (n : ℕ) (lent : Lists K) (state : State) (new : Lists K) : Type 0 where
+  pub record Begins (n : ℕ) (lent : TableLists K) (state : State)
+      (new : TableLists K) : Type 0 where
     pub program : Program kind false n lent [] (state_of state) new
     pub sized : size_of (state_of state).sheet ≡ n
 
   -- What a run comes to, by its tests in their order: a call is handed more than is lent; the size
   -- is wrong, or the lengths are; every call is made; or memory ran out before one of them, and
   -- those before it were made. Refused, the tables are as they were lent. No two of these can be.
-  abbrev pub Runs : ℕ → (lent : Lists K) → List (Call K)
-      → Result (Vec (Answer K) Global) (Stopped K) → (new : Lists K) → Type 0
+  abbrev pub Runs : ℕ → (lent : TableLists K) → List (Call K)
+      → Result (Vec (Answer K) Global) (Stopped K) → (new : TableLists K) → Type 0
   Runs n lent calls (Err NotLent) new = ExceedsLent calls (lengths lent) × (new ≡ lent)
   Runs n lent calls (Err (Sheet f)) new =
       AreLent calls (lengths lent) × IsNoSheet n (lengths lent) f × (new ≡ lent)

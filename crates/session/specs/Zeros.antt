@@ -1,10 +1,10 @@
 -- New tables of a sheet.
 use Rattle.std.specs.Prelude.{ℕ, replicate}
 use Rattle.pairing.specs.Places.{places_of}
-use Rattle.session.specs.Lists.{Lists}
+use Rattle.session.specs.Lists.{TableLists}
 
 -- tables for n blocks a plane, with zero in every place
-abbrev pub zeros : {K : Type 0} (nought : K) (n : ℕ) → Lists K
+abbrev pub zeros : {K : Type 0} (nought : K) (n : ℕ) → TableLists K
 zeros nought n = record {
   costs = replicate (places_of n) nought;
   standing = replicate (places_of n) 0;

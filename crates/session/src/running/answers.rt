@@ -1,4 +1,4 @@
-//! The answers that tell what came of a call.
+//! The answers that say what came of a call.
 
 ghost use Rattle.std.specs.Prelude.{◌≡◌, MatchResult};
 ghost use Rattle.session.specs.Book.{opened, settled, walking};
@@ -13,8 +13,8 @@ use crate::state::State;
 use cost::Cost;
 use sheet::{Fault, OpenSheet, Refusal, SettledSheet, Shortfall, Step, Walk};
 
-// The answer to a call that tells nothing.
-pub(super) fn done<K: Cost>(outcome: Result<(), Fault>) -> Answer<K>
+// The answer to a call that gives nothing.
+pub(super) fn done_answer<K: Cost>(outcome: Result<(), Fault>) -> Answer<K>
     ensures { MatchResult outcome (λ u. result ≡ Done) (λ f. result ≡ Refused f) }
 {
     match outcome {
@@ -23,8 +23,8 @@ pub(super) fn done<K: Cost>(outcome: Result<(), Fault>) -> Answer<K>
     }
 }
 
-// The answer to a call that tells an amount.
-pub(super) fn amount<K: Cost>(outcome: Result<K, Fault>) -> Answer<K>
+// The answer to a call that gives an amount.
+pub(super) fn amount_answer<K: Cost>(outcome: Result<K, Fault>) -> Answer<K>
     ensures { MatchResult outcome (λ x. result ≡ Amount x) (λ f. result ≡ Refused f) }
 {
     match outcome {
@@ -34,7 +34,7 @@ pub(super) fn amount<K: Cost>(outcome: Result<K, Fault>) -> Answer<K>
 }
 
 // The answer to a quote.
-pub(super) fn quoted<K: Cost>(outcome: Result<(K, K), Fault>) -> Answer<K>
+pub(super) fn quote_answer<K: Cost>(outcome: Result<(K, K), Fault>) -> Answer<K>
     ensures { MatchResult outcome (λ q. result ≡ Quoted q.0 q.1) (λ f. result ≡ Refused f) }
 {
     match outcome {
@@ -44,7 +44,7 @@ pub(super) fn quoted<K: Cost>(outcome: Result<(K, K), Fault>) -> Answer<K>
 }
 
 // The answer to a call that writes marks, with a copy of the table as the call left it.
-pub(super) fn marked<K: Cost>(outcome: Result<(), Fault>, table: Vec<u8>) -> Answer<K>
+pub(super) fn marks_answer<K: Cost>(outcome: Result<(), Fault>, table: Vec<u8>) -> Answer<K>
     ensures { MatchResult outcome (λ u. result ≡ Marked table) (λ f. result ≡ Refused f) }
 {
     match outcome {
@@ -54,7 +54,7 @@ pub(super) fn marked<K: Cost>(outcome: Result<(), Fault>, table: Vec<u8>) -> Ans
 }
 
 // The answer to a step of a walk, with a copy of the walk list as the call left it.
-pub(super) fn stepped<K: Cost>(outcome: Result<Step, Fault>, list: Vec<u16>) -> Answer<K>
+pub(super) fn step_answer<K: Cost>(outcome: Result<Step, Fault>, list: Vec<u16>) -> Answer<K>
     ensures { IsStepAnswer outcome list result }
 {
     match outcome {
@@ -65,7 +65,7 @@ pub(super) fn stepped<K: Cost>(outcome: Result<Step, Fault>, list: Vec<u16>) -> 
 }
 
 // The state and the answer that a start leaves, with a copy of the walk list as it left it.
-pub(super) fn started<K: Cost>(
+pub(super) fn after_start<K: Cost>(
     outcome: Result<Walk, Refusal<SettledSheet>>,
     list: Vec<u16>,
 ) -> (State, Answer<K>)
@@ -80,13 +80,13 @@ pub(super) fn started<K: Cost>(
                 state,
                 shortfall,
             } = refusal;
-            (State::Settled(state), refused(fault, shortfall))
+            (State::Settled(state), refusal_answer(fault, shortfall))
         }
     }
 }
 
 // The state and the answer that a settle leaves, with copies of the tables as it left them.
-pub(super) fn settled<K: Cost>(
+pub(super) fn after_settle<K: Cost>(
     outcome: Result<SettledSheet, Refusal<OpenSheet>>,
     partners: Vec<u16>,
     left: Vec<K>,
@@ -110,13 +110,13 @@ pub(super) fn settled<K: Cost>(
                 state,
                 shortfall,
             } = refusal;
-            (State::Open(state), refused(fault, shortfall))
+            (State::Open(state), refusal_answer(fault, shortfall))
         }
     }
 }
 
 // The answer to a call that was refused, perhaps with a crowd set.
-fn refused<K: Cost>(fault: Fault, shortfall: Option<Shortfall>) -> Answer<K>
+fn refusal_answer<K: Cost>(fault: Fault, shortfall: Option<Shortfall>) -> Answer<K>
     ensures { IsRefusalAnswer fault shortfall result }
 {
     match shortfall {

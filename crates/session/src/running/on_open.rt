@@ -8,7 +8,7 @@ ghost use Rattle.session.specs.Lists.{lengths, right_lengths};
 ghost use Rattle.session.specs.Runs.{tables_of, AreNoLonger, MakesOne, WasMade};
 ghost use Rattle.session.specs.Runs.{call_for};
 
-use super::answers::{amount, done, settled};
+use super::answers::{after_settle, amount_answer, done_answer};
 use crate::answer::Answer;
 use crate::call::{Act, Call, Lengths};
 use crate::sheet_tables::SheetTables;
@@ -62,7 +62,7 @@ fn enter<K: Cost>(
 {
     let costs = &mut tables.costs.as_mut_slice()[0..h.costs];
     let standing = &mut tables.standing.as_mut_slice()[0..h.standing];
-    done(sheet.enter(costs, standing, left, right, cost))
+    done_answer(sheet.enter(costs, standing, left, right, cost))
 }
 
 fn strike<K: Cost>(
@@ -79,7 +79,7 @@ fn strike<K: Cost>(
 {
     let costs = &mut tables.costs.as_mut_slice()[0..h.costs];
     let standing = &mut tables.standing.as_mut_slice()[0..h.standing];
-    done(sheet.strike(costs, standing, left, right))
+    done_answer(sheet.strike(costs, standing, left, right))
 }
 
 fn read<K: Cost>(
@@ -96,7 +96,7 @@ fn read<K: Cost>(
 {
     let costs = &tables.costs.as_slice()[0..h.costs];
     let standing = &tables.standing.as_slice()[0..h.standing];
-    amount(sheet.read(costs, standing, left, right))
+    amount_answer(sheet.read(costs, standing, left, right))
 }
 
 // Copies of the tables that a settle writes.
@@ -138,8 +138,8 @@ fn settle<K: Cost>(
     let partners = &mut tables.partners.as_mut_slice()[0..h.partners];
     let left = &mut tables.left.as_mut_slice()[0..h.left];
     let right = &mut tables.right.as_mut_slice()[0..h.right];
-    let mut told = match copy_tables(heap, partners, left, right) {
-        Ok(told) => told,
+    let mut copies = match copy_tables(heap, partners, left, right) {
+        Ok(copies) => copies,
         Err(error) => return (State::Open(sheet), Err(error)),
     };
     let outcome = sheet.settle(
@@ -149,14 +149,14 @@ fn settle<K: Cost>(
         left,
         right,
     );
-    told.partners.copy_from_slice(partners);
-    told.left.copy_from_slice(left);
-    told.right.copy_from_slice(right);
+    copies.partners.copy_from_slice(partners);
+    copies.left.copy_from_slice(left);
+    copies.right.copy_from_slice(right);
     let Copies {
         partners,
         left,
         right,
-    } = told;
-    let (state, answer) = settled(outcome, partners, left, right);
+    } = copies;
+    let (state, answer) = after_settle(outcome, partners, left, right);
     (state, Ok(answer))
 }

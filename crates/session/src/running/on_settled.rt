@@ -8,7 +8,7 @@ ghost use Rattle.session.specs.Lists.{lengths, right_lengths};
 ghost use Rattle.session.specs.Runs.{tables_of, AreNoLonger, MakesOne, WasMade};
 ghost use Rattle.session.specs.Runs.{call_for};
 
-use super::answers::{amount, marked, quoted, started};
+use super::answers::{after_start, amount_answer, marks_answer, quote_answer};
 use crate::answer::Answer;
 use crate::call::{Act, Call, Lengths};
 use crate::sheet_tables::SheetTables;
@@ -70,7 +70,7 @@ fn quote<K: Cost>(
         left_block,
         right_block,
     );
-    quoted(outcome)
+    quote_answer(outcome)
 }
 
 fn total<K: Cost>(sheet: &SettledSheet, tables: &SheetTables<K>, h: Lengths) -> Answer<K>
@@ -86,7 +86,7 @@ fn total<K: Cost>(sheet: &SettledSheet, tables: &SheetTables<K>, h: Lengths) -> 
         &tables.left.as_slice()[0..h.left],
         &tables.right.as_slice()[0..h.right],
     );
-    amount(outcome)
+    amount_answer(outcome)
 }
 
 // The copy that the answer needs is made first, here and in `start`.
@@ -102,7 +102,7 @@ fn marks<K: Cost>(
         (Settled sheet.now, result) (tables_of tables.new) }
 {
     let table = &mut tables.marks.as_mut_slice()[0..h.marks];
-    let mut told = Vec::from_slice(heap, table)?;
+    let mut copy = Vec::from_slice(heap, table)?;
     let outcome = sheet.marks(
         &tables.costs.as_slice()[0..h.costs],
         &tables.standing.as_slice()[0..h.standing],
@@ -111,8 +111,8 @@ fn marks<K: Cost>(
         &tables.right.as_slice()[0..h.right],
         table,
     );
-    told.copy_from_slice(table);
-    Ok(marked(outcome, told))
+    copy.copy_from_slice(table);
+    Ok(marks_answer(outcome, copy))
 }
 
 fn start<K: Cost>(
@@ -127,8 +127,8 @@ fn start<K: Cost>(
         (tables_of tables.new) }
 {
     let list = &mut tables.walk.as_mut_slice()[0..h.walk];
-    let mut told = match Vec::from_slice(heap, list) {
-        Ok(told) => told,
+    let mut copy = match Vec::from_slice(heap, list) {
+        Ok(copy) => copy,
         Err(error) => return (State::Settled(sheet), Err(error)),
     };
     let outcome = sheet.start(
@@ -139,7 +139,7 @@ fn start<K: Cost>(
         &tables.right.as_slice()[0..h.right],
         list,
     );
-    told.copy_from_slice(list);
-    let (state, answer) = started(outcome, told);
+    copy.copy_from_slice(list);
+    let (state, answer) = after_start(outcome, copy);
     (state, Ok(answer))
 }

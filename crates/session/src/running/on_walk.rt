@@ -8,7 +8,7 @@ ghost use Rattle.session.specs.Lists.{lengths, right_lengths};
 ghost use Rattle.session.specs.Runs.{tables_of, AreNoLonger, MakesOne};
 ghost use Rattle.session.specs.Runs.{call_for};
 
-use super::answers::stepped;
+use super::answers::step_answer;
 use crate::answer::Answer;
 use crate::call::{Act, Call, Lengths};
 use crate::sheet_tables::SheetTables;
@@ -51,7 +51,7 @@ fn next<K: Cost>(
         (Walking walk.now, result) (tables_of tables.new) }
 {
     let list = &mut tables.walk.as_mut_slice()[0..h.walk];
-    let mut told = Vec::from_slice(heap, list)?;
+    let mut copy = Vec::from_slice(heap, list)?;
     let outcome = walk.next(
         &tables.costs.as_slice()[0..h.costs],
         &tables.standing.as_slice()[0..h.standing],
@@ -60,6 +60,6 @@ fn next<K: Cost>(
         &tables.right.as_slice()[0..h.right],
         list,
     );
-    told.copy_from_slice(list);
-    Ok(stepped(outcome, told))
+    copy.copy_from_slice(list);
+    Ok(step_answer(outcome, copy))
 }

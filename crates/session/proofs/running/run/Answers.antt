@@ -6,7 +6,7 @@ use Rattle.std.proofs.Common.{arith}
 use Rattle.std.specs.Prelude.{OnOk, is_err}
 use Rattle.session.specs.declared.call.Call.{Call}
 use Rattle.session.specs.declared.call.Lengths.{Lengths}
-use Rattle.session.specs.Lists.{Lists, lengths, right_lengths}
+use Rattle.session.specs.Lists.{TableLists, lengths, right_lengths}
 use Rattle.session.specs.Program.{EveryProgramKeeps}
 use Rattle.session.specs.Runs.{tables_of, AreNoLonger, AreLent}
 use Rattle.session.proofs.Going.{made_as, not_made_then, going_none, going_on, finished, stopped}
@@ -32,7 +32,7 @@ loop-call-init g c =
 
 -- each call is handed no more than is lent
 all_lent : (g : Over) (calls : List (Call g.row.K.Denot)) (seen : Lengths)
-    (t : Lists g.row.K.Denot) → seen ≡ lengths t → AreLent g.K.Cost calls seen
+    (t : TableLists g.row.K.Denot) → seen ≡ lengths t → AreLent g.K.Cost calls seen
     → AreLent g.K.Cost calls (lengths t)
 all_lent g calls seen t e h = subst (λ (m : Lengths). AreLent g.K.Cost calls m) e h
 

@@ -6,7 +6,7 @@ use Rattle.session.specs.declared.answer.Answer.TheVariants.{Settled}
 use Rattle.session.specs.declared.call.Act.TheVariants.{Settle}
 use Rattle.session.specs.declared.state.State.TheVariants.{Open}
 use Rattle.session.specs.Exchange.{Settlement}
-use Rattle.session.specs.Lists.{Lists}
+use Rattle.session.specs.Lists.{TableLists}
 use Rattle.session.specs.Program.{reply_of}
 use Rattle.session.specs.Runs.{tables_of}
 use Rattle.session.proofs.Handing.{writes_settlement}
@@ -16,11 +16,11 @@ use Rattle.session.proofs.running.on_open.settle.Goals as goal
 pub returns : goal.returns
 returns g c =
     let o = c.settle-outcome in
-    let answer = c.settled-state.result.1 in
+    let answer = c.after_settle-state.result.1 in
     let partners = c.copy_from_slice.new.self in
     let left = c.copy_from_slice-2.new.self in
     let right = c.copy_from_slice-3.new.self in
-    let seen : Lists g.row.K.Denot = record (tables_of c.args.tables.now) {
+    let seen : TableLists g.row.K.Denot = record (tables_of c.args.tables.now) {
       costs = c.as_slice.result.now;
       standing = c.as_slice-2.result.now;
       partners = c.as_mut_slice.result.now;
@@ -33,7 +33,7 @@ returns g c =
       right = o.new.right;
     } in
     writes_settlement g.K.Cost (Open c.args.sheet) c.args.tables.now Settle c.args.h
-    (reply_of settlement o.result) answer c.settled-state.result.0 seen (cc) c.requires.right
+    (reply_of settlement o.result) answer c.after_settle-state.result.0 seen (cc) c.requires.right
     c.requires.lent
     (says_change Settle answer settlement o.result (λ sheet. answer ≡ Settled partners left right)
     (λ sheet h. (
@@ -45,6 +45,6 @@ returns g c =
       c.copy_from_slice-2.ensures.items,
       c.copy_from_slice-3.ensures.items,
     ))
-    c.settled-state.ensures.answer)
+    c.after_settle-state.ensures.answer)
     o.new.partners o.new.left o.new.right o.auto.partners o.auto.left o.auto.right
-    (inl (refl, (o.result, refl, o.ensures, refl, c.settled-state.ensures.state)))
+    (inl (refl, (o.result, refl, o.ensures, refl, c.after_settle-state.ensures.state)))

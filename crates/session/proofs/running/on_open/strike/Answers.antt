@@ -4,7 +4,7 @@ use Rattle.std.proofs.Common.{◌≡◌, inl, refl}
 use Rattle.session.specs.declared.answer.Answer.TheVariants.{Done}
 use Rattle.session.specs.declared.call.Act.TheVariants.{Strike}
 use Rattle.session.specs.declared.state.State.TheVariants.{Open}
-use Rattle.session.specs.Lists.{Lists}
+use Rattle.session.specs.Lists.{TableLists}
 use Rattle.session.specs.Program.{reply_by}
 use Rattle.session.specs.Runs.{tables_of}
 use Rattle.session.proofs.Handing.{writes_pairs}
@@ -16,13 +16,13 @@ returns g c =
     let state = Open c.args.sheet.now in
     let act = Strike c.args.left c.args.right in
     let a = c.strike.result in
-    let answer = c.done.result in
-    let seen : Lists g.row.K.Denot = record (tables_of c.args.tables.now) {
+    let answer = c.done_answer.result in
+    let seen : TableLists g.row.K.Denot = record (tables_of c.args.tables.now) {
       costs = c.as_mut_slice.result.now;
       standing = c.as_mut_slice-2.result.now;
     } in
     writes_pairs g.K.Cost state c.args.tables.now act c.args.h (reply_by (λ u. u) a) answer state
     seen (cc) c.requires.right c.requires.lent
-    (says_reply act answer (λ u. u) a (λ u. answer ≡ Done) (λ u h. h) c.done.ensures)
+    (says_reply act answer (λ u. u) a (λ u. answer ≡ Done) (λ u h. h) c.done_answer.ensures)
     c.strike.new.costs c.strike.new.standing c.strike.auto.costs c.strike.auto.standing
     (inl (refl, (a, refl, c.strike.ensures.call, refl, refl)))

@@ -6,7 +6,7 @@ use Rattle.session.specs.declared.call.Act.TheVariants.{Marks, Start, Reopen}
 use Rattle.session.specs.declared.state.State.TheVariants.{Open, Settled}
 use Rattle.session.specs.Book.{opened}
 use Rattle.session.specs.Exchange.{gives}
-use Rattle.session.specs.Lists.{Lists}
+use Rattle.session.specs.Lists.{TableLists}
 use Rattle.session.specs.Program.{state_at}
 use Rattle.session.specs.Runs.{tables_of}
 use Rattle.session.proofs.Allowing.{settled_allows}
@@ -25,7 +25,7 @@ returns-in-Start g c =
 
 pub returns-in-Reopen : goal.returns-in-Reopen
 returns-in-Reopen g c =
-    let own : Lists g.row.K.Denot = tables_of c.args.tables.now in
+    let own : TableLists g.row.K.Denot = tables_of c.args.tables.now in
     let state = Settled c.args.sheet in
     let next = Open c.reopen.result in
     made_for g.K.Cost state own c.args.call Reopen Done next own c.in-Reopen.is

@@ -4,7 +4,7 @@ use Rattle.std.proofs.Common.{◌≡◌, inl, refl}
 use Rattle.session.specs.declared.answer.Answer.TheVariants.{Marked}
 use Rattle.session.specs.declared.call.Act.TheVariants.{Marks}
 use Rattle.session.specs.declared.state.State.TheVariants.{Settled}
-use Rattle.session.specs.Lists.{Lists}
+use Rattle.session.specs.Lists.{TableLists}
 use Rattle.session.specs.Program.{reply_by}
 use Rattle.session.specs.Runs.{tables_of}
 use Rattle.session.proofs.Handing.{writes_marks}
@@ -17,8 +17,8 @@ returns g c =
     let a = c.marks-outcome.result in
     let table = c.marks-outcome.new.table in
     let copy = c.copy_from_slice.new.self in
-    let answer = c.marked.result in
-    let seen : Lists g.row.K.Denot = record (tables_of c.args.tables.now) {
+    let answer = c.marks_answer.result in
+    let seen : TableLists g.row.K.Denot = record (tables_of c.args.tables.now) {
       costs = c.as_slice.result.now;
       standing = c.as_slice-2.result.now;
       partners = c.as_slice-3.result.now;
@@ -29,5 +29,5 @@ returns g c =
     writes_marks g.K.Cost state c.args.tables.now Marks c.args.h (reply_by (λ u. table) a) answer
     state seen (cc) c.requires.right c.requires.lent
     (says_reply Marks answer (λ u. table) a (λ u. answer ≡ Marked copy)
-    (λ u h. (copy, h, c.copy_from_slice.ensures.items)) c.marked.ensures)
+    (λ u h. (copy, h, c.copy_from_slice.ensures.items)) c.marks_answer.ensures)
     table c.marks-outcome.auto.table (inl (refl, (a, refl, c.marks-outcome.ensures, refl, refl)))

@@ -4,7 +4,7 @@ use Rattle.std.proofs.Common.{◌≡◌, inl, refl}
 use Rattle.session.specs.declared.answer.Answer.TheVariants.{Pairing}
 use Rattle.session.specs.declared.call.Act.TheVariants.{Start}
 use Rattle.session.specs.declared.state.State.TheVariants.{Settled}
-use Rattle.session.specs.Lists.{Lists}
+use Rattle.session.specs.Lists.{TableLists}
 use Rattle.session.specs.Program.{reply_of}
 use Rattle.session.specs.Runs.{tables_of}
 use Rattle.session.proofs.Handing.{writes_walk}
@@ -16,8 +16,8 @@ returns g c =
     let a = c.start-outcome.result in
     let list = c.start-outcome.new.list in
     let copy = c.copy_from_slice.new.self in
-    let answer = c.started-state.result.1 in
-    let seen : Lists g.row.K.Denot = record (tables_of c.args.tables.now) {
+    let answer = c.after_start-state.result.1 in
+    let seen : TableLists g.row.K.Denot = record (tables_of c.args.tables.now) {
       costs = c.as_slice.result.now;
       standing = c.as_slice-2.result.now;
       partners = c.as_slice-3.result.now;
@@ -26,8 +26,8 @@ returns g c =
       walk = c.as_mut_slice.result.now;
     } in
     writes_walk g.K.Cost (Settled c.args.sheet) c.args.tables.now Start c.args.h (reply_of list a)
-    answer c.started-state.result.0 seen (cc) c.requires.right c.requires.lent
+    answer c.after_start-state.result.0 seen (cc) c.requires.right c.requires.lent
     (says_change Start answer list a (λ walk. answer ≡ Pairing copy)
-    (λ walk h. (copy, h, c.copy_from_slice.ensures.items)) c.started-state.ensures.answer)
+    (λ walk h. (copy, h, c.copy_from_slice.ensures.items)) c.after_start-state.ensures.answer)
     list c.start-outcome.auto.list
-    (inl (refl, (a, refl, c.start-outcome.ensures, refl, c.started-state.ensures.state)))
+    (inl (refl, (a, refl, c.start-outcome.ensures, refl, c.after_start-state.ensures.state)))

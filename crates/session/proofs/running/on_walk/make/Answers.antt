@@ -6,7 +6,7 @@ use Rattle.session.specs.declared.call.Act.TheVariants.{Next, Close}
 use Rattle.session.specs.declared.state.State.TheVariants.{Settled, Walking}
 use Rattle.session.specs.Book.{settled}
 use Rattle.session.specs.Exchange.{gives}
-use Rattle.session.specs.Lists.{Lists}
+use Rattle.session.specs.Lists.{TableLists}
 use Rattle.session.specs.Program.{state_at}
 use Rattle.session.specs.Runs.{tables_of}
 use Rattle.session.proofs.Allowing.{walk_allows}
@@ -20,7 +20,7 @@ returns-in-Next g c =
 
 pub returns-in-Close : goal.returns-in-Close
 returns-in-Close g c =
-    let own : Lists g.row.K.Denot = tables_of c.args.tables.now in
+    let own : TableLists g.row.K.Denot = tables_of c.args.tables.now in
     let state = Walking c.args.walk in
     let next = Settled c.close.result in
     made_for g.K.Cost state own c.args.call Close Done next own c.in-Close.is

@@ -3,7 +3,7 @@
 use Rattle.std.proofs.Common.{◌≡◌, inl, refl}
 use Rattle.session.specs.declared.call.Act.TheVariants.{Next}
 use Rattle.session.specs.declared.state.State.TheVariants.{Walking}
-use Rattle.session.specs.Lists.{Lists}
+use Rattle.session.specs.Lists.{TableLists}
 use Rattle.session.specs.Program.{reply_by, pairing_by}
 use Rattle.session.specs.Runs.{tables_of, IsOnwardAnswer}
 use Rattle.session.proofs.Handing.{writes_walk}
@@ -16,8 +16,8 @@ returns g c =
     let a = c.next-outcome.result in
     let list = c.next-outcome.new.list in
     let copy = c.copy_from_slice.new.self in
-    let answer = c.stepped.result in
-    let seen : Lists g.row.K.Denot = record (tables_of c.args.tables.now) {
+    let answer = c.step_answer.result in
+    let seen : TableLists g.row.K.Denot = record (tables_of c.args.tables.now) {
       costs = c.as_slice.result.now;
       standing = c.as_slice-2.result.now;
       partners = c.as_slice-3.result.now;
@@ -28,6 +28,6 @@ returns g c =
     writes_walk g.K.Cost state c.args.tables.now Next c.args.h (reply_by (pairing_by list) a)
     answer state seen (cc) c.requires.right c.requires.lent
     (says_reply Next answer (pairing_by list) a (λ step. IsOnwardAnswer step copy answer)
-    (says_step answer copy list c.copy_from_slice.ensures.items) c.stepped.ensures)
+    (says_step answer copy list c.copy_from_slice.ensures.items) c.step_answer.ensures)
     list c.next-outcome.auto.list
     (inl (refl, (a, refl, c.next-outcome.ensures, refl, refl)))

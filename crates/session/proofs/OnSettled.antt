@@ -27,7 +27,7 @@ use Rattle.sheet.specs.Walking.{start_needs, Starts, IsStarted}
 use Rattle.session.specs.declared.call.Act.TheVariants.{Quote, Total, Marks, Start, Reopen}
 use Rattle.session.specs.Book.{Book, opened, settled, walking, stands_in, needs}
 use Rattle.session.specs.Exchange.{Reply, gives}
-use Rattle.session.specs.Lists.{Lists, SameIn, lengths, rests_on, the_walk}
+use Rattle.session.specs.Lists.{TableLists, SameIn, lengths, rests_on, the_walk}
 use Rattle.session.specs.Promise.{Settling, IsMarked, IsQuoted}
 use Rattle.session.specs.Program.{SheetAt, state_at, IsAnswered, reply_of, state_after}
 use Rattle.session.proofs.Cells.{alike, stands_alike}

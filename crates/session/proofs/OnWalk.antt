@@ -20,7 +20,7 @@ use Rattle.sheet.specs.Walking.{next_needs, IsStep}
 use Rattle.session.specs.declared.call.Act.TheVariants.{Next, Close}
 use Rattle.session.specs.Book.{Book, settled, walking}
 use Rattle.session.specs.Exchange.{Reply, gives}
-use Rattle.session.specs.Lists.{Lists, SameIn, lengths, rests_on, the_walk}
+use Rattle.session.specs.Lists.{TableLists, SameIn, lengths, rests_on, the_walk}
 use Rattle.session.specs.Promise.{Settling}
 use Rattle.session.specs.Program.{SheetAt, state_at, IsAnswered, pairing_by}
 use Rattle.session.proofs.Fits.{fits_with}

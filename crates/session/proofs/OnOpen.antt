@@ -20,7 +20,7 @@ use Rattle.session.specs.declared.call.Act.{Act}
 use Rattle.session.specs.declared.call.Act.TheVariants.{Enter, Strike, Read}
 use Rattle.session.specs.Book.{Book, opened, with_cell, stands_in, needs, book_with}
 use Rattle.session.specs.Exchange.{Reply}
-use Rattle.session.specs.Lists.{Lists, SameIn, lengths, rests_on, the_costs, the_standing}
+use Rattle.session.specs.Lists.{TableLists, SameIn, lengths, rests_on, the_costs, the_standing}
 use Rattle.session.specs.Lists.{the_partners, the_left, the_right, the_walk, the_marks}
 use Rattle.session.specs.Promise.{Settling}
 use Rattle.session.specs.Program.{SheetAt, IsAnswered, cost_in, byte_in}
@@ -32,7 +32,7 @@ use Rattle.session.proofs.Needs.{Mirror}
 use Rattle.session.proofs.Resting.{OneCall, n, here, allowed, own_shows, still}
 
 -- a call that leaves the pair tables as they were
-pub kept_pairs : {K : Type 0} (x x' : Lists K)
+pub kept_pairs : {K : Type 0} (x x' : TableLists K)
     → PairTablesAre x.costs x.standing x'.costs x'.standing → SameIn (rests_on opened) x' x
 kept_pairs x x' is the_costs rests = is.costs_are
 kept_pairs x x' is the_standing rests = is.standing_are
