@@ -1,12 +1,10 @@
 -- The call that settles: what comes of it is right by the book, and the tables go on with it.
 -- Idea: where the lengths are right, the tables' grid is the book's inside, so the two have the
 -- same perfect and optimum pairings, the same greatest prices and the same crowd set.
-use Rattle.std.proofs.Common.{◌≡◌, ◌≢◌, ℕ, ◌<◌, Bool, true, List, [], ◌∷◌, length, Some, None, Ok}
+use Rattle.std.proofs.Common.{◌≡◌, ◌≢◌, ℕ, ◌<◌, Bool, true, List, length, Some, None, Ok}
 use Rattle.std.proofs.Common.{Err, Option, Result, sym, refl, ap, ◌∙◌, subst, inl, inr, ⊎_elim, ltb}
-use Rattle.std.proofs.Common.{arith}
 use Rattle.std.specs.Prelude.{MatchOption}
 use Rattle.std.specs.Bool.{Decides}
-use Rattle.std.proofs.lemmas.Bool.Decides.{Decides-like, Decides-ltb}
 use Rattle.cost.specs.declared.Cost.{Ghosts}
 use Rattle.pairing.specs.Grid.{Grid, PerfectIn}
 use Rattle.pairing.specs.Largest.{Unpaired}
