@@ -11,12 +11,7 @@ pub phase_told : (p q : Phase) → same_phase p q ≡ true → p ≡ q
 phase_told opened opened e = refl
 phase_told settled settled e = refl
 phase_told walking walking e = refl
-phase_told opened settled e = cc
-phase_told opened walking e = cc
-phase_told settled opened e = cc
-phase_told settled walking e = cc
-phase_told walking opened e = cc
-phase_told walking settled e = cc
+phase_told _ _ e = cc
 
 pub open_allows : {K : Type 0} (act : Act K)
     → ((l r : ℕ) (c : K) → act ≡ Enter l r c → ⊥)
@@ -28,13 +23,7 @@ open_allows (Enter l r c) not_enter _ _ _ = absurd (not_enter l r c refl)
 open_allows (Strike l r) _ not_strike _ _ = absurd (not_strike l r refl)
 open_allows (Read l r) _ _ not_read _ = absurd (not_read l r refl)
 open_allows Settle _ _ _ not_settle = absurd (not_settle refl)
-open_allows (Quote l r) _ _ _ _ = refl
-open_allows Total _ _ _ _ = refl
-open_allows Marks _ _ _ _ = refl
-open_allows Start _ _ _ _ = refl
-open_allows Next _ _ _ _ = refl
-open_allows Close _ _ _ _ = refl
-open_allows Reopen _ _ _ _ = refl
+open_allows _ _ _ _ _ = refl
 
 pub settled_allows : {K : Type 0} (act : Act K)
     → ((l r : ℕ) → act ≡ Quote l r → ⊥)
@@ -43,30 +32,17 @@ pub settled_allows : {K : Type 0} (act : Act K)
     → (act ≡ Start → ⊥)
     → (act ≡ Reopen → ⊥)
     → allows settled act ≡ false
-settled_allows (Enter l r c) _ _ _ _ _ = refl
-settled_allows (Strike l r) _ _ _ _ _ = refl
-settled_allows (Read l r) _ _ _ _ _ = refl
-settled_allows Settle _ _ _ _ _ = refl
 settled_allows (Quote l r) not_quote _ _ _ _ = absurd (not_quote l r refl)
 settled_allows Total _ not_total _ _ _ = absurd (not_total refl)
 settled_allows Marks _ _ not_marks _ _ = absurd (not_marks refl)
 settled_allows Start _ _ _ not_start _ = absurd (not_start refl)
-settled_allows Next _ _ _ _ _ = refl
-settled_allows Close _ _ _ _ _ = refl
 settled_allows Reopen _ _ _ _ not_reopen = absurd (not_reopen refl)
+settled_allows _ _ _ _ _ _ = refl
 
 pub walk_allows : {K : Type 0} (act : Act K)
     → (act ≡ Next → ⊥)
     → (act ≡ Close → ⊥)
     → allows walking act ≡ false
-walk_allows (Enter l r c) _ _ = refl
-walk_allows (Strike l r) _ _ = refl
-walk_allows (Read l r) _ _ = refl
-walk_allows Settle _ _ = refl
-walk_allows (Quote l r) _ _ = refl
-walk_allows Total _ _ = refl
-walk_allows Marks _ _ = refl
-walk_allows Start _ _ = refl
 walk_allows Next not_next _ = absurd (not_next refl)
 walk_allows Close _ not_close = absurd (not_close refl)
-walk_allows Reopen _ _ = refl
+walk_allows _ _ _ = refl

@@ -50,19 +50,13 @@ module _ {K : Type 0} (kind : Ghosts K) where
 
   answers_size : (s : SheetAt) (act : Act K) (o : Reply (ValueOf K act)) (x x' : TableLists K)
       (s' : SheetAt) → IsAnswered kind s act o x x' s' → size_of s'.sheet ≡ size_of s.sheet
-  answers_size s (Enter l r c) o x x' s' m = ap (λ t. size_of t.sheet) m.4
-  answers_size s (Strike l r) o x x' s' m = ap (λ t. size_of t.sheet) m.4
-  answers_size s (Read l r) o x x' s' m = ap (λ t. size_of t.sheet) m.4
   answers_size s Settle o x x' s' m = ap (λ t. size_of t.sheet) m.4
       ∙ settle_size s.sheet _ _ _ _ m.0 m.2
-  answers_size s (Quote l r) o x x' s' m = ap (λ t. size_of t.sheet) m.4
-  answers_size s Total o x x' s' m = ap (λ t. size_of t.sheet) m.4
-  answers_size s Marks o x x' s' m = ap (λ t. size_of t.sheet) m.4
   answers_size s Start o x x' s' m = ap (λ t. size_of t.sheet) m.4
       ∙ start_size s.sheet _ _ _ _ _ m.0 m.2
-  answers_size s Next o x x' s' m = ap (λ t. size_of t.sheet) m.4
   answers_size s Close o x x' s' m = ap (λ t. size_of t.sheet) m.2
   answers_size s Reopen o x x' s' m = ap (λ t. size_of t.sheet) m.2
+  answers_size s _ o x x' s' m = ap (λ t. size_of t.sheet) m.4
 
   meets_size : (s : SheetAt) (act : Act K) (o : Reply (ValueOf K act)) (x x' : TableLists K)
       (s' : SheetAt) → IsCalled kind s act o x x' s' → size_of s'.sheet ≡ size_of s.sheet
@@ -97,19 +91,13 @@ answers_more : {K : Type 0} (cs : List (Call K)) (answers : List (Answer K))
 answers_more [] [] [] call answer e h is says = (is, says, tt)
 answers_more (c ∷ cs) (a ∷ answers) (x ∷ es) call answer e h is says =
     (h.0, h.1, answers_more cs answers es call answer e h.2 is says)
-answers_more [] [] (x ∷ es) call answer e h is says = absurd h
-answers_more [] (a ∷ answers) es call answer e h is says = absurd h
-answers_more (c ∷ cs) [] es call answer e h is says = absurd h
-answers_more (c ∷ cs) (a ∷ answers) [] call answer e h is says = absurd h
+answers_more _ _ _ call answer e h is says = absurd h
 
 answers_long : {K : Type 0} (cs : List (Call K)) (answers : List (Answer K))
     (es : List (Exchange K)) → AreAnswersOf cs answers es → length answers ≡ length cs
 answers_long [] [] [] h = refl
 answers_long (c ∷ cs) (a ∷ answers) (x ∷ es) h = omega (arith, answers_long cs answers es h.2)
-answers_long [] [] (x ∷ es) h = absurd h
-answers_long [] (a ∷ answers) es h = absurd h
-answers_long (c ∷ cs) [] es h = absurd h
-answers_long (c ∷ cs) (a ∷ answers) [] h = absurd h
+answers_long _ _ _ h = absurd h
 
 -- ---- A run that goes on
 

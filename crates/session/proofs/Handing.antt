@@ -232,111 +232,65 @@ module _ {K : Type 0} (kind : Ghosts K) (state : State) (own : TableLists K) whe
       subst (λ (y : Act K). WasMade kind state own (call_for y call.handed) answer state' own')
       (sym e) made
 
--- a call that writes some of the tables: it leaves these lists in what it was handed
-module _ {K : Type 0} (kind : Ghosts K) (state : State) (t : SheetTables K) (act : Act K)
-    (h : Lengths) (o : Reply (ValueOf K act)) (answer : Answer K) (state' : State)
-    (seen : TableLists K) (same : seen ≡ tables_of t)
-    (right : lengths (tables_of t) ≡ right_lengths (size_of (state_of state).sheet))
-    (lent : AreNoLonger h (lengths (tables_of t))) (says : IsAnswerOf act o answer) where
+-- ---- A call that writes some of the tables
+
+-- it leaves these lists in the places that it was handed: `seen` are the slices that these were cut
+-- from
+module _ {K : Type 0} (h : Lengths) (t : SheetTables K) (seen : TableLists K)
+    (same : seen ≡ tables_of t) (lent : AreNoLonger h (lengths (tables_of t))) where
   abbrev own : TableLists K
   own = tables_of t
 
   kept : Parts h own (cut h seen) (cut h seen) own
   kept = parts_kept h own seen lent same
 
-  -- its table after it left this list in its first places
-  abbrev after : {X : Type 0} → Vec X Global → ℕ → (xs x' : List X) → List X
+  -- its table after it left a list in the first k places
+  abbrev pub after : {X : Type 0} → Vec X Global → ℕ → (xs x' : List X) → List X
   after v k xs x' = (with_items v (x' ++ drop (k - 0) xs)).items
 
-  pub writes_walk : (list : List ℕ) → length list ≡ length (cut h seen).walk
-      → IsCalled kind (state_of state) act o (cut h seen) (record (cut h seen) { walk = list })
-      (state_of state')
-      → WasMade kind state own (call_for act h) answer state'
+  pub walk_part : (list : List ℕ) → length list ≡ length (cut h seen).walk
+      → Parts h own (cut h seen) (record (cut h seen) { walk = list })
       (record own { walk = after t.walk h.walk seen.walk list })
-  writes_walk list long = was_made kind state own act h o answer state' _ _ _ right parts says
-    where
-      parts : Parts h own (cut h seen) (record (cut h seen) { walk = list })
-          (record own { walk = after t.walk h.walk seen.walk list })
-      parts the_costs = kept the_costs
-      parts the_standing = kept the_standing
-      parts the_partners = kept the_partners
-      parts the_left = kept the_left
-      parts the_right = kept the_right
-      parts the_walk = part_written h.walk t.walk seen.walk list lent.walk
-          (ap (λ y. y.walk) same) long
-      parts the_marks = kept the_marks
+  walk_part list long the_walk =
+      part_written h.walk t.walk seen.walk list lent.walk (ap (λ y. y.walk) same) long
+  walk_part list long table = kept table
 
-  pub writes_marks : (list : List ℕ) → length list ≡ length (cut h seen).marks
-      → IsCalled kind (state_of state) act o (cut h seen) (record (cut h seen) { marks = list })
-      (state_of state')
-      → WasMade kind state own (call_for act h) answer state'
+  pub marks_part : (list : List ℕ) → length list ≡ length (cut h seen).marks
+      → Parts h own (cut h seen) (record (cut h seen) { marks = list })
       (record own { marks = after t.marks h.marks seen.marks list })
-  writes_marks list long = was_made kind state own act h o answer state' _ _ _ right parts says
-    where
-      parts : Parts h own (cut h seen) (record (cut h seen) { marks = list })
-          (record own { marks = after t.marks h.marks seen.marks list })
-      parts the_costs = kept the_costs
-      parts the_standing = kept the_standing
-      parts the_partners = kept the_partners
-      parts the_left = kept the_left
-      parts the_right = kept the_right
-      parts the_walk = kept the_walk
-      parts the_marks = part_written h.marks t.marks seen.marks list lent.marks
-          (ap (λ y. y.marks) same) long
+  marks_part list long the_marks =
+      part_written h.marks t.marks seen.marks list lent.marks (ap (λ y. y.marks) same) long
+  marks_part list long table = kept table
 
-  pub writes_pairs : (costs : List K) (standing : List ℕ) → length costs ≡ length (cut h seen).costs
+  pub pair_parts : (costs : List K) (standing : List ℕ) → length costs ≡ length (cut h seen).costs
       → length standing ≡ length (cut h seen).standing
-      → IsCalled kind (state_of state) act o (cut h seen)
-      (record (cut h seen) { costs = costs; standing = standing }) (state_of state')
-      → WasMade kind state own (call_for act h) answer state' (record own {
+      → Parts h own (cut h seen) (record (cut h seen) { costs = costs; standing = standing })
+      (record own {
         costs = after t.costs h.costs seen.costs costs;
         standing = after t.standing h.standing seen.standing standing;
       })
-  writes_pairs costs standing costs_long standing_long =
-      was_made kind state own act h o answer state' _ _ _ right parts says
-    where
-      parts : Parts h own (cut h seen) (record (cut h seen) { costs = costs; standing = standing })
-          (record own {
-            costs = after t.costs h.costs seen.costs costs;
-            standing = after t.standing h.standing seen.standing standing;
-          })
-      parts the_costs = part_written h.costs t.costs seen.costs costs lent.costs
-          (ap (λ y. y.costs) same) costs_long
-      parts the_standing = part_written h.standing t.standing seen.standing standing lent.standing
-          (ap (λ y. y.standing) same) standing_long
-      parts the_partners = kept the_partners
-      parts the_left = kept the_left
-      parts the_right = kept the_right
-      parts the_walk = kept the_walk
-      parts the_marks = kept the_marks
+  pair_parts costs standing el es the_costs =
+      part_written h.costs t.costs seen.costs costs lent.costs (ap (λ y. y.costs) same) el
+  pair_parts costs standing el es the_standing =
+      part_written h.standing t.standing seen.standing standing lent.standing
+      (ap (λ y. y.standing) same) es
+  pair_parts costs standing el es table = kept table
 
-  pub writes_settlement : (partners : List ℕ) (left right' : List K)
+  pub settlement_parts : (partners : List ℕ) (left right : List K)
       → length partners ≡ length (cut h seen).partners → length left ≡ length (cut h seen).left
-      → length right' ≡ length (cut h seen).right
-      → IsCalled kind (state_of state) act o (cut h seen)
-      (record (cut h seen) { partners = partners; left = left; right = right' }) (state_of state')
-      → WasMade kind state own (call_for act h) answer state' (record own {
+      → length right ≡ length (cut h seen).right
+      → Parts h own (cut h seen)
+      (record (cut h seen) { partners = partners; left = left; right = right })
+      (record own {
         partners = after t.partners h.partners seen.partners partners;
         left = after t.left h.left seen.left left;
-        right = after t.right h.right seen.right right';
+        right = after t.right h.right seen.right right;
       })
-  writes_settlement partners left right' partners_long left_long right_long =
-      was_made kind state own act h o answer state' _ _ _ right parts says
-    where
-      parts : Parts h own (cut h seen)
-          (record (cut h seen) { partners = partners; left = left; right = right' })
-          (record own {
-            partners = after t.partners h.partners seen.partners partners;
-            left = after t.left h.left seen.left left;
-            right = after t.right h.right seen.right right';
-          })
-      parts the_costs = kept the_costs
-      parts the_standing = kept the_standing
-      parts the_partners = part_written h.partners t.partners seen.partners partners lent.partners
-          (ap (λ y. y.partners) same) partners_long
-      parts the_left = part_written h.left t.left seen.left left lent.left
-          (ap (λ y. y.left) same) left_long
-      parts the_right = part_written h.right t.right seen.right right' lent.right
-          (ap (λ y. y.right) same) right_long
-      parts the_walk = kept the_walk
-      parts the_marks = kept the_marks
+  settlement_parts partners left right ep el er the_partners =
+      part_written h.partners t.partners seen.partners partners lent.partners
+      (ap (λ y. y.partners) same) ep
+  settlement_parts partners left right ep el er the_left =
+      part_written h.left t.left seen.left left lent.left (ap (λ y. y.left) same) el
+  settlement_parts partners left right ep el er the_right =
+      part_written h.right t.right seen.right right lent.right (ap (λ y. y.right) same) er
+  settlement_parts partners left right ep el er table = kept table

@@ -80,17 +80,14 @@ never_six needs f h q e =
 module _ {K : Type 0} (kind : Ghosts K) (n : ℕ) where
   none_is_seven : (cells : ℕ → ℕ → Option K) (h : Lengths) (act : Act K)
       → AllByRecursion (λ (need : Bool × Cause). need.1 ≢ Inconsistent) (needs kind n cells h act)
-  none_is_seven cells h (Enter l r c) = (λ e. cc, (λ e. cc, (λ e. cc, tt)))
-  none_is_seven cells h (Strike l r) = (λ e. cc, (λ e. cc, (λ e. cc, tt)))
-  none_is_seven cells h (Read l r) = (λ e. cc, (λ e. cc, (λ e. cc, tt)))
   none_is_seven cells h Settle = (λ e. cc, (λ e. cc, tt))
-  none_is_seven cells h (Quote l r) = (λ e. cc, (λ e. cc, (λ e. cc, tt)))
   none_is_seven cells h Total = (λ e. cc, tt)
   none_is_seven cells h Marks = (λ e. cc, tt)
   none_is_seven cells h Start = (λ e. cc, tt)
   none_is_seven cells h Next = (λ e. cc, tt)
   none_is_seven cells h Close = tt
   none_is_seven cells h Reopen = tt
+  none_is_seven cells h _ = (λ e. cc, (λ e. cc, (λ e. cc, tt)))
 
   walks_are : (s : Settling K) → HasWalksInTurn kind n s → HasRightWalks kind n s
   walks_are s h = record {

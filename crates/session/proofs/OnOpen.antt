@@ -36,11 +36,7 @@ pub kept_pairs : {K : Type 0} (x x' : TableLists K)
     → PairTablesAre x.costs x.standing x'.costs x'.standing → SameIn (rests_on opened) x' x
 kept_pairs x x' is the_costs rests = is.costs_are
 kept_pairs x x' is the_standing rests = is.standing_are
-kept_pairs x x' is the_partners rests = cc
-kept_pairs x x' is the_left rests = cc
-kept_pairs x x' is the_right rests = cc
-kept_pairs x x' is the_walk rests = cc
-kept_pairs x x' is the_marks rests = cc
+kept_pairs x x' is _ rests = cc
 
 module _ {K : Type 0} {kind : Ghosts K} {swaps : Bool} {b : Book K} {s : Settling K}
     (m : OneCall kind swaps opened b s) (l r : ℕ) where

@@ -73,34 +73,21 @@ module _ {K : Type 0} {kind : Ghosts K} {swaps : Bool} {p : Phase} {b : Book K} 
 
 -- a walk rests on all that a settled sheet does
 pub on_walk : (table : Table) → rests_on settled table ≡ true → rests_on walking table ≡ true
-on_walk the_costs e = refl
-on_walk the_standing e = refl
-on_walk the_partners e = refl
-on_walk the_left e = refl
-on_walk the_right e = refl
-on_walk the_walk e = refl
 on_walk the_marks e = e
+on_walk _ e = refl
 
 -- a call that writes the walk list alone, or the marks alone
 pub walk_alone : {K : Type 0} (x x' : TableLists K) → x' ≡ record x { walk = x'.walk }
     → SameIn (rests_on settled) x' x
-walk_alone x x' e the_costs rests = ap (λ y. y.costs) e
-walk_alone x x' e the_standing rests = ap (λ y. y.standing) e
-walk_alone x x' e the_partners rests = ap (λ y. y.partners) e
-walk_alone x x' e the_left rests = ap (λ y. y.left) e
-walk_alone x x' e the_right rests = ap (λ y. y.right) e
 walk_alone x x' e the_walk rests = cc
 walk_alone x x' e the_marks rests = cc
+walk_alone x x' e table rests = ap (λ y. list_in y table) e
 
 pub marks_alone : {K : Type 0} (x x' : TableLists K) → x' ≡ record x { marks = x'.marks }
     → SameIn (rests_on settled) x' x
-marks_alone x x' e the_costs rests = ap (λ y. y.costs) e
-marks_alone x x' e the_standing rests = ap (λ y. y.standing) e
-marks_alone x x' e the_partners rests = ap (λ y. y.partners) e
-marks_alone x x' e the_left rests = ap (λ y. y.left) e
-marks_alone x x' e the_right rests = ap (λ y. y.right) e
 marks_alone x x' e the_walk rests = cc
 marks_alone x x' e the_marks rests = cc
+marks_alone x x' e table rests = ap (λ y. list_in y table) e
 
 -- ---- From a settle on
 

@@ -115,7 +115,8 @@ module _ {K : Type 0} (kind : Ghosts K) (n : ℕ) where
 
   -- all calls so far were right, and the tables hold what the book says
   pub record RightSoFar (es : List (Exchange K)) (state : SheetAt)
-    (own : TableLists K) : Type 0 where pub right : AllRight kind n blank (fresh kind n) es
+      (own : TableLists K) : Type 0 where
+    pub right : AllRight kind n blank (fresh kind n) es
     pub keeps : Keeps kind n (book_after kind n blank es) (settling_after blank (fresh kind n) es)
         state own
 

@@ -9,7 +9,7 @@ use Rattle.session.specs.Exchange.{Settlement}
 use Rattle.session.specs.Lists.{TableLists}
 use Rattle.session.specs.Program.{reply_of}
 use Rattle.session.specs.Runs.{tables_of}
-use Rattle.session.proofs.Handing.{writes_settlement}
+use Rattle.session.proofs.Handing.{cut, settlement_parts, was_made}
 use Rattle.session.proofs.Saying.{says_change}
 use Rattle.session.proofs.running.on_open.settle.Goals as goal
 
@@ -32,9 +32,13 @@ returns g c =
       left = o.new.left;
       right = o.new.right;
     } in
-    writes_settlement g.K.Cost (Open c.args.sheet) c.args.tables.now Settle c.args.h
-    (reply_of settlement o.result) answer c.after_settle-state.result.0 seen (cc) c.requires.right
-    c.requires.lent
+    let x = cut c.args.h seen in
+    was_made g.K.Cost (Open c.args.sheet) (tables_of c.args.tables.now) Settle c.args.h
+    (reply_of settlement o.result) answer c.after_settle-state.result.0 x
+    (record x { partners = o.new.partners; left = o.new.left; right = o.new.right }) _
+    c.requires.right
+    (settlement_parts c.args.h c.args.tables.now seen (cc) c.requires.lent o.new.partners
+    o.new.left o.new.right o.auto.partners o.auto.left o.auto.right)
     (says_change Settle answer settlement o.result (λ sheet. answer ≡ Settled partners left right)
     (λ sheet h. (
       partners,
@@ -46,5 +50,4 @@ returns g c =
       c.copy_from_slice-3.ensures.items,
     ))
     c.after_settle-state.ensures.answer)
-    o.new.partners o.new.left o.new.right o.auto.partners o.auto.left o.auto.right
     (inl (refl, (o.result, refl, o.ensures, refl, c.after_settle-state.ensures.state)))

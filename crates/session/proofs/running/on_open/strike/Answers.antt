@@ -7,7 +7,7 @@ use Rattle.session.specs.declared.state.State.TheVariants.{Open}
 use Rattle.session.specs.Lists.{TableLists}
 use Rattle.session.specs.Program.{reply_by}
 use Rattle.session.specs.Runs.{tables_of}
-use Rattle.session.proofs.Handing.{writes_pairs}
+use Rattle.session.proofs.Handing.{cut, pair_parts, was_made}
 use Rattle.session.proofs.Saying.{says_reply}
 use Rattle.session.proofs.running.on_open.strike.Goals as goal
 
@@ -21,8 +21,11 @@ returns g c =
       costs = c.as_mut_slice.result.now;
       standing = c.as_mut_slice-2.result.now;
     } in
-    writes_pairs g.K.Cost state c.args.tables.now act c.args.h (reply_by (λ u. u) a) answer state
-    seen (cc) c.requires.right c.requires.lent
+    let x = cut c.args.h seen in
+    was_made g.K.Cost state (tables_of c.args.tables.now) act c.args.h (reply_by (λ u. u) a) answer
+    state x (record x { costs = c.strike.new.costs; standing = c.strike.new.standing }) _
+    c.requires.right
+    (pair_parts c.args.h c.args.tables.now seen (cc) c.requires.lent c.strike.new.costs
+    c.strike.new.standing c.strike.auto.costs c.strike.auto.standing)
     (says_reply act answer (λ u. u) a (λ u. answer ≡ Done) (λ u h. h) c.done_answer.ensures)
-    c.strike.new.costs c.strike.new.standing c.strike.auto.costs c.strike.auto.standing
     (inl (refl, (a, refl, c.strike.ensures.call, refl, refl)))

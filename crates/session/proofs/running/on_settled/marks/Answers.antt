@@ -7,7 +7,7 @@ use Rattle.session.specs.declared.state.State.TheVariants.{Settled}
 use Rattle.session.specs.Lists.{TableLists}
 use Rattle.session.specs.Program.{reply_by}
 use Rattle.session.specs.Runs.{tables_of}
-use Rattle.session.proofs.Handing.{writes_marks}
+use Rattle.session.proofs.Handing.{cut, marks_part, was_made}
 use Rattle.session.proofs.Saying.{says_reply}
 use Rattle.session.proofs.running.on_settled.marks.Goals as goal
 
@@ -26,8 +26,11 @@ returns g c =
       right = c.as_slice-5.result.now;
       marks = c.as_mut_slice.result.now;
     } in
-    writes_marks g.K.Cost state c.args.tables.now Marks c.args.h (reply_by (λ u. table) a) answer
-    state seen (cc) c.requires.right c.requires.lent
+    let x = cut c.args.h seen in
+    was_made g.K.Cost state (tables_of c.args.tables.now) Marks c.args.h (reply_by (λ u. table) a)
+    answer state x (record x { marks = table }) _ c.requires.right
+    (marks_part c.args.h c.args.tables.now seen (cc) c.requires.lent table
+    c.marks-outcome.auto.table)
     (says_reply Marks answer (λ u. table) a (λ u. answer ≡ Marked copy)
     (λ u h. (copy, h, c.copy_from_slice.ensures.items)) c.marks_answer.ensures)
-    table c.marks-outcome.auto.table (inl (refl, (a, refl, c.marks-outcome.ensures, refl, refl)))
+    (inl (refl, (a, refl, c.marks-outcome.ensures, refl, refl)))

@@ -7,7 +7,7 @@ use Rattle.session.specs.declared.state.State.TheVariants.{Settled}
 use Rattle.session.specs.Lists.{TableLists}
 use Rattle.session.specs.Program.{reply_of}
 use Rattle.session.specs.Runs.{tables_of}
-use Rattle.session.proofs.Handing.{writes_walk}
+use Rattle.session.proofs.Handing.{cut, walk_part, was_made}
 use Rattle.session.proofs.Saying.{says_change}
 use Rattle.session.proofs.running.on_settled.start.Goals as goal
 
@@ -25,9 +25,11 @@ returns g c =
       right = c.as_slice-5.result.now;
       walk = c.as_mut_slice.result.now;
     } in
-    writes_walk g.K.Cost (Settled c.args.sheet) c.args.tables.now Start c.args.h (reply_of list a)
-    answer c.after_start-state.result.0 seen (cc) c.requires.right c.requires.lent
+    let x = cut c.args.h seen in
+    was_made g.K.Cost (Settled c.args.sheet) (tables_of c.args.tables.now) Start c.args.h
+    (reply_of list a) answer c.after_start-state.result.0 x (record x { walk = list }) _
+    c.requires.right
+    (walk_part c.args.h c.args.tables.now seen (cc) c.requires.lent list c.start-outcome.auto.list)
     (says_change Start answer list a (λ walk. answer ≡ Pairing copy)
     (λ walk h. (copy, h, c.copy_from_slice.ensures.items)) c.after_start-state.ensures.answer)
-    list c.start-outcome.auto.list
     (inl (refl, (a, refl, c.start-outcome.ensures, refl, c.after_start-state.ensures.state)))

@@ -6,7 +6,7 @@ use Rattle.session.specs.declared.state.State.TheVariants.{Walking}
 use Rattle.session.specs.Lists.{TableLists}
 use Rattle.session.specs.Program.{reply_by, pairing_by}
 use Rattle.session.specs.Runs.{tables_of, IsOnwardAnswer}
-use Rattle.session.proofs.Handing.{writes_walk}
+use Rattle.session.proofs.Handing.{cut, walk_part, was_made}
 use Rattle.session.proofs.Saying.{says_reply, says_step}
 use Rattle.session.proofs.running.on_walk.next.Goals as goal
 
@@ -25,9 +25,10 @@ returns g c =
       right = c.as_slice-5.result.now;
       walk = c.as_mut_slice.result.now;
     } in
-    writes_walk g.K.Cost state c.args.tables.now Next c.args.h (reply_by (pairing_by list) a)
-    answer state seen (cc) c.requires.right c.requires.lent
+    let x = cut c.args.h seen in
+    was_made g.K.Cost state (tables_of c.args.tables.now) Next c.args.h
+    (reply_by (pairing_by list) a) answer state x (record x { walk = list }) _ c.requires.right
+    (walk_part c.args.h c.args.tables.now seen (cc) c.requires.lent list c.next-outcome.auto.list)
     (says_reply Next answer (pairing_by list) a (λ step. IsOnwardAnswer step copy answer)
     (says_step answer copy list c.copy_from_slice.ensures.items) c.step_answer.ensures)
-    list c.next-outcome.auto.list
     (inl (refl, (a, refl, c.next-outcome.ensures, refl, refl)))
