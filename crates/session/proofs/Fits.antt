@@ -1,6 +1,6 @@
 -- The tests of the tables' lengths, and what they tell of the tables that a call is handed.
 -- Idea: each test is a row of equations between numbers, so it tells just these equations.
-use Rattle.std.proofs.Common.{◌≡◌, ℕ, Bool, true, ◌&&◌, eqb, length}
+use Rattle.std.proofs.Common.{◌≡◌, ℕ, Bool, ◌&&◌, eqb, length}
 use Rattle.std.specs.Bool.{Decides}
 use Rattle.std.proofs.lemmas.Bool.Decides.{Decides-and, Decides-eqb, Decides-like}
 use Rattle.tables.specs.Lent.{HasLengths}

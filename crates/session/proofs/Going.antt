@@ -2,7 +2,7 @@
 -- Idea: the calls so far with what came of each are the exchanges of a program that has come to the
 -- state and the tables as they are; the law is then cited for it as a whole.
 use Rattle.std.proofs.Common.{◌≡◌, ℕ, ◌+◌, ◌<◌, ◌≤◌, true, false, List, [], ◌∷◌, ◌++◌, length}
-use Rattle.std.proofs.Common.{take, Ok, Err, Some, None, Option, Result, inl, inr, get_or, sym}
+use Rattle.std.proofs.Common.{take, Ok, Err, Result, inl, inr, get_or, sym}
 use Rattle.std.proofs.Common.{refl, ap, ◌∙◌, subst, arith}
 use Rattle.std.specs.Prelude.{MatchResult}
 use Rattle.std.specs.Vec.{with_items}
@@ -19,8 +19,8 @@ use Rattle.sheet.specs.Walking.{Starts}
 use Rattle.tables.specs.Lent.{Lent}
 use Rattle.session.specs.declared.answer.Answer.{Answer}
 use Rattle.session.specs.declared.call.Act.{Act}
-use Rattle.session.specs.declared.call.Act.TheVariants.{Enter, Strike, Read, Settle, Quote, Total}
-use Rattle.session.specs.declared.call.Act.TheVariants.{Marks, Start, Next, Close, Reopen}
+use Rattle.session.specs.declared.call.Act.TheVariants.{Settle}
+use Rattle.session.specs.declared.call.Act.TheVariants.{Start, Close, Reopen}
 use Rattle.session.specs.declared.call.Call.{Call}
 use Rattle.session.specs.declared.sheet_tables.SheetTables.{SheetTables}
 use Rattle.session.specs.declared.state.State.{State}

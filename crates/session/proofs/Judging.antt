@@ -17,7 +17,7 @@ use Rattle.sheet.specs.declared.fault.Fault.{Fault}
 use Rattle.sheet.specs.Needs.{Needs, AreMet, Responds}
 use Rattle.sheet.specs.Refusals.{fault}
 use Rattle.session.specs.declared.call.Act.{Act}
-use Rattle.session.specs.declared.call.Act.TheVariants.{Enter, Strike, Read, Settle, Quote, Total}
+use Rattle.session.specs.declared.call.Act.TheVariants.{Settle, Total}
 use Rattle.session.specs.declared.call.Act.TheVariants.{Marks, Start, Next, Close, Reopen}
 use Rattle.session.specs.declared.call.Lengths.{Lengths}
 use Rattle.session.specs.declared.call.Call.{Call}

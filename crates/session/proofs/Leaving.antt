@@ -2,7 +2,7 @@
 -- Idea: follow one table along the program. Where a call gives nothing of the table, it leaves what
 -- it was handed, so the sheet's own stays; where it gives something of it, it was handed a table of
 -- the right length, so the sheet's own is what the call left there, which is what it gave.
-use Rattle.std.proofs.Common.{◌≡◌, ℕ, Bool, true, false, not, ◌||◌, List, [], ◌∷◌, ◌++◌, length, Ok}
+use Rattle.std.proofs.Common.{◌≡◌, ℕ, Bool, true, false, not, List, [], ◌∷◌, ◌++◌, length, Ok}
 use Rattle.std.proofs.Common.{Err}
 use Rattle.std.proofs.Common.{Result, inl, inr, sym, refl, ap, ◌∙◌, subst}
 use Rattle.std.proofs.lemmas.Bool.{or_left}

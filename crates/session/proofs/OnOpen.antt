@@ -2,9 +2,9 @@
 -- tables go on with it.
 -- Idea: the sheet's needs are the book's, since the tables hold what the book says; a call that
 -- meets them was handed the sheet's own tables.
-use Rattle.std.proofs.Common.{◌≡◌, ℕ, Bool, true, false, List, length, set, get_or, Some, None}
+use Rattle.std.proofs.Common.{◌≡◌, ℕ, Bool, true, false, length, set, get_or, Some, None}
 use Rattle.std.proofs.Common.{Option}
-use Rattle.std.proofs.Common.{Result, sym, refl, ap, ◌∙◌, subst, inl, inr}
+use Rattle.std.proofs.Common.{sym, refl, ap, ◌∙◌, inl, inr}
 use Rattle.std.specs.Prelude.{⊤}
 use Rattle.std.specs.Bool.{Decides}
 use Rattle.cost.specs.declared.Cost.{Ghosts}
@@ -16,15 +16,13 @@ use Rattle.tables.specs.PairTables.{HavePlaces, byte_of, says_stands, says_distu
 use Rattle.tables.specs.PairTables.{costs_entered, standing_entered, costs_struck, standing_struck}
 use Rattle.tables.proofs.Cells.{place_below}
 use Rattle.sheet.specs.Pairs.{AreBlocks, PairTablesAre, enter_needs, strike_needs}
-use Rattle.session.specs.declared.call.Act.{Act}
 use Rattle.session.specs.declared.call.Act.TheVariants.{Enter, Strike, Read}
-use Rattle.session.specs.Book.{Book, opened, with_cell, stands_in, needs, book_with}
+use Rattle.session.specs.Book.{Book, opened, with_cell, stands_in, needs}
 use Rattle.session.specs.Exchange.{Reply}
 use Rattle.session.specs.Lists.{TableLists, SameIn, lengths, rests_on, the_costs, the_standing}
-use Rattle.session.specs.Lists.{the_partners, the_left, the_right, the_walk, the_marks}
 use Rattle.session.specs.Promise.{Settling}
 use Rattle.session.specs.Program.{SheetAt, IsAnswered, cost_in, byte_in}
-use Rattle.session.proofs.Held.{Keeps, GoesOn, shows_same}
+use Rattle.session.proofs.Held.{Keeps, GoesOn}
 use Rattle.session.proofs.Cells.{stands_alike, cell_is, written_shows}
 use Rattle.session.proofs.Fits.{pairs_fit, blocks_decided}
 use Rattle.session.proofs.Judging.{goes_on_by}

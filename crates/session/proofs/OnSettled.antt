@@ -2,7 +2,7 @@
 -- it.
 -- Idea: the needs of each call but the one that the tables hold together are the book's, and that
 -- one is met where the lengths are right.
-use Rattle.std.proofs.Common.{◌≡◌, ◌≢◌, ℕ, Bool, true, List, [], ◌∷◌, length, Some, None}
+use Rattle.std.proofs.Common.{◌≡◌, ◌≢◌, ℕ, Bool, List, [], ◌∷◌, length, Some, None}
 use Rattle.std.proofs.Common.{Ok, Err, Option, Result, sym, refl, ap, ◌∙◌, subst, inl, inr, arith}
 use Rattle.std.specs.Prelude.{MatchOption, ⊤}
 use Rattle.cost.specs.declared.Cost.{Ghosts}
@@ -26,9 +26,9 @@ use Rattle.sheet.specs.Walking.{quote_needs, IsQuote, total_needs, marks_needs, 
 use Rattle.sheet.specs.Walking.{start_needs, Starts, IsStarted}
 use Rattle.session.specs.declared.call.Act.TheVariants.{Quote, Total, Marks, Start, Reopen}
 use Rattle.session.specs.Book.{Book, opened, settled, walking, stands_in, needs}
-use Rattle.session.specs.Exchange.{Reply, gives}
-use Rattle.session.specs.Lists.{TableLists, SameIn, lengths, rests_on, the_walk}
-use Rattle.session.specs.Promise.{Settling, IsMarked, IsQuoted}
+use Rattle.session.specs.Exchange.{Reply}
+use Rattle.session.specs.Lists.{SameIn, lengths, rests_on, the_walk}
+use Rattle.session.specs.Promise.{Settling, IsQuoted}
 use Rattle.session.specs.Program.{SheetAt, state_at, IsAnswered, reply_of, state_after}
 use Rattle.session.proofs.Cells.{alike, stands_alike}
 use Rattle.session.proofs.Fits.{fits, fits_with, blocks_decided}

@@ -2,8 +2,7 @@
 -- Idea: the walk list is the pairing that was handed out last, which stands at one place of the
 -- list of all optimum pairings; so the sheet's step from it is the walk's own next answer.
 use Rattle.std.proofs.Common.{◌≡◌, ℕ, ◌+◌, ◌≤◌, Bool, true, List, [], ◌∷◌, ◌++◌, length, Some, None}
-use Rattle.std.proofs.Common.{Ok, Err}
-use Rattle.std.proofs.Common.{Option, Result, sym, refl, ap, ◌∙◌, subst, inl, ⊎_elim, arith}
+use Rattle.std.proofs.Common.{Option, sym, refl, ap, ◌∙◌, subst, inl, ⊎_elim, arith}
 use Rattle.std.proofs.lemmas.Bool.{cases_order}
 use Rattle.std.proofs.lemmas.List.{length-append}
 use Rattle.cost.specs.declared.Cost.{Ghosts}
@@ -15,12 +14,11 @@ use Rattle.matching.specs.declared.stepping.Step.{Step}
 use Rattle.matching.specs.declared.stepping.Step.TheVariants.{Next as Onward, End}
 use Rattle.matching.proofs.Nth.{nth_optimum}
 use Rattle.tables.specs.Lent.{grid, HasLengths}
-use Rattle.sheet.specs.Size.{Sheet, size_of}
 use Rattle.sheet.specs.Walking.{next_needs, IsStep}
 use Rattle.session.specs.declared.call.Act.TheVariants.{Next, Close}
 use Rattle.session.specs.Book.{Book, settled, walking}
-use Rattle.session.specs.Exchange.{Reply, gives}
-use Rattle.session.specs.Lists.{TableLists, SameIn, lengths, rests_on, the_walk}
+use Rattle.session.specs.Exchange.{Reply}
+use Rattle.session.specs.Lists.{SameIn, lengths, rests_on, the_walk}
 use Rattle.session.specs.Promise.{Settling}
 use Rattle.session.specs.Program.{SheetAt, state_at, IsAnswered, pairing_by}
 use Rattle.session.proofs.Fits.{fits_with}

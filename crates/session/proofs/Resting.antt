@@ -1,7 +1,7 @@
 -- One call over the sheet's tables, and what it is handed of those that the state rests on.
 -- Idea: a table of the right length is the sheet's own, so from a settle on the tables hold
 -- together and state the book's grid inside.
-use Rattle.std.proofs.Common.{◌≡◌, ℕ, Bool, true, not, ◌||◌, List, length, refl, sym, ap, ◌∙◌}
+use Rattle.std.proofs.Common.{◌≡◌, ℕ, Bool, true, not, length, refl, sym, ap, ◌∙◌}
 use Rattle.std.proofs.Common.{subst}
 use Rattle.std.proofs.lemmas.Bool.{or_left}
 use Rattle.cost.specs.declared.Cost.{Ghosts}

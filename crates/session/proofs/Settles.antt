@@ -25,7 +25,7 @@ use Rattle.sheet.specs.Size.{Sheet, size_of}
 use Rattle.session.specs.declared.call.Act.TheVariants.{Settle}
 use Rattle.session.specs.Book.{Book, opened, settled, stands_in, has_perfect, needs}
 use Rattle.session.specs.Exchange.{Settlement, Reply}
-use Rattle.session.specs.Lists.{TableLists, SameIn, lengths, lent_of, rests_on, the_costs}
+use Rattle.session.specs.Lists.{lengths, lent_of, the_costs}
 use Rattle.session.specs.Lists.{the_standing}
 use Rattle.session.specs.Lists.{the_partners, the_left, the_right}
 use Rattle.session.specs.Promise.{Settling, IsSettlement, settling_of}

@@ -1,6 +1,6 @@
 -- A step of a walk is a step of a program.
 -- Idea: the call reads all tables but the walk list, and leaves that as its contract says.
-use Rattle.std.proofs.Common.{◌≡◌, inl, refl}
+use Rattle.std.proofs.Common.{inl, refl}
 use Rattle.session.specs.declared.call.Act.TheVariants.{Next}
 use Rattle.session.specs.declared.state.State.TheVariants.{Walking}
 use Rattle.session.specs.Lists.{TableLists}
