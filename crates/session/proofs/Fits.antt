@@ -1,8 +1,9 @@
 -- The tests of the tables' lengths, and what they tell of the tables that a call is handed.
 -- Idea: each test is a row of equations between numbers, so it tells just these equations.
-use Rattle.std.proofs.Common.{◌≡◌, ℕ, Bool, ◌&&◌, eqb, length}
+use Rattle.std.proofs.Common.{◌≡◌, ℕ, Bool, true, ◌&&◌, eqb, length}
 use Rattle.std.specs.Bool.{Decides}
-use Rattle.std.proofs.lemmas.Bool.Decides.{Decides-and, Decides-eqb, Decides-like}
+use Rattle.std.proofs.lemmas.Bool.{and_parts, and_from, eqb-true, eq-eqb}
+use Rattle.std.proofs.lemmas.Bool.Decides.{Decides-and, Decides-eqb}
 use Rattle.tables.specs.Lent.{HasLengths}
 use Rattle.tables.specs.PairTables.{HavePlaces}
 use Rattle.tables.proofs.Lengths.{places_from, places_told}
@@ -37,43 +38,33 @@ module _ {K : Type 0} (n : ℕ) (x : TableLists K) where
   abbrev right : Bool
   right = eqb (length x.right) n
 
-  -- what the tests one after the other decide
-  abbrev HaveLengths : Type 0
-  HaveLengths = ((HavePlaces n (length x.costs) (length x.standing) × (length x.partners ≡ n))
-      × (length x.left ≡ n)) × (length x.right ≡ n)
-
-  decided : Decides (tables_fit n (lengths x)) HaveLengths
-  decided = Decides-and (pairs && partners && left) right
-      (Decides-and (pairs && partners) left
-      (Decides-and pairs partners pairs_fit (Decides-eqb (length x.partners) n))
-      (Decides-eqb (length x.left) n))
-      (Decides-eqb (length x.right) n)
-
   pub fits : Decides (tables_fit n (lengths x)) (HasLengths (lent_of n x))
-  fits = Decides-like (tables_fit n (lengths x)) told back decided
+  fits = (told, back)
     where
-      told : HaveLengths → HasLengths (lent_of n x)
-      told h = record {
-        room = record {
-          costs_long = h.0.0.0.costs;
-          standing_long = h.0.0.0.standing;
-          left_long = h.0.1;
-          right_long = h.1;
-        };
-        partners_long = h.0.0.1;
-      }
+      told : tables_fit n (lengths x) ≡ true → HasLengths (lent_of n x)
+      told e =
+          let four = and_parts (pairs && partners && left) right e in
+          let three = and_parts (pairs && partners) left four.0 in
+          let two = and_parts pairs partners three.0 in
+          let have = pairs_fit.0 two.0 in
+          record {
+            room = record {
+              costs_long = have.costs;
+              standing_long = have.standing;
+              left_long = eqb-true (length x.left) n three.1;
+              right_long = eqb-true (length x.right) n four.1;
+            };
+            partners_long = eqb-true (length x.partners) n two.1;
+          }
 
-      back : HasLengths (lent_of n x) → HaveLengths
-      back h = (
-        (
-          (
-            record { costs = h.room.costs_long; standing = h.room.standing_long },
-            h.partners_long,
-          ),
-          h.room.left_long,
-        ),
-        h.room.right_long,
-      )
+      back : HasLengths (lent_of n x) → tables_fit n (lengths x) ≡ true
+      back h =
+          let have = pairs_fit.1
+          (record { costs = h.room.costs_long; standing = h.room.standing_long }) in
+          and_from (pairs && partners && left) right (and_from (pairs && partners) left
+          (and_from pairs partners have (eq-eqb (length x.partners) n h.partners_long))
+          (eq-eqb (length x.left) n h.room.left_long))
+          (eq-eqb (length x.right) n h.room.right_long)
 
   -- with the length of one table more
   pub fits_with : (long size : ℕ)

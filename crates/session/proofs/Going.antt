@@ -1,9 +1,8 @@
 -- A run is a program: opening begins it, and each call that is made is one step more.
 -- Idea: the calls so far with what came of each are the exchanges of a program that has come to the
 -- state and the tables as they are; the law is then cited for it as a whole.
-use Rattle.std.proofs.Common.{◌≡◌, ℕ, ◌+◌, ◌<◌, ◌≤◌, true, false, List, [], ◌∷◌, ◌++◌, length}
-use Rattle.std.proofs.Common.{take, Ok, Err, Result, inl, inr, get_or, sym}
-use Rattle.std.proofs.Common.{refl, ap, ◌∙◌, subst, arith}
+use Rattle.std.proofs.Common.{◌≡◌, ℕ, ◌+◌, ◌<◌, ◌≤◌, true, false, List, [], ◌∷◌, ◌++◌, length, take}
+use Rattle.std.proofs.Common.{Ok, Err, Result, inl, inr, get_or, sym, refl, ap, ◌∙◌, subst, arith}
 use Rattle.std.specs.Prelude.{MatchResult}
 use Rattle.std.specs.Vec.{with_items}
 use Rattle.std.specs.declared.alloc.AllocError.{AllocError}
@@ -19,8 +18,7 @@ use Rattle.sheet.specs.Walking.{Starts}
 use Rattle.tables.specs.Lent.{Lent}
 use Rattle.session.specs.declared.answer.Answer.{Answer}
 use Rattle.session.specs.declared.call.Act.{Act}
-use Rattle.session.specs.declared.call.Act.TheVariants.{Settle}
-use Rattle.session.specs.declared.call.Act.TheVariants.{Start, Close, Reopen}
+use Rattle.session.specs.declared.call.Act.TheVariants.{Settle, Start, Close, Reopen}
 use Rattle.session.specs.declared.call.Call.{Call}
 use Rattle.session.specs.declared.sheet_tables.SheetTables.{SheetTables}
 use Rattle.session.specs.declared.state.State.{State}
@@ -68,21 +66,14 @@ module _ {K : Type 0} (kind : Ghosts K) where
   module _ (state : State) (old : TableLists K) (call : Call K)
       (made : State × Result (Answer K) AllocError) (new : TableLists K)
       (makes : MakesOne kind state old call made new) where
-    came_to : (r : Result (Answer K) AllocError) → made.1 ≡ r
-        → MatchResult r (λ answer. WasMade kind state old call answer made.0 new)
-        (λ e. (holds_copies call.act ≡ true) × (made.0 ≡ state) × (new ≡ old))
-    came_to r e = subst (λ (r : Result (Answer K) AllocError).
-        MatchResult r (λ answer. WasMade kind state old call answer made.0 new)
-        (λ e. (holds_copies call.act ≡ true) × (made.0 ≡ state) × (new ≡ old))) e makes
-
     pub made_as : (answer : Answer K) → made.1 ≡ Ok answer
         → WasMade kind state old call answer made.0 new
-    made_as answer e = came_to (Ok answer) e
+    made_as answer e = rw e at makes
 
     pub not_made_then : (none : AllocError) → made.1 ≡ Err none → new ≡ old
-    not_made_then none e = (came_to (Err none) e).2
+    not_made_then none e = let h = rw e at makes in h.2
 
--- ---- TableLists
+-- ---- Lists
 
 answers_more : {K : Type 0} (cs : List (Call K)) (answers : List (Answer K))
     (es : List (Exchange K)) (call : Call K) (answer : Answer K) (e : Exchange K)

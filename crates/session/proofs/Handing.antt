@@ -2,8 +2,8 @@
 -- a program.
 -- Idea: first places of the right length are the whole table, so what a call leaves there is the
 -- table from then on; places of another length are no table of the sheet.
-use Rattle.std.proofs.Common.{◌≡◌, ℕ, ◌≤◌, ◌-◌, Bool, false, List, ◌++◌, length}
-use Rattle.std.proofs.Common.{take, drop, Result, sym, refl, ap, ◌∙◌, subst, inr, arith}
+use Rattle.std.proofs.Common.{◌≡◌, ℕ, ◌≤◌, ◌-◌, Bool, false, List, ◌++◌, length, take, drop, Result}
+use Rattle.std.proofs.Common.{sym, refl, ap, ◌∙◌, subst, inr, arith}
 use Rattle.std.proofs.Math.Seq.{length_front}
 use Rattle.std.proofs.lemmas.List.{append-nil, drop_all, length-take-le, take-append-drop, take_all}
 use Rattle.std.proofs.lemmas.List.{with_items_is}

@@ -17,15 +17,15 @@ use Rattle.sheet.specs.declared.fault.Fault.{Fault}
 use Rattle.sheet.specs.Needs.{Needs, AreMet, Responds}
 use Rattle.sheet.specs.Refusals.{fault}
 use Rattle.session.specs.declared.call.Act.{Act}
-use Rattle.session.specs.declared.call.Act.TheVariants.{Settle, Total}
-use Rattle.session.specs.declared.call.Act.TheVariants.{Marks, Start, Next, Close, Reopen}
+use Rattle.session.specs.declared.call.Act.TheVariants.{Settle, Total, Marks, Start, Next, Close}
+use Rattle.session.specs.declared.call.Act.TheVariants.{Reopen}
 use Rattle.session.specs.declared.call.Lengths.{Lengths}
 use Rattle.session.specs.declared.call.Call.{Call}
 use Rattle.session.specs.Book.{Book, Verdict, not_allowed, refused, accepted, refusal_by, needs}
 use Rattle.session.specs.Book.{allows, book_with, book_by, verdict_after, verdict, stands_in}
-use Rattle.session.specs.Exchange.{ValueOf, Reply, not_made, turned_down, gives}
-use Rattle.session.specs.Promise.{Settling, HandsOut, AgreesWith, settling_with, IsValue}
-use Rattle.session.specs.Promise.{HasRightWalks}
+use Rattle.session.specs.Exchange.{ValueOf, Reply, not_made, turned_down, gives, verdict_of}
+use Rattle.session.specs.Promise.{Settling, HandsOut, AgreesWith, settling_with, settling_by}
+use Rattle.session.specs.Promise.{IsValue, IsReply, HasRightWalks}
 use Rattle.session.specs.Lists.{TableLists}
 use Rattle.session.specs.Program.{SheetAt, reply_by}
 use Rattle.session.proofs.Held.{HasWalksInTurn, Keeps, GoesOn}
@@ -34,26 +34,23 @@ use Rattle.session.proofs.Walks.{InTurn, hands_out, ended_whole}
 
 -- ---- What was told is right as a whole
 
-all_hand_out : (ps : List (List ℕ)) (walks : List (List (Option (List ℕ))))
-    → AllByRecursion (InTurn ps) walks → AllByRecursion (HandsOut ps) walks
-all_hand_out ps [] h = tt
-all_hand_out ps (walk ∷ walks) h = (hands_out ps walk h.0, all_hand_out ps walks h.1)
+each_so : {X : Type 0} (P Q : X → Type 0) → ((x : X) → P x → Q x) → (xs : List X)
+    → AllByRecursion P xs → AllByRecursion Q xs
+each_so P Q so [] h = tt
+each_so P Q so (x ∷ xs) h = (so x h.0, each_so P Q so xs h.1)
 
-module _ (n : ℕ) (ps : List (List ℕ)) where
-  agree_with : (table : List ℕ) → MarksOf n ps table → (walks : List (List (Option (List ℕ))))
-      → AllByRecursion (InTurn ps) walks → AllByRecursion (AgreesWith n table) walks
-  agree_with table m [] h = tt
-  agree_with table m (walk ∷ walks) h = (
-    λ e. subst (λ qs. MarksOf n qs table) (sym (ended_whole ps walk h.0 e)) m,
-    agree_with table m walks h.1,
-  )
-
-  all_agree : (walks : List (List (Option (List ℕ)))) → AllByRecursion (InTurn ps) walks
-      → (tables : List (List ℕ)) → AllByRecursion (MarksOf n ps) tables
-      → AllByRecursion (λ table. AllByRecursion (AgreesWith n table) walks) tables
-  all_agree walks h [] m = tt
-  all_agree walks h (table ∷ tables) m =
-      (agree_with table m.0 walks h, all_agree walks h tables m.1)
+module _ {K : Type 0} (kind : Ghosts K) (n : ℕ) where
+  walks_are : (s : Settling K) → HasWalksInTurn kind n s → HasRightWalks kind n s
+  walks_are s h =
+      let ps = optima s.grid in
+      let walks = s.walk ∷ s.earlier in
+      record {
+        walks = each_so (InTurn ps) (HandsOut ps) (hands_out ps) walks h.walks;
+        agree = each_so (MarksOf n ps) (λ table. AllByRecursion (AgreesWith n table) walks)
+            (λ table marks. each_so (InTurn ps) (AgreesWith n table) (λ walk turn ended.
+            subst (λ qs. MarksOf n qs table) (sym (ended_whole ps walk turn ended)) marks) walks
+            h.walks) s.marks h.marks;
+      }
 
 -- ---- The causes of refusals
 
@@ -89,12 +86,6 @@ module _ {K : Type 0} (kind : Ghosts K) (n : ℕ) where
   none_is_seven cells h Reopen = tt
   none_is_seven cells h _ = (λ e. cc, (λ e. cc, (λ e. cc, tt)))
 
-  walks_are : (s : Settling K) → HasWalksInTurn kind n s → HasRightWalks kind n s
-  walks_are s h = record {
-    walks = all_hand_out (optima s.grid) (s.walk ∷ s.earlier) h.walks;
-    agree = all_agree n (optima s.grid) (s.walk ∷ s.earlier) h.walks s.marks h.marks;
-  }
-
   module _ (b : Book K) (s : Settling K) (act : Act K) (h : Lengths) (o : Reply (ValueOf K act))
       (state : SheetAt) (t : TableLists K) where
     abbrev call : Call K
@@ -107,21 +98,26 @@ module _ {K : Type 0} (kind : Ghosts K) (n : ℕ) where
         ap (λ a. cond a (verdict_after (refusal_by (needs kind n b.cells h act))) not_allowed) ea
         ∙ ap (λ x. cond ok (verdict_after x) not_allowed) er
 
-    -- the book after a verdict that is known
-    keeps_after : (v : Verdict) (s' : Settling K) → verdict kind n b call ≡ v
-        → Keeps kind n (book_by v b act) s' state t
-        → Keeps kind n (book_by (verdict kind n b call) b act) s' state t
-    keeps_after v s' e keeps =
-        subst (λ x. Keeps kind n (book_by x b act) s' state t) (sym e) keeps
+    -- what came of the call is known, and the verdict that it shows is the book's
+    by_verdict : (v : Verdict) (o' : Reply (ValueOf K act)) → o ≡ o' → verdict_of o' ≡ v
+        → verdict kind n b call ≡ v → IsReply kind n b s act o'
+        → Keeps kind n (book_by v b act) (settling_by kind n b s act o') state t
+        → GoesOn kind n b s act h o state t
+    by_verdict v o' eo ev e reply keeps =
+        subst (λ x. GoesOn kind n b s act h x state t) (sym eo) (record {
+          right = record {
+            verdict_is = ev ∙ sym e;
+            reply_is = reply;
+            walks_are = walks_are kind n (settling_by kind n b s act o') keeps.walks;
+          };
+          keeps = subst (λ x. Keeps kind n (book_by x b act) (settling_by kind n b s act o') state
+              t) (sym e) keeps;
+        })
 
     pub not_made_next : o ≡ not_made → allows b.phase act ≡ false → Keeps kind n b s state t
         → GoesOn kind n b s act h o state t
     not_made_next e ea keeps =
-        let v : verdict kind n b call ≡ not_allowed = verdict_from false _ ea refl in
-        subst (λ x. GoesOn kind n b s act h x state t) (sym e) (record {
-          right = record { verdict_is = sym v; reply_is = tt; walks_are = walks_are s keeps.walks };
-          keeps = keeps_after not_allowed s v keeps;
-        })
+        by_verdict not_allowed not_made e refl (verdict_from false _ ea refl) tt keeps
 
     pub refused_next : (f : Fault) (w : Option Shortfall) → o ≡ turned_down f w
         → allows b.phase act ≡ true → refusal_by (needs kind n b.cells h act) ≡ Some f
@@ -129,34 +125,18 @@ module _ {K : Type 0} (kind : Ghosts K) (n : ℕ) where
         (λ s. (f ≡ fault NoPerfectPairing 0) × Unpaired n (stands_in b.cells) s.crowd s.short)
         → Keeps kind n b s state t → GoesOn kind n b s act h o state t
     refused_next f w e ea er explained keeps =
-        let v : verdict kind n b call ≡ refused f = verdict_from true (Some f) ea er in
-        subst (λ x. GoesOn kind n b s act h x state t) (sym e) (record {
-          right = record {
-            verdict_is = sym v;
-            reply_is = record {
-              explained = explained;
-              never_seven = first_cause Inconsistent (needs kind n b.cells h act) f
-                  (none_is_seven b.cells h act) er;
-            };
-            walks_are = walks_are s keeps.walks;
-          };
-          keeps = keeps_after (refused f) s v keeps;
-        })
+        by_verdict (refused f) (turned_down f w) e refl (verdict_from true (Some f) ea er) (record {
+          explained = explained;
+          never_seven = first_cause Inconsistent (needs kind n b.cells h act) f
+              (none_is_seven b.cells h act) er;
+        }) keeps
 
     pub accepted_next : (x : ValueOf K act) → o ≡ gives x → allows b.phase act ≡ true
         → refusal_by (needs kind n b.cells h act) ≡ None → IsValue kind n b s act x
         → Keeps kind n (book_with b act) (settling_with kind n b s act x) state t
         → GoesOn kind n b s act h o state t
     accepted_next x e ea er value keeps =
-        let v : verdict kind n b call ≡ accepted = verdict_from true None ea er in
-        subst (λ y. GoesOn kind n b s act h y state t) (sym e) (record {
-          right = record {
-            verdict_is = sym v;
-            reply_is = value;
-            walks_are = walks_are (settling_with kind n b s act x) keeps.walks;
-          };
-          keeps = keeps_after accepted (settling_with kind n b s act x) v keeps;
-        })
+        by_verdict accepted (gives x) e refl (verdict_from true None ea er) value keeps
 
     -- a call that answers by its needs, which the book's checks mirror; of its refusals none is for
     -- want of a perfect pairing

@@ -2,8 +2,7 @@
 -- Idea: follow one table along the program. Where a call gives nothing of the table, it leaves what
 -- it was handed, so the sheet's own stays; where it gives something of it, it was handed a table of
 -- the right length, so the sheet's own is what the call left there, which is what it gave.
-use Rattle.std.proofs.Common.{◌≡◌, ℕ, Bool, true, false, not, List, [], ◌∷◌, ◌++◌, length, Ok}
-use Rattle.std.proofs.Common.{Err}
+use Rattle.std.proofs.Common.{◌≡◌, ℕ, Bool, true, false, not, List, [], ◌∷◌, ◌++◌, length, Ok, Err}
 use Rattle.std.proofs.Common.{Result, inl, inr, sym, refl, ap, ◌∙◌, subst}
 use Rattle.std.proofs.lemmas.Bool.{or_left}
 use Rattle.cost.specs.declared.Cost.{Ghosts}
@@ -22,13 +21,11 @@ use Rattle.session.specs.declared.call.Act.TheVariants.{Marks, Start, Next, Clos
 use Rattle.session.specs.Book.{Phase, opened, settled, walking, made_in}
 use Rattle.session.specs.Exchange.{ValueOf, Reply, not_made, turned_down, gives, Exchange}
 use Rattle.session.specs.Lists.{Table, TableLists, list_in, lent_of, is_pair_table, is_settled}
-use Rattle.session.specs.Lists.{the_costs}
-use Rattle.session.specs.Lists.{the_standing, the_partners, the_left, the_right, the_walk}
-use Rattle.session.specs.Lists.{the_marks}
+use Rattle.session.specs.Lists.{the_costs, the_standing, the_partners, the_left, the_right}
+use Rattle.session.specs.Lists.{the_walk, the_marks}
 use Rattle.session.specs.Program.{SheetAt, state_at, HandsAll, is_fixed, HoldLast, reply_of}
-use Rattle.session.specs.Program.{reply_by}
-use Rattle.session.specs.Program.{settlement_in, pairing_by, state_after, lists_by, lists_after}
-use Rattle.session.specs.Program.{IsAnswered, IsCalled, Makes, Program, opens, calls}
+use Rattle.session.specs.Program.{reply_by, settlement_in, pairing_by, state_after, lists_by}
+use Rattle.session.specs.Program.{lists_after, IsAnswered, IsCalled, Makes, Program, opens, calls}
 use Rattle.session.proofs.Allowing.{phase_told}
 
 -- a call that gives nothing of the tables

@@ -2,8 +2,8 @@
 -- Idea: each check refuses exactly where the need of the same place is not met, so the first check
 -- that holds is that of the first need that is not met. A need that follows from those before it is
 -- none of the book's.
-use Rattle.std.proofs.Common.{◌≡◌, Bool, not, List, [], ◌∷◌, Some, None, sym}
-use Rattle.std.proofs.Common.{refl, ap, ◌∙◌, inl, inr, ◌⊎◌}
+use Rattle.std.proofs.Common.{◌≡◌, Bool, not, List, [], ◌∷◌, Some, None, sym, refl, ap, ◌∙◌, inl}
+use Rattle.std.proofs.Common.{inr, ◌⊎◌}
 use Rattle.std.specs.Bool.{Decides}
 use Rattle.std.proofs.lemmas.Bool.{cond-true, cond-false}
 use Rattle.std.proofs.lemmas.Bool.Decides.{Decides-not}

@@ -2,8 +2,7 @@
 -- tables go on with it.
 -- Idea: the sheet's needs are the book's, since the tables hold what the book says; a call that
 -- meets them was handed the sheet's own tables.
-use Rattle.std.proofs.Common.{◌≡◌, ℕ, Bool, true, false, length, set, get_or, Some, None}
-use Rattle.std.proofs.Common.{Option}
+use Rattle.std.proofs.Common.{◌≡◌, ℕ, Bool, true, false, length, set, get_or, Some, None, Option}
 use Rattle.std.proofs.Common.{sym, refl, ap, ◌∙◌, inl, inr}
 use Rattle.std.specs.Prelude.{⊤}
 use Rattle.std.specs.Bool.{Decides}
@@ -12,8 +11,8 @@ use Rattle.cost.specs.declared.TheConstants.{COST_LIMIT}
 use Rattle.cost.specs.Columns.{Within}
 use Rattle.cost.proofs.Exact.{within_tells}
 use Rattle.pairing.specs.Places.{place_of}
-use Rattle.tables.specs.PairTables.{HavePlaces, byte_of, says_stands, says_disturbed}
-use Rattle.tables.specs.PairTables.{costs_entered, standing_entered, costs_struck, standing_struck}
+use Rattle.tables.specs.PairTables.{HavePlaces, byte_of, says_stands, says_disturbed, costs_entered}
+use Rattle.tables.specs.PairTables.{standing_entered, costs_struck, standing_struck}
 use Rattle.tables.proofs.Cells.{place_below}
 use Rattle.sheet.specs.Pairs.{AreBlocks, PairTablesAre, enter_needs, strike_needs}
 use Rattle.session.specs.declared.call.Act.TheVariants.{Enter, Strike, Read}

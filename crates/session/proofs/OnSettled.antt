@@ -2,8 +2,8 @@
 -- it.
 -- Idea: the needs of each call but the one that the tables hold together are the book's, and that
 -- one is met where the lengths are right.
-use Rattle.std.proofs.Common.{◌≡◌, ◌≢◌, ℕ, Bool, List, [], ◌∷◌, length, Some, None}
-use Rattle.std.proofs.Common.{Ok, Err, Option, Result, sym, refl, ap, ◌∙◌, subst, inl, inr, arith}
+use Rattle.std.proofs.Common.{◌≡◌, ◌≢◌, ℕ, Bool, List, [], ◌∷◌, length, Some, None, Ok, Err, Option}
+use Rattle.std.proofs.Common.{Result, sym, refl, ap, ◌∙◌, subst, inl, inr, arith}
 use Rattle.std.specs.Prelude.{MatchOption, ⊤}
 use Rattle.cost.specs.declared.Cost.{Ghosts}
 use Rattle.cost.specs.Columns.{plus, minus}
@@ -35,7 +35,7 @@ use Rattle.session.proofs.Fits.{fits, fits_with, blocks_decided}
 use Rattle.session.proofs.Held.{Keeps, GoesOn, IsReady, each}
 use Rattle.session.proofs.Judging.{goes_on_by, refused_next, accepted_next, never_six}
 use Rattle.session.proofs.Needs.{Mirror, refuses, passes}
-use Rattle.session.proofs.Resting.{OneCall, n, here, book, lent, allowed, still, marks_alone}
+use Rattle.session.proofs.Resting.{OneCall, n, here, book, lent_to, allowed, still, marks_alone}
 use Rattle.session.proofs.Resting.{walk_alone}
 use Rattle.session.proofs.Resting as rest
 use Rattle.session.proofs.Walks.{goes_on}
@@ -45,7 +45,7 @@ module _ {K : Type 0} {kind : Ghosts K} {swaps : Bool} {b : Book K} {s : Settlin
   ready : IsReady kind (n m) (book m) s m.own
   ready = m.keeps.beyond
 
-  optima_are : HasLengths (lent m) → optima (grid kind (lent m)) ≡ optima (book m)
+  optima_are : HasLengths (lent_to m) → optima (grid kind (lent_to m)) ≡ optima (book m)
   optima_are = rest.optima_are m (λ table e. e) ready
 
   -- a call that leaves all tables
@@ -55,7 +55,7 @@ module _ {K : Type 0} {kind : Ghosts K} {swaps : Bool} {b : Book K} {s : Settlin
   -- ---- Quote
 
   module _ (l r : ℕ) where
-    stands_is : HasLengths (lent m) → AreBlocks (n m) l r
+    stands_is : HasLengths (lent_to m) → AreBlocks (n m) l r
         → says_stands (byte_of (n m) m.x.standing l r) ≡ stands_in b.cells l r
     stands_is h are =
         ap (λ t. says_stands (byte_of t.size t.standing l r))
@@ -64,7 +64,7 @@ module _ {K : Type 0} {kind : Ghosts K} {swaps : Bool} {b : Book K} {s : Settlin
         are.right_below
 
     quote_mirror : Mirror (needs kind (n m) b.cells (lengths m.x) (Quote l r))
-        (quote_needs kind (lent m) l r)
+        (quote_needs kind (lent_to m) l r)
     quote_mirror = inl (
       fits (n m) m.x,
       refl,
@@ -80,8 +80,8 @@ module _ {K : Type 0} {kind : Ghosts K} {swaps : Bool} {b : Book K} {s : Settlin
           ),
     )
 
-    quoted : (q : K × K) → HasLengths (lent m) → AreBlocks (n m) l r
-        → IsQuote kind (lent m) l r q
+    quoted : (q : K × K) → HasLengths (lent_to m) → AreBlocks (n m) l r
+        → IsQuote kind (lent_to m) l r q
         → IsQuoted kind (n m) (b.cells l r) s.settlement l r q
     quoted q h are is =
         let own = rest.own_lent m (λ table e. e) ready h in
@@ -103,8 +103,8 @@ module _ {K : Type 0} {kind : Ghosts K} {swaps : Bool} {b : Book K} {s : Settlin
         → GoesOn kind (n m) b s (Quote l r) (lengths m.x) o state m.own'
     quotes o state h =
         goes_on_by kind (n m) b s (Quote l r) (lengths m.x) o (here m) m.own'
-        (quote_needs kind (lent m) l r) (λ q. q) h.0 state h.1 (IsQuote kind (lent m) l r) ⊤ h.2
-        h.4 (allowed m (Quote l r) refl) quote_mirror (λ e. cc, (λ e. cc, (λ e. cc, tt)))
+        (quote_needs kind (lent_to m) l r) (λ q. q) h.0 state h.1 (IsQuote kind (lent_to m) l r) ⊤
+        h.2 h.4 (allowed m (Quote l r) refl) quote_mirror (λ e. cc, (λ e. cc, (λ e. cc, tt)))
         (λ q met is. (quoted q met.0 met.1.1.0 is, all_stay h.3)) (λ _. all_stay h.3)
 
   -- ---- Total
@@ -114,8 +114,8 @@ module _ {K : Type 0} {kind : Ghosts K} {swaps : Bool} {b : Book K} {s : Settlin
       → GoesOn kind (n m) b s Total (lengths m.x) o state m.own'
   totals o state h =
       goes_on_by kind (n m) b s Total (lengths m.x) o (here m) m.own'
-      (total_needs kind (lent m)) (λ sum. sum) h.0 state h.1
-      (λ sum. kind.meaning sum ≡ total (grid kind (lent m)) m.x.partners) ⊤ h.2 h.4
+      (total_needs kind (lent_to m)) (λ sum. sum) h.0 state h.1
+      (λ sum. kind.meaning sum ≡ total (grid kind (lent_to m)) m.x.partners) ⊤ h.2 h.4
       (allowed m Total refl)
       (inl (fits (n m) m.x, refl, λ long. (rest.together m (λ table e. e) ready long, tt)))
       (λ e. cc, tt)
@@ -134,11 +134,11 @@ module _ {K : Type 0} {kind : Ghosts K} {swaps : Bool} {b : Book K} {s : Settlin
       → GoesOn kind (n m) b s Marks (lengths m.x) o state m.own'
   marks o state h =
       let same = marks_alone m.x m.x' h.3 in
-      let marked = λ (long : HasLengths (lent m)) (is : AreMarks kind (lent m) m.x'.marks).
+      let marked = λ (long : HasLengths (lent_to m)) (is : AreMarks kind (lent_to m) m.x'.marks).
       subst (λ ps. MarksOf (n m) ps m.x'.marks) (optima_are long) is.marks in
       goes_on_by kind (n m) b s Marks (lengths m.x) o (here m) m.own'
-      (marks_needs kind (lent m) (length m.x.marks)) (λ u. m.x'.marks) h.0 state h.1
-      (λ u. AreMarks kind (lent m) m.x'.marks) (m.x'.marks ≡ m.x.marks) h.2 h.4
+      (marks_needs kind (lent_to m) (length m.x.marks)) (λ u. m.x'.marks) h.0 state h.1
+      (λ u. AreMarks kind (lent_to m) m.x'.marks) (m.x'.marks ≡ m.x.marks) h.2 h.4
       (allowed m Marks refl)
       (inl (
         fits_with (n m) m.x (length m.x.marks) (places_of (n m)),
@@ -169,7 +169,7 @@ module _ {K : Type 0} {kind : Ghosts K} {swaps : Bool} {b : Book K} {s : Settlin
 
   module _ (same : SameIn (rests_on settled) m.x' m.x) where
     start_mirror : Mirror (needs kind (n m) b.cells (lengths m.x) Start)
-        (start_needs kind (lent m) (length m.x.walk))
+        (start_needs kind (lent_to m) (length m.x.walk))
     start_mirror = inl (
       fits_with (n m) m.x (length m.x.walk) (n m),
       refl,
@@ -177,7 +177,7 @@ module _ {K : Type 0} {kind : Ghosts K} {swaps : Bool} {b : Book K} {s : Settlin
           (rest.together m (λ table e. e) ready long.0, tt),
     )
 
-    after : (walk : Sheet) → IsStarted kind (lent m) m.sheet walk m.x.walk m.x'.walk
+    after : (walk : Sheet) → IsStarted kind (lent_to m) m.sheet walk m.x.walk m.x'.walk
         → Keeps kind (n m) (record b { phase = walking })
         (record s { walk = Some m.x'.walk ∷ []; earlier = s.walk ∷ s.earlier })
         (state_at walking walk) m.own'
@@ -215,17 +215,17 @@ module _ {K : Type 0} {kind : Ghosts K} {swaps : Bool} {b : Book K} {s : Settlin
     unexplained f w e h = rw e h
 
     starts_by : (a : Result Sheet (Refusal Sheet)) (o : Reply (List ℕ))
-        → o ≡ reply_of m.x'.walk a → Starts kind (lent m) m.sheet m.x.walk m.x'.walk a
+        → o ≡ reply_of m.x'.walk a → Starts kind (lent_to m) m.sheet m.x.walk m.x'.walk a
         → GoesOn kind (n m) b s Start (lengths m.x) o (state_after walking settled a) m.own'
     starts_by (Ok walk) o eo is =
         accepted_next kind (n m) b s Start (lengths m.x) o (state_at walking walk) m.own' m.x'.walk
         eo (allowed m Start refl)
         (passes (needs kind (n m) b.cells (lengths m.x) Start)
-        (start_needs kind (lent m) (length m.x.walk)) start_mirror is.met) tt
+        (start_needs kind (lent_to m) (length m.x.walk)) start_mirror is.met) tt
         (after walk is)
     starts_by (Err r) o eo is =
         let checks = needs kind (n m) b.cells (lengths m.x) Start in
-        let q = refuses checks (start_needs kind (lent m) (length m.x.walk)) r.fault start_mirror
+        let q = refuses checks (start_needs kind (lent_to m) (length m.x.walk)) r.fault start_mirror
         is.unmet in
         refused_next kind (n m) b s Start (lengths m.x) o (state_at settled r.state) m.own' r.fault
         r.shortfall eo (allowed m Start refl) q

@@ -24,7 +24,7 @@ use Rattle.session.specs.Program.{SheetAt, state_at, IsAnswered, pairing_by}
 use Rattle.session.proofs.Fits.{fits_with}
 use Rattle.session.proofs.Held.{AtPlace, HasWalksInTurn, IsReady, Keeps, GoesOn}
 use Rattle.session.proofs.Judging.{goes_on_by, accepted_next}
-use Rattle.session.proofs.Resting.{OneCall, n, here, book, lent, allowed, is_own, still, stay}
+use Rattle.session.proofs.Resting.{OneCall, n, here, book, lent_to, allowed, is_own, still, stay}
 use Rattle.session.proofs.Resting.{on_walk, walk_alone}
 use Rattle.session.proofs.Resting as rest
 use Rattle.session.proofs.Walks.{goes_on, ends}
@@ -46,7 +46,7 @@ module _ {K : Type 0} {kind : Ghosts K} {swaps : Bool} {b : Book K} {s : Settlin
   at : AtPlace (optima (book m)) m.own.walk s.walk
   at = m.keeps.beyond.1
 
-  own_optima : HasLengths (lent m) → optima (grid kind (lent m)) ≡ optima (book m)
+  own_optima : HasLengths (lent_to m) → optima (grid kind (lent_to m)) ≡ optima (book m)
   own_optima = rest.optima_are m on_walk ready
 
   -- ---- Next
@@ -67,18 +67,18 @@ module _ {K : Type 0} {kind : Ghosts K} {swaps : Bool} {b : Book K} {s : Settlin
     own_stays : m.x'.walk ≡ m.x.walk → m.own'.walk ≡ m.own.walk
     own_stays e = (m.hands the_walk).stays refl e
 
-    module _ (long : HasLengths (lent m) × (length m.x.walk ≡ n m)) where
+    module _ (long : HasLengths (lent_to m) × (length m.x.walk ≡ n m)) where
       own_list : m.x.walk ≡ m.own.walk
       own_list = is_own m the_walk refl long.1
 
       -- the list is an optimum pairing of the tables' grid
-      list_optimum : Optimum (grid kind (lent m)) m.x.walk
-      list_optimum = nth_optimum (grid kind (lent m)) at.place m.x.walk
-          (subst (λ list. IsNth (optima (grid kind (lent m))) at.place list) (sym own_list)
+      list_optimum : Optimum (grid kind (lent_to m)) m.x.walk
+      list_optimum = nth_optimum (grid kind (lent_to m)) at.place m.x.walk
+          (subst (λ list. IsNth (optima (grid kind (lent_to m))) at.place list) (sym own_list)
           (subst (λ ps. IsNth ps at.place m.own.walk) (sym (own_optima long.0)) at.is))
 
       -- a step is one from the place of the last pairing
-      module _ (i : ℕ) (before : IsNth (optima (grid kind (lent m))) i m.x.walk) where
+      module _ (i : ℕ) (before : IsNth (optima (grid kind (lent_to m))) i m.x.walk) where
         own_before : IsNth (optima (book m)) i m.own.walk
         own_before = subst (IsNth (optima (book m)) i) own_list
             (subst (λ ps. IsNth ps i m.x.walk) (own_optima long.0) before)
@@ -86,7 +86,7 @@ module _ {K : Type 0} {kind : Ghosts K} {swaps : Bool} {b : Book K} {s : Settlin
         place_is : at.place ≡ i
         place_is = same_place (book m) at.place i m.own.walk at.is own_before
 
-        went_on : IsNth (optima (grid kind (lent m))) (i + 1) m.x'.walk
+        went_on : IsNth (optima (grid kind (lent_to m))) (i + 1) m.x'.walk
             → Keeps kind (n m) b (record s { walk = s.walk ++ Some m.x'.walk ∷ [] }) (here m)
             m.own'
         went_on behind =
@@ -109,7 +109,7 @@ module _ {K : Type 0} {kind : Ghosts K} {swaps : Bool} {b : Book K} {s : Settlin
               as_far = omega (arith, far, next.0, length-append s.walk (Some m.x'.walk ∷ []));
             })
 
-        at_end : i + 1 ≡ length (optima (grid kind (lent m))) → m.x'.walk ≡ m.x.walk
+        at_end : i + 1 ≡ length (optima (grid kind (lent_to m))) → m.x'.walk ≡ m.x.walk
             → Keeps kind (n m) b (record s { walk = s.walk ++ None ∷ [] }) (here m) m.own'
         at_end last stays =
             let last' : i + 1 ≡ length (optima (book m)) =
@@ -130,8 +130,8 @@ module _ {K : Type 0} {kind : Ghosts K} {swaps : Bool} {b : Book K} {s : Settlin
               as_far = omega (arith, all, last', length-append s.walk (None ∷ []));
             })
 
-    stepped : (step : Step) → HasLengths (lent m) × (length m.x.walk ≡ n m)
-        → IsStep kind (lent m) m.x.walk m.x'.walk step
+    stepped : (step : Step) → HasLengths (lent_to m) × (length m.x.walk ≡ n m)
+        → IsStep kind (lent_to m) m.x.walk m.x'.walk step
         → Keeps kind (n m) b (record s { walk = s.walk ++ pairing_by m.x'.walk step ∷ [] })
         (here m) m.own'
     stepped Onward long is = went_on long is.follows.0 is.follows.1 is.follows.2
@@ -143,8 +143,8 @@ module _ {K : Type 0} {kind : Ghosts K} {swaps : Bool} {b : Book K} {s : Settlin
   steps o state h =
       let same = walk_alone m.x m.x' h.3 in
       goes_on_by kind (n m) b s Next (lengths m.x) o (here m) m.own'
-      (next_needs kind (lent m) m.x.walk) (pairing_by m.x'.walk) h.0 state h.1
-      (IsStep kind (lent m) m.x.walk m.x'.walk) (m.x'.walk ≡ m.x.walk) h.2 h.4
+      (next_needs kind (lent_to m) m.x.walk) (pairing_by m.x'.walk) h.0 state h.1
+      (IsStep kind (lent_to m) m.x.walk m.x'.walk) (m.x'.walk ≡ m.x.walk) h.2 h.4
       (allowed m Next refl)
       (inl (
         fits_with (n m) m.x (length m.x.walk) (n m),

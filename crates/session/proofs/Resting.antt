@@ -1,8 +1,7 @@
 -- One call over the sheet's tables, and what it is handed of those that the state rests on.
 -- Idea: a table of the right length is the sheet's own, so from a settle on the tables hold
 -- together and state the book's grid inside.
-use Rattle.std.proofs.Common.{◌≡◌, ℕ, Bool, true, not, length, refl, sym, ap, ◌∙◌}
-use Rattle.std.proofs.Common.{subst}
+use Rattle.std.proofs.Common.{◌≡◌, ℕ, Bool, true, not, length, refl, sym, ap, ◌∙◌, subst}
 use Rattle.std.proofs.lemmas.Bool.{or_left}
 use Rattle.cost.specs.declared.Cost.{Ghosts}
 use Rattle.pairing.specs.Grid.{Grid}
@@ -16,8 +15,7 @@ use Rattle.session.specs.declared.call.Act.{Act}
 use Rattle.session.specs.Book.{Book, Phase, settled, walking, allows, grid_in}
 use Rattle.session.specs.Lists.{Table, TableLists, list_in, SameIn, lent_of, places_in, rests_on}
 use Rattle.session.specs.Lists.{the_costs, the_standing, the_partners, the_left, the_right}
-use Rattle.session.specs.Lists.{the_walk}
-use Rattle.session.specs.Lists.{the_marks}
+use Rattle.session.specs.Lists.{the_walk, the_marks}
 use Rattle.session.specs.Promise.{Settling}
 use Rattle.session.specs.Program.{SheetAt, state_at, HandsAll}
 use Rattle.session.proofs.Cells.{alike}
@@ -46,8 +44,9 @@ module _ {K : Type 0} {kind : Ghosts K} {swaps : Bool} {p : Phase} {b : Book K} 
   abbrev pub book : Grid
   book = grid_in kind n b
 
-  abbrev pub lent : Lent K
-  lent = lent_of n m.x
+  -- the tables that it is handed, as one value
+  abbrev pub lent_to : Lent K
+  lent_to = lent_of n m.x
 
   pub allowed : (act : Act K) → allows p act ≡ true → allows b.phase act ≡ true
   allowed act e = subst (λ q. allows q act ≡ true) m.keeps.phase_is e
@@ -122,8 +121,8 @@ module _ {K : Type 0} {kind : Ghosts K} {swaps : Bool} {p : Phase} {b : Book K} 
     (rests : (table : Table) → rests_on settled table ≡ true → rests_on p table ≡ true)
     (ready : IsReady kind (n m) (book m) s m.own) where
   -- where the lengths are right, the call is handed the sheet's own tables
-  module _ (h : HasLengths (lent m)) where
-    pub own_lent : lent m ≡ lent_of (n m) m.own
+  module _ (h : HasLengths (lent_to m)) where
+    pub own_lent : lent_to m ≡ lent_of (n m) m.own
     own_lent = lent_is (n m) m.own m.x
         (is_own m the_costs (rests the_costs refl) h.room.costs_long)
         (is_own m the_standing (rests the_standing refl) h.room.standing_long)
@@ -131,9 +130,9 @@ module _ {K : Type 0} {kind : Ghosts K} {swaps : Bool} {p : Phase} {b : Book K} 
         (is_own m the_left (rests the_left refl) h.room.left_long)
         (is_own m the_right (rests the_right refl) h.room.right_long)
 
-    pub together : Together kind (lent m)
+    pub together : Together kind (lent_to m)
     together = subst (Together kind) (sym own_lent) ready.together
 
-    pub optima_are : optima (grid kind (lent m)) ≡ optima (book m)
+    pub optima_are : optima (grid kind (lent_to m)) ≡ optima (book m)
     optima_are = ap (λ t. optima (grid kind t)) own_lent
         ∙ (alike kind (n m) b m.own.costs m.own.standing m.keeps.shows).optima

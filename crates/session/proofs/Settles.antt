@@ -25,9 +25,8 @@ use Rattle.sheet.specs.Size.{Sheet, size_of}
 use Rattle.session.specs.declared.call.Act.TheVariants.{Settle}
 use Rattle.session.specs.Book.{Book, opened, settled, stands_in, has_perfect, needs}
 use Rattle.session.specs.Exchange.{Settlement, Reply}
-use Rattle.session.specs.Lists.{lengths, lent_of, the_costs}
-use Rattle.session.specs.Lists.{the_standing}
-use Rattle.session.specs.Lists.{the_partners, the_left, the_right}
+use Rattle.session.specs.Lists.{lengths, lent_of, the_costs, the_standing, the_partners, the_left}
+use Rattle.session.specs.Lists.{the_right}
 use Rattle.session.specs.Promise.{Settling, IsSettlement, settling_of}
 use Rattle.session.specs.Program.{SheetAt, state_at, IsAnswered, reply_of, settlement_in}
 use Rattle.session.specs.Program.{state_after}
@@ -37,7 +36,7 @@ use Rattle.session.proofs.Held.{Shows, Keeps, GoesOn, lent_is, shows_same}
 use Rattle.session.proofs.Judging.{refused_next, accepted_next}
 use Rattle.session.proofs.Needs.{Mirror, refuses, passes}
 use Rattle.session.proofs.OnOpen.{kept_pairs}
-use Rattle.session.proofs.Resting.{OneCall, n, here, book, lent, allowed, own_shows, still}
+use Rattle.session.proofs.Resting.{OneCall, n, here, book, lent_to, allowed, own_shows, still}
 
 -- some pairing is perfect exactly if the list of them has one
 pub perfect_decided : (g : Grid)
@@ -47,24 +46,24 @@ perfect_decided g = (perfects_are g.size g.stands).some
 module _ {K : Type 0} {kind : Ghosts K} {swaps : Bool} {b : Book K} {s : Settling K}
     (m : OneCall kind swaps opened b s) where
   -- where the lengths are right, the call is handed the sheet's own pair tables
-  shown : HasLengths (lent m) → Shows kind (n m) b.cells m.x.costs m.x.standing
+  shown : HasLengths (lent_to m) → Shows kind (n m) b.cells m.x.costs m.x.standing
   shown h = own_shows m
       (record { costs = h.room.costs_long; standing = h.room.standing_long })
 
-  same : HasLengths (lent m) → AlikeInside (grid kind (lent m)) (book m)
+  same : HasLengths (lent_to m) → AlikeInside (grid kind (lent_to m)) (book m)
   same h = alike kind (n m) b m.x.costs m.x.standing (shown h)
 
   -- the book tests for a perfect pairing of the tables' grid
-  paired : HasLengths (lent m) → Decides (has_perfect (n m) (stands_in b.cells))
-      ((p : List ℕ) × PerfectIn (grid kind (lent m)) p)
+  paired : HasLengths (lent_to m) → Decides (has_perfect (n m) (stands_in b.cells))
+      ((p : List ℕ) × PerfectIn (grid kind (lent_to m)) p)
   paired h = subst (λ ps. Decides (ltb 0 (length ps))
-      ((p : List ℕ) × PerfectIn (grid kind (lent m)) p)) (same h).perfects
-      (perfect_decided (grid kind (lent m)))
+      ((p : List ℕ) × PerfectIn (grid kind (lent_to m)) p)) (same h).perfects
+      (perfect_decided (grid kind (lent_to m)))
 
   abbrev checks : List (Bool × Cause)
   checks = needs kind (n m) b.cells (lengths m.x) Settle
 
-  mirror : Mirror checks (settle_needs kind (lent m))
+  mirror : Mirror checks (settle_needs kind (lent_to m))
   mirror = inl (
     fits (n m) m.x,
     refl,
@@ -78,8 +77,8 @@ module _ {K : Type 0} {kind : Ghosts K} {swaps : Bool} {b : Book K} {s : Settlin
     where
       -- ---- Settled
       module _ (sheet' : Sheet)
-          (is : IsSettled kind m.sheet sheet' (lent m) (lent_of (n m) m.x')) where
-        long : HasLengths (lent m)
+          (is : IsSettled kind m.sheet sheet' (lent_to m) (lent_of (n m) m.x')) where
+        long : HasLengths (lent_to m)
         long = is.met.0
 
         own_new : lent_of (n m) m.own' ≡ lent_of (n m) m.x'
@@ -129,15 +128,15 @@ module _ {K : Type 0} {kind : Ghosts K} {swaps : Bool} {b : Book K} {s : Settlin
 
       -- ---- Not settled
       module _ (r : Refusal Sheet)
-          (is : IsUnsettled kind m.sheet r (lent m) (lent_of (n m) m.x')) where
-        long_if_unpaired : r.fault ≡ fault NoPerfectPairing 0 → HasLengths (lent m)
+          (is : IsUnsettled kind m.sheet r (lent_to m) (lent_of (n m) m.x')) where
+        long_if_unpaired : r.fault ≡ fault NoPerfectPairing 0 → HasLengths (lent_to m)
         long_if_unpaired e = ⊎_elim
             (λ u. let c : TableLength ≡ NoPerfectPairing =
             ap (λ (f : Fault). f.cause) (sym u.1 ∙ e) in
             absurd (let z : ⊥ = cc in z))
             (λ u. u.0) is.unmet
 
-        explains : (w : Option Shortfall) → Explains kind (lent m) r.fault w
+        explains : (w : Option Shortfall) → Explains kind (lent_to m) r.fault w
             → MatchOption w (r.fault ≢ fault NoPerfectPairing 0)
             (λ k. (r.fault ≡ fault NoPerfectPairing 0)
             × Unpaired (n m) (stands_in b.cells) k.crowd k.short)
@@ -147,17 +146,17 @@ module _ {K : Type 0} {kind : Ghosts K} {swaps : Bool} {b : Book K} {s : Settlin
 
       settles_by : (a : Result Sheet (Refusal Sheet)) (o : Reply (Settlement K))
           → o ≡ reply_of (settlement_in m.x') a
-          → Settles kind m.sheet (lent m) (lent_of (n m) m.x') a
+          → Settles kind m.sheet (lent_to m) (lent_of (n m) m.x') a
           → GoesOn kind (n m) b s Settle (lengths m.x) o (state_after settled opened a) m.own'
       settles_by (Ok sheet') o eo is =
           accepted_next kind (n m) b s Settle (lengths m.x) o (state_at settled sheet') m.own'
           (settlement_in m.x') eo (allowed m Settle refl)
-          (passes checks (settle_needs kind (lent m)) mirror is.met) (settlement sheet' is)
+          (passes checks (settle_needs kind (lent_to m)) mirror is.met) (settlement sheet' is)
           (after sheet' is)
       settles_by (Err r) o eo is =
           refused_next kind (n m) b s Settle (lengths m.x) o (state_at opened r.state) m.own'
           r.fault r.shortfall eo (allowed m Settle refl)
-          (refuses checks (settle_needs kind (lent m)) r.fault mirror is.unmet)
+          (refuses checks (settle_needs kind (lent_to m)) r.fault mirror is.unmet)
           (explains r is r.shortfall is.explained)
           (subst (λ (k : Sheet). Keeps kind (n m) b s (state_at opened k) m.own') (sym is.same)
           (still m (kept_pairs m.x m.x'

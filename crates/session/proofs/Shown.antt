@@ -31,11 +31,9 @@ use Rattle.session.specs.Example.{whole_numbers, first, second, with_prices, ent
 use Rattle.session.specs.Example.{refusals, settled_calls, walk_calls, calls_again, full, since}
 use Rattle.session.specs.Example.{settled_book, whole, crowded, bare, lower_prices}
 use Rattle.session.specs.Exchange.{Exchange, call_of, verdict_of}
-use Rattle.session.specs.Promise.{AgreesWith, IsSettlement, IsMarked, IsRefusal, HasRightWalks}
-use Rattle.session.specs.Promise.{has_ended}
-use Rattle.session.specs.Promise.{IsReply, IsRight}
-use Rattle.session.specs.Promise.{KeepsPromise, AllRight, Settling, fresh, settling_by}
-use Rattle.session.specs.Promise.{settling_of, book_after}
+use Rattle.session.specs.Promise.{HandsOut, AgreesWith, IsSettlement, IsMarked, IsRefusal}
+use Rattle.session.specs.Promise.{HasRightWalks, has_ended, IsReply, IsRight, KeepsPromise}
+use Rattle.session.specs.Promise.{AllRight, Settling, fresh, settling_by, settling_of, book_after}
 use Rattle.session.proofs.Theorem.{settling_after}
 
 -- what is in the list is perfect
@@ -171,29 +169,15 @@ sound_marked = record { walks = (refl, tt); agree = ((unended [] refl, tt), tt) 
 abbrev on_walk : List (Option (List ℕ)) → Settling ℤ
 on_walk walk = record told_settled { walk = walk; earlier = [] ∷ [] }
 
-sound_begun : HasRightWalks whole_numbers 3 (on_walk (Some first ∷ []))
-sound_begun = record {
-  walks = (refl, (refl, tt));
-  agree = ((unended (Some first ∷ []) refl, (unended [] refl, tt)), tt);
-}
-
-sound_went_on : HasRightWalks whole_numbers 3 (on_walk (Some first ∷ Some second ∷ []))
-sound_went_on = record {
-  walks = (refl, (refl, tt));
-  agree = ((unended (Some first ∷ Some second ∷ []) refl, (unended [] refl, tt)), tt);
-}
-
-sound_ended : HasRightWalks whole_numbers 3 (on_walk (Some first ∷ Some second ∷ None ∷ []))
-sound_ended = record {
-  walks = (refl, (refl, tt));
-  agree = (((λ _. marked), (unended [] refl, tt)), tt);
+sound_on : (walk : List (Option (List ℕ))) → HandsOut (first ∷ second ∷ []) walk
+    → AgreesWith 3 marks walk → HasRightWalks whole_numbers 3 (on_walk walk)
+sound_on walk out agrees = record {
+  walks = (out, (refl, tt));
+  agree = ((agrees, (unended [] refl, tt)), tt);
 }
 
 sound_walked : HasRightWalks whole_numbers 3 told_walked
-sound_walked = record {
-  walks = (refl, (refl, tt));
-  agree = (((λ _. marked), (unended [] refl, tt)), tt);
-}
+sound_walked = sound_on (Some first ∷ Some second ∷ None ∷ None ∷ []) refl (λ _. marked)
 
 sound_again : HasRightWalks whole_numbers 3
     (settling_of whole_numbers 3 struck_grid (with_prices second))
@@ -227,9 +211,12 @@ settled_right =
 
 walk_right : AllRight whole_numbers 3 settled_book told_settled walk_calls
 walk_right =
-    also (is_right refl tt sound_begun)
-    (also (is_right refl tt sound_went_on)
-    (also (is_right refl tt sound_ended)
+    also (is_right refl tt
+    (sound_on (Some first ∷ []) refl (unended (Some first ∷ []) refl)))
+    (also (is_right refl tt (sound_on (Some first ∷ Some second ∷ []) refl
+    (unended (Some first ∷ Some second ∷ []) refl)))
+    (also (is_right refl tt
+    (sound_on (Some first ∷ Some second ∷ None ∷ []) refl (λ _. marked)))
     (also (is_right refl tt sound_walked)
     (also (is_right refl tt sound_walked) tt))))
 

@@ -2,8 +2,8 @@
 -- Idea: a sheet that was just opened holds a blank book, and each step is right and goes on with
 -- the book, by the lemma of its call. So after every call all were right, by an induction along the
 -- program.
-use Rattle.std.proofs.Common.{◌≡◌, ℕ, Bool, false, not, List, [], ◌∷◌, ◌++◌, Ok}
-use Rattle.std.proofs.Common.{sym, refl, ap, subst, inl, inr}
+use Rattle.std.proofs.Common.{◌≡◌, ℕ, Bool, false, not, List, [], ◌∷◌, ◌++◌, Ok, sym, refl, ap}
+use Rattle.std.proofs.Common.{subst, inl, inr}
 use Rattle.std.proofs.lemmas.Bool.{or_left}
 use Rattle.cost.specs.declared.Cost.{Ghosts}
 use Rattle.sheet.specs.Opening.{Opened}

@@ -1,8 +1,7 @@
 -- A run keeps the promise, wherever it ends.
 -- Idea: opening begins a program, and each turn of the loop is one step of it, which the invariant
 -- carries; where the run ends, the law is cited for the calls so far.
-use Rattle.std.proofs.Common.{◌≡◌, false, List, Ok, Err, Result, sym, refl, ap, ◌∙◌, subst}
-use Rattle.std.proofs.Common.{arith}
+use Rattle.std.proofs.Common.{◌≡◌, false, List, Ok, Err, Result, sym, refl, ap, ◌∙◌, subst, arith}
 use Rattle.std.specs.Prelude.{OnOk, is_err}
 use Rattle.session.specs.declared.call.Call.{Call}
 use Rattle.session.specs.declared.call.Lengths.{Lengths}
