@@ -10,18 +10,18 @@ use Rattle.command.specs.declared.command.Command.TheVariants.{Run, Help}
 use Rattle.command.specs.declared.streams.Streams.{Streams}
 use Rattle.command.specs.declared.streams.TheConstants.{WRONG_USAGE}
 
-module _ {W E : Type 0} (written : W → Option (List ℕ)) (told : E → Option (List ℕ))
+module _ {W E : Type 0} (output_of : W → Option (List ℕ)) (errors_of : E → Option (List ℕ))
     (before after : Streams W E) {Z : Type 0} (words : List (String Z)) (usage : List ℕ)
     (Works : ExitCode → Type 0) (code : ExitCode) where
   -- what a program did that was asked for this
   abbrev pub HasDone : Option Command → Type 0
-  HasDone None = Complains written told before after usage WRONG_USAGE code
+  HasDone None = Complains output_of errors_of before after usage WRONG_USAGE code
   HasDone (Some Run) = Works code
-  HasDone (Some Help) = Prints written told before after usage code
+  HasDone (Some Help) = Prints output_of errors_of before after usage code
 
   has_complained : (asked : Option Command) → ((asked ≡ Some Run) ↔ (length words ≤ 1))
       → ((asked ≡ Some Help) ↔ AsksHelp words) → HasDone asked → 1 < length words
-      → ¬ AsksHelp words → Complains written told before after usage WRONG_USAGE code
+      → ¬ AsksHelp words → Complains output_of errors_of before after usage WRONG_USAGE code
   has_complained None run help done many other = done
   has_complained (Some Run) run help done many other =
       let few : length words ≤ 1 = run.0 refl in
@@ -31,7 +31,7 @@ module _ {W E : Type 0} (written : W → Option (List ℕ)) (told : E → Option
   pub obeys : (asked : Option Command) (command : Command)
       → ((asked ≡ Some Run) ↔ (length words ≤ 1)) → ((asked ≡ Some Help) ↔ AsksHelp words)
       → asked ≡ Some command → HasDone (Some command)
-      → Obeys written told before after words usage Works code
+      → Obeys output_of errors_of before after words usage Works code
   obeys asked command run help is does =
       let done : HasDone asked = subst HasDone (sym is) does in
       record {

@@ -7,17 +7,18 @@ use Rattle.command.specs.declared.streams.Streams.{Streams}
 use Rattle.command.specs.declared.streams.TheConstants.{WRONG_USAGE}
 use Rattle.command.specs.Asking.{AsksHelp}
 
-module _ {W E : Type 0} (written : W → Option (List ℕ)) (told : E → Option (List ℕ))
+module _ {W E : Type 0} (output_of : W → Option (List ℕ)) (errors_of : E → Option (List ℕ))
     (before after : Streams W E) where
   -- this text on its output, nothing else, and that it succeeded
   abbrev pub Prints : List ℕ → ExitCode → Type 0
-  Prints text code = Appends (written before.output) (written after.output) text
-      × Keeps (told before.errors) (told after.errors) × (exit_status code ≡ 0)
+  Prints text code = Appends (output_of before.output) (output_of after.output) text
+      × Keeps (errors_of before.errors) (errors_of after.errors) × (exit_status code ≡ 0)
 
   -- this text among its errors, nothing else, and a status
   abbrev pub Complains : (text : List ℕ) (status : ℕ) → ExitCode → Type 0
-  Complains text status code = Keeps (written before.output) (written after.output)
-      × Appends (told before.errors) (told after.errors) text × (exit_status code ≡ status)
+  Complains text status code = Keeps (output_of before.output) (output_of after.output)
+      × Appends (errors_of before.errors) (errors_of after.errors) text
+      × (exit_status code ≡ status)
 
   -- a program that takes no other word than `--help`: it does its work, or tells its usage, on its
   -- output where it was asked for

@@ -9,15 +9,14 @@ use Rattle.command.specs.declared.streams.Streams.{Streams}
 use Rattle.console_words.specs.declared.program.TheConstants.{CONSOLE_USAGE}
 use Rattle.console_words.specs.Conversing.{Converses}
 
-module _ {W E : Type 0} (written : W → Option (List ℕ)) (told : E → Option (List ℕ))
-    (before after : Streams W E) where
+module _ {W E : Type 0} (output_of : W → Option (List ℕ)) (errors_of : E → Option (List ℕ))
+    (before after : Streams W E) (known : Option (List ℕ)) where
   -- its output is that of the whole conversation, nothing is written among its errors, and it
   -- succeeded
-  abbrev pub ConversesOver : (known : Option (List ℕ)) → ExitCode → Type 0
-  ConversesOver known code =
-      IfSome known (λ bytes. Converses bytes (written before.output) (written after.output))
-      × Keeps (told before.errors) (told after.errors) × (exit_status code ≡ 0)
+  abbrev pub ConversesOver : ExitCode → Type 0
+  ConversesOver code =
+      IfSome known (λ bytes. Converses bytes (output_of before.output) (output_of after.output))
+      × Keeps (errors_of before.errors) (errors_of after.errors) × (exit_status code ≡ 0)
 
-  abbrev pub Talks : {Z : Type 0} (words : List (String Z)) (known : Option (List ℕ)) → ExitCode
-      → Type 0
-  Talks words known = Obeys written told before after words CONSOLE_USAGE.now (ConversesOver known)
+  abbrev pub Talks : {Z : Type 0} (words : List (String Z)) → ExitCode → Type 0
+  Talks words = Obeys output_of errors_of before after words CONSOLE_USAGE.now ConversesOver

@@ -28,8 +28,8 @@ pub fn talk<R: BufRead + Drop, W: Write, E: Write>(
     input: R,
     to: &mut Streams<W, E>,
 ) -> io::Result<ExitCode>
-    ensures { IfOk result (Talks W.contents E.contents to.old to.new words.now
-        (R.remaining input)) }
+    ensures { IfOk result (Talks W.contents E.contents to.old to.new (R.remaining input)
+        words.now) }
 {
     match Command::asked(words) {
         Some(Command::Run) => {

@@ -15,20 +15,20 @@ use Rattle.report.specs.declared.form.Form.{Form}
 use Rattle.report.specs.declared.form.Form.TheVariants.{Lines, Map, Help}
 use Rattle.report.specs.declared.programs.TheConstants.{INSPECT_USAGE}
 
-module _ {W E : Type 0} (written : W → Option (List ℕ)) (told : E → Option (List ℕ))
-    (before after : Streams W E) {Z : Type 0} (words : List (String Z))
-    (known : Option (List ℕ)) (code : ExitCode) where
+module _ {W E : Type 0} (output_of : W → Option (List ℕ)) (errors_of : E → Option (List ℕ))
+    (before after : Streams W E) (known : Option (List ℕ)) {Z : Type 0}
+    (words : List (String Z)) (code : ExitCode) where
   -- what the program did that was asked for this
   abbrev pub HasDone : Option Form → Type 0
-  HasDone None = Complains written told before after INSPECT_USAGE.now WRONG_USAGE code
-  HasDone (Some Lines) = PrintsOf written told before after words known code Describes
-  HasDone (Some Map) = PrintsOf written told before after words known code Draws
-  HasDone (Some Help) = Prints written told before after INSPECT_USAGE.now code
+  HasDone None = Complains output_of errors_of before after INSPECT_USAGE.now WRONG_USAGE code
+  HasDone (Some Lines) = PrintsOf output_of errors_of before after known Describes code
+  HasDone (Some Map) = PrintsOf output_of errors_of before after known Draws code
+  HasDone (Some Help) = Prints output_of errors_of before after INSPECT_USAGE.now code
 
   has_complained : (asked : Option Form) → ((asked ≡ Some Lines) ↔ (length words ≤ 1))
       → ((asked ≡ Some Map) ↔ AsksMap words) → ((asked ≡ Some Help) ↔ AsksHelp words)
       → HasDone asked → 1 < length words → ¬ AsksMap words → ¬ AsksHelp words
-      → Complains written told before after INSPECT_USAGE.now WRONG_USAGE code
+      → Complains output_of errors_of before after INSPECT_USAGE.now WRONG_USAGE code
   has_complained None lines map help done many other no_help = done
   has_complained (Some Lines) lines map help done many other no_help =
       let few : length words ≤ 1 = lines.0 refl in
@@ -40,7 +40,7 @@ module _ {W E : Type 0} (written : W → Option (List ℕ)) (told : E → Option
   pub inspects : (asked : Option Form) (form : Form)
       → ((asked ≡ Some Lines) ↔ (length words ≤ 1)) → ((asked ≡ Some Map) ↔ AsksMap words)
       → ((asked ≡ Some Help) ↔ AsksHelp words) → asked ≡ Some form → HasDone (Some form)
-      → Inspects written told before after words known code
+      → Inspects output_of errors_of before after known words code
   inspects asked form lines map help is does =
       let done : HasDone asked = subst HasDone (sym is) does in
       record {

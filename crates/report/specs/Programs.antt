@@ -13,22 +13,22 @@ use Rattle.report.specs.Describing.{Describes}
 use Rattle.report.specs.Drawing.{Draws}
 use Rattle.report.specs.Listing.{Lists}
 
-module _ {W E : Type 0} (written : W → Option (List ℕ)) (told : E → Option (List ℕ))
-    (before after : Streams W E) {Z : Type 0} (words : List (String Z))
-    (known : Option (List ℕ)) (code : ExitCode) where
+module _ {W E : Type 0} (output_of : W → Option (List ℕ)) (errors_of : E → Option (List ℕ))
+    (before after : Streams W E) (known : Option (List ℕ)) where
   -- one text was printed, and it is what a way to tell files tells of the input up to the cut
-  abbrev pub PrintsOf : (TellsFile : (file text : List ℕ) → Type 0) → Type 0
-  PrintsOf TellsFile = (text : List ℕ)
+  abbrev pub PrintsOf : (TellsFile : (file text : List ℕ) → Type 0) → ExitCode → Type 0
+  PrintsOf TellsFile code = (text : List ℕ)
       × IfSome known (λ bytes. TellsFile (take MOST_BYTES bytes) text)
-      × Prints written told before after text code
+      × Prints output_of errors_of before after text code
 
   -- the words ask for lines, for a map, for the usage, or for nothing that the program knows
-  pub record Inspects : Type 0 where
-    pub lines : length words ≤ 1 → PrintsOf Describes
-    pub map : AsksMap words → PrintsOf Draws
-    pub help : AsksHelp words → Prints written told before after INSPECT_USAGE.now code
+  pub record Inspects {Z : Type 0} (words : List (String Z)) (code : ExitCode) : Type 0 where
+    pub lines : length words ≤ 1 → PrintsOf Describes code
+    pub map : AsksMap words → PrintsOf Draws code
+    pub help : AsksHelp words → Prints output_of errors_of before after INSPECT_USAGE.now code
     pub misuse : 1 < length words → ¬ AsksMap words → ¬ AsksHelp words
-        → Complains written told before after INSPECT_USAGE.now WRONG_USAGE code
+        → Complains output_of errors_of before after INSPECT_USAGE.now WRONG_USAGE code
 
-  abbrev pub ListsInput : Type 0
-  ListsInput = Obeys written told before after words LISTING_USAGE.now (λ _. PrintsOf Lists) code
+  abbrev pub ListsInput : {Z : Type 0} (words : List (String Z)) → ExitCode → Type 0
+  ListsInput words =
+      Obeys output_of errors_of before after words LISTING_USAGE.now (PrintsOf Lists)

@@ -40,8 +40,8 @@ pub fn inspect<R: Read + Drop, W: Write, E: Write>(
     input: R,
     to: &mut Streams<W, E>,
 ) -> io::Result<ExitCode>
-    ensures { IfOk result (Inspects W.contents E.contents to.old to.new words.now
-        (R.remaining input)) }
+    ensures { IfOk result (Inspects W.contents E.contents to.old to.new (R.remaining input)
+        words.now) }
 {
     match Form::asked(words) {
         Some(Form::Lines) => to.print(describe_input(heap, input)?.as_str()),
@@ -60,8 +60,8 @@ pub fn listing<R: Read + Drop, W: Write, E: Write>(
     input: R,
     to: &mut Streams<W, E>,
 ) -> io::Result<ExitCode>
-    ensures { IfOk result (ListsInput W.contents E.contents to.old to.new words.now
-        (R.remaining input)) }
+    ensures { IfOk result (ListsInput W.contents E.contents to.old to.new (R.remaining input)
+        words.now) }
 {
     match Command::asked(words) {
         Some(Command::Run) => to.print(list_input(heap, input)?.as_str()),

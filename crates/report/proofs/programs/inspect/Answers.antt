@@ -12,16 +12,16 @@ use Rattle.report.proofs.programs.inspect.Goals as goal
 
 pub returns-in_ok-describe_input-in-Some-Lines : goal.returns-in_ok-describe_input-in-Some-Lines
 returns-in_ok-describe_input-in-Some-Lines g c =
-    let written = g.W.Write.contents in
-    let told = g.E.Write.contents in
+    let output_of = g.W.Write.contents in
+    let errors_of = g.E.Write.contents in
     let to = c.args.to.now in
     let to' = c.print.new.self in
     let words = c.args.words.now in
     let known = g.R.Read.remaining c.args.input in
     let text = c.as_str.result.now in
-    IfOk-weaker c.print.result (Prints written told to to' text)
-    (Inspects written told to to' words known)
-    (λ code printed. inspects written told to to' words known code c.asked.result Lines
+    IfOk-weaker c.print.result (Prints output_of errors_of to to' text)
+    (Inspects output_of errors_of to to' known words)
+    (λ code printed. inspects output_of errors_of to to' known words code c.asked.result Lines
     c.asked.ensures.lines c.asked.ensures.map c.asked.ensures.help
     (c.in-Some-Lines.is ∙ ap Some c.in-Some-Lines.field-0-is) (
       text,
@@ -33,16 +33,16 @@ returns-in_ok-describe_input-in-Some-Lines g c =
 
 pub returns-in_ok-draw_input-in-Some-Map : goal.returns-in_ok-draw_input-in-Some-Map
 returns-in_ok-draw_input-in-Some-Map g c =
-    let written = g.W.Write.contents in
-    let told = g.E.Write.contents in
+    let output_of = g.W.Write.contents in
+    let errors_of = g.E.Write.contents in
     let to = c.args.to.now in
     let to' = c.print-in-Some-Map.new.self in
     let words = c.args.words.now in
     let known = g.R.Read.remaining c.args.input in
     let text = c.as_str-in-Some-Map.result.now in
-    IfOk-weaker c.print-in-Some-Map.result (Prints written told to to' text)
-    (Inspects written told to to' words known)
-    (λ code printed. inspects written told to to' words known code c.asked.result Map
+    IfOk-weaker c.print-in-Some-Map.result (Prints output_of errors_of to to' text)
+    (Inspects output_of errors_of to to' known words)
+    (λ code printed. inspects output_of errors_of to to' known words code c.asked.result Map
     c.asked.ensures.lines c.asked.ensures.map c.asked.ensures.help
     (c.in-Some-Map.is ∙ ap Some c.in-Some-Map.field-0-is) (
       text,

@@ -12,17 +12,17 @@ use Rattle.report.proofs.programs.listing.Goals as goal
 
 pub returns-in_ok-list_input-in-Some-Run : goal.returns-in_ok-list_input-in-Some-Run
 returns-in_ok-list_input-in-Some-Run g c =
-    let written = g.W.Write.contents in
-    let told = g.E.Write.contents in
+    let output_of = g.W.Write.contents in
+    let errors_of = g.E.Write.contents in
     let to = c.args.to.now in
     let to' = c.print.new.self in
     let words = c.args.words.now in
     let known = g.R.Read.remaining c.args.input in
     let text = c.as_str.result.now in
-    IfOk-weaker c.print.result (Prints written told to to' text)
-    (ListsInput written told to to' words known)
-    (λ code printed. obeys written told to to' words LISTING_USAGE.now
-    (λ _. PrintsOf written told to to' words known code Lists) code c.asked.result Run
+    IfOk-weaker c.print.result (Prints output_of errors_of to to' text)
+    (ListsInput output_of errors_of to to' known words)
+    (λ code printed. obeys output_of errors_of to to' words LISTING_USAGE.now
+    (PrintsOf output_of errors_of to to' known Lists) code c.asked.result Run
     c.asked.ensures.run c.asked.ensures.help (c.in-Some-Run.is ∙ ap Some c.in-Some-Run.field-0-is) (
       text,
       subst (λ t. IfSome known (λ bytes. Lists (take MOST_BYTES bytes) t))
