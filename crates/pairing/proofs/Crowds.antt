@@ -127,8 +127,11 @@ module _ (n : ℕ) (stands : ℕ → ℕ → Bool) where
             λ q G g. omega (arith, few q G g, pairs_and_out n out, pairs_and_out n G);
       }
 
-  held_tells : (p : List ℕ) (out : ℕ → Bool) (r : ℕ)
-      → Decides (some_below n (λ x. not (out x) && eqb (at p x) r)) (Held n p out r)
+  is_held : (p : List ℕ) (out : ℕ → Bool) (r : ℕ) → Bool
+  is_held p out r = some_below n (λ x. not (out x) && eqb (at p x) r)
+
+  held_tells : (p : List ℕ) (out : ℕ → Bool) (r : ℕ) → Decides (is_held p out r) (Held n p out r)
+  unfolding is_held
   held_tells p out r =
       let d = some_tells n (λ x. not (out x) && eqb (at p x) r) in (
         λ e. let w = d.0 e in let b = and_parts (not (out w.0)) (eqb (at p w.0) r) w.2 in
@@ -355,7 +358,7 @@ module _ (n : ℕ) (stands : ℕ → ℕ → Bool) (p : List ℕ) (out : ℕ →
 
   -- a chain that ends at r, which is free: a pairing that leaves one fewer out
   larger : (l r : ℕ) → Reached n stands p out l → r < n → stands l r ≡ true
-      → some_below n (λ x. not (out x) && eqb (at p x) r) ≡ false
+      → is_held n stands p out r ≡ false
       → (q : List ℕ) × (out' : ℕ → Bool) × Partial n stands q out'
       × (members n out ≡ suc (members n out'))
   larger l r w j t e =
@@ -365,7 +368,7 @@ module _ (n : ℕ) (stands : ℕ → ℕ → Bool) (p : List ℕ) (out : ℕ →
 
   pub largest_stuck : Largest n stands p out → Stuck n stands p out
   largest_stuck h l r w j t =
-      elim (cases_Bool (some_below n (λ x. not (out x) && eqb (at p x) r))) [
+      elim (cases_Bool (is_held n stands p out r)) [
         | inl e ↦ (held_tells n stands p out r).0 e
         | inr e ↦ let v = larger l r w j t e in
             absurd (omega (arith, v.3, fewest n stands p out h v.0 v.1 v.2))
@@ -373,7 +376,7 @@ module _ (n : ℕ) (stands : ℕ → ℕ → Bool) (p : List ℕ) (out : ℕ →
 
   -- some chain ends at a free right block, or none does
   open_step : ℕ → ℕ → Bool
-  open_step l r = (D l && stands l r) && not (some_below n (λ x. not (out x) && eqb (at p x) r))
+  open_step l r = (D l && stands l r) && not (is_held n stands p out r)
 
   better_or_stuck : ((q : List ℕ) × (out' : ℕ → Bool) × Partial n stands q out'
       × (members n out ≡ suc (members n out'))) ⊎ Stuck n stands p out
@@ -385,8 +388,7 @@ module _ (n : ℕ) (stands : ℕ → ℕ → Bool) (p : List ℕ) (out : ℕ →
         let a = and_parts (D w.0 && stands w.0 v.0) _ v.2 in
         let b = and_parts (D w.0) (stands w.0 v.0) a.0 in
         inl (larger w.0 v.0 (in_reached w.0 w.1 b.0) v.1 b.1 (not-true _ a.1))
-    | inr e ↦ inr (λ l r w j t. elim
-        (cases_Bool (some_below n (λ x. not (out x) && eqb (at p x) r))) [
+    | inr e ↦ inr (λ l r w j t. elim (cases_Bool (is_held n stands p out r)) [
           | inl h ↦ (held_tells n stands p out r).0 h
           | inr h ↦
               let step = and_from _ _ (and_from _ _ (reached_in l w) t) (not_from_false _ h) in

@@ -3,75 +3,80 @@
 -- Everything else is said of perfect pairings and of standing pairs. One direction suffices, since
 -- the grids can change places. Their sizes and columns are taken as the very same first.
 use Rattle.std.proofs.Common.{◌≡◌, ℕ, zero, suc, ◌<◌, ◌≤◌, Bool, true, List, length, ℤ, sym}
-use Rattle.std.proofs.Common.{refl, ap, ◌∙◌, subst, ap₂, ltb, ◌&&◌, arith}
+use Rattle.std.proofs.Common.{refl, ap, ◌∙◌, subst, ap₂, ltb, ◌&&◌, ◌↔◌, arith}
 use Rattle.cost.specs.declared.TheConstants.{COST_LIMIT}
 use Rattle.cost.specs.Columns.{Within, plus}
 use Rattle.pairing.specs.Grid.{Grid, Sane, at, PerfectIn, total_of, total, Upto, Optimum}
 use Rattle.pairing.specs.Prices.{Valid, Greatest}
 use Rattle.pairing.specs.Optima.{perfects, optima, has_pair, Marked}
-use Rattle.pairing.specs.Inside.{Alike}
+use Rattle.pairing.specs.Inside.{SameInside}
 use Rattle.pairing.specs.Theorems.{AlikeInside, InsideMatters}
 use Rattle.pairing.proofs.Listing.{in_perfects, in_optima, perfects_ascend, optima_ascend}
 use Rattle.pairing.proofs.Listing.{ascending_same}
 use Rattle.pairing.proofs.Alike.{alike_back, perfect_like, perfect_alike, largest_like}
 use Rattle.pairing.proofs.Alike.{unpaired_like}
 
--- each pair that stands by one test costs the same by both
-abbrev CostAlike : ℕ → (ℕ → ℕ → Bool) → (ℕ → ℕ → List ℤ) → (ℕ → ℕ → List ℤ) → Type 0
-CostAlike n s c d = (l r : ℕ) → l < n → r < n → s l r ≡ true → c l r ≡ d l r
-
-cost_back : (n : ℕ) (s t : ℕ → ℕ → Bool) (c d : ℕ → ℕ → List ℤ) → Alike n s t → CostAlike n s c d
-    → CostAlike n t d c
-cost_back n s t c d e f l r i j k = sym (f l r i j (e l r i j ∙ k))
+-- a grid of the same size and columns
+abbrev other : Grid → (ℕ → ℕ → Bool) → (ℕ → ℕ → List ℤ) → Grid
+other g stands cost = record {
+  size = g.size;
+  columns = g.columns;
+  stands = stands;
+  cost = cost;
+}
 
 -- ---- from one grid to another of the same size and columns
-module _ (n columns : ℕ) (s t : ℕ → ℕ → Bool) (c d : ℕ → ℕ → List ℤ) (e : Alike n s t)
-    (f : CostAlike n s c d) where
-  abbrev from : Grid
-  from = record { size = n; columns = columns; stands = s; cost = c }
+module _ (g : Grid) (t : ℕ → ℕ → Bool) (d : ℕ → ℕ → List ℤ) (i : SameInside g (other g t d)) where
+  abbrev h : Grid
+  h = other g t d
 
-  abbrev to : Grid
-  to = record { size = n; columns = columns; stands = t; cost = d }
-
-  sane_like : Sane from → Sane to
-  sane_like h = record {
-    few = h.few;
-    sized = λ l r i j k. let u = e l r i j ∙ k in
-        subst (λ xs. length xs ≡ columns) (f l r i j u) (h.sized l r i j u);
-    small = λ l r i j k. let u = e l r i j ∙ k in
-        subst (Within COST_LIMIT) (f l r i j u) (h.small l r i j u);
+  turned : SameInside h g
+  turned = record {
+    size = refl;
+    columns = refl;
+    stands = alike_back g.size g.stands t i.stands;
+    cost = λ l r a b k. sym (i.cost l r a b (i.stands l r a b ∙ k));
   }
 
-  costs_like : (p : List ℕ) → PerfectIn from p → (k : ℕ) → k ≤ n
-      → total_of from p k ≡ total_of to p k
-  costs_like p h zero i = refl
-  costs_like p h (suc k) i =
-      ap₂ plus (costs_like p h k (omega arith))
-      (f k (at p k) (omega arith) (h.below k (omega arith)) (h.standing k (omega arith)))
+  sane_like : Sane g → Sane h
+  sane_like s = record {
+    few = s.few;
+    sized = λ l r a b k. let u = i.stands l r a b ∙ k in
+        subst (λ xs. length xs ≡ g.columns) (i.cost l r a b u) (s.sized l r a b u);
+    small = λ l r a b k. let u = i.stands l r a b ∙ k in
+        subst (Within COST_LIMIT) (i.cost l r a b u) (s.small l r a b u);
+  }
 
-  total_like : (p : List ℕ) → PerfectIn from p → total from p ≡ total to p
-  total_like p h = costs_like p h n (omega arith)
+  costs_like : (p : List ℕ) → PerfectIn g p → (k : ℕ) → k ≤ g.size
+      → total_of g p k ≡ total_of h p k
+  costs_like p f zero b = refl
+  costs_like p f (suc k) b =
+      ap₂ plus (costs_like p f k (omega arith))
+      (i.cost k (at p k) (omega arith) (f.below k (omega arith)) (f.standing k (omega arith)))
 
-  optimum_like : (p : List ℕ) → Optimum from p → Optimum to p
+  total_like : (p : List ℕ) → PerfectIn g p → total g p ≡ total h p
+  total_like p f = costs_like p f g.size (omega arith)
+
+  optimum_like : (p : List ℕ) → Optimum g p → Optimum h p
   optimum_like p o = record {
-    perfect = perfect_like n s t e p o.perfect;
-    least = λ q h.
-        let k = perfect_like n t s (alike_back n s t e) q h in
-        subst (λ x. Upto x (total to q)) (total_like p o.perfect)
-        (subst (Upto (total from p)) (total_like q k) (o.least q k));
+    perfect = perfect_like g.size g.stands t i.stands p o.perfect;
+    least = λ q f.
+        let k = perfect_like g.size t g.stands turned.stands q f in
+        subst (λ x. Upto x (total h q)) (total_like p o.perfect)
+        (subst (Upto (total g p)) (total_like q k) (o.least q k));
   }
 
-  valid_like : (left right : ℕ → List ℤ) (p : List ℕ) → PerfectIn from p → Valid from left right p
-      → Valid to left right p
-  valid_like left right p h v = record {
+  valid_like : (left right : ℕ → List ℤ) (p : List ℕ) → PerfectIn g p → Valid g left right p
+      → Valid h left right p
+  valid_like left right p f v = record {
     lefts = v.lefts;
     rights = v.rights;
-    under = λ l r i j k. let u = e l r i j ∙ k in
-        subst (Upto (plus (left l) (right r))) (f l r i j u) (v.under l r i j u);
-    equal = λ l i. v.equal l i ∙ f l (at p l) i (h.below l i) (h.standing l i);
+    under = λ l r a b k. let u = i.stands l r a b ∙ k in
+        subst (Upto (plus (left l) (right r))) (i.cost l r a b u) (v.under l r a b u);
+    equal = λ l a. v.equal l a ∙ i.cost l (at p l) a (f.below l a) (f.standing l a);
   }
 
-  marked_like : (l r : ℕ) → Marked from l r → Marked to l r
+  marked_like : (l r : ℕ) → Marked g l r → Marked h l r
   marked_like l r m = record {
     inside = m.inside;
     pairing = m.pairing;
@@ -80,81 +85,76 @@ module _ (n columns : ℕ) (s t : ℕ → ℕ → Bool) (c d : ℕ → ℕ → L
   }
 
 -- ---- and back
-module _ (n columns : ℕ) (s t : ℕ → ℕ → Bool) (c d : ℕ → ℕ → List ℤ) (e : Alike n s t)
-    (f : CostAlike n s c d) where
-  e' : Alike n t s
-  e' = alike_back n s t e
+module _ (g : Grid) (t : ℕ → ℕ → Bool) (d : ℕ → ℕ → List ℤ) (i : SameInside g (other g t d)) where
+  back : SameInside (h g t d i) g
+  back = turned g t d i
 
-  f' : CostAlike n t d c
-  f' = cost_back n s t c d e f
-
-  abbrev one : Grid
-  one = from n columns s t c d e f
-
-  abbrev other : Grid
-  other = to n columns s t c d e f
-
-  there : (p : List ℕ) → Optimum one p → Optimum other p
-  there = optimum_like n columns s t c d e f
-
-  back : (p : List ℕ) → Optimum other p → Optimum one p
-  back = optimum_like n columns t s d c e' f'
-
-  greatest_like : (left right : ℕ → List ℤ) (p : List ℕ) → PerfectIn one p
-      → Greatest one left right p → Greatest other left right p
-  greatest_like left right p h g = record {
-    valid = valid_like n columns s t c d e f left right p h g.valid;
-    low = g.low;
-    most = λ left' right' v. g.most left' right'
-        (valid_like n columns t s d c e' f' left' right' p (perfect_like n s t e p h) v);
+  greatest_like : (left right : ℕ → List ℤ) (p : List ℕ) → PerfectIn g p
+      → Greatest g left right p → Greatest (h g t d i) left right p
+  greatest_like left right p f top = record {
+    valid = valid_like g t d i left right p f top.valid;
+    low = top.low;
+    most = λ left' right' v. top.most left' right'
+        (valid_like (h g t d i) g.stands g.cost back left' right' p
+        (perfect_like g.size g.stands t i.stands p f) v);
   }
 
-  perfects_like : perfects n s ≡ perfects n t
+  perfects_like : perfects g.size g.stands ≡ perfects g.size t
   perfects_like =
-      ascending_same (perfects n s) (perfects n t) (perfects_ascend n s) (perfects_ascend n t)
-      (λ p. (
-        λ i. (in_perfects n t p).1 (perfect_like n s t e p ((in_perfects n s p).0 i)),
-        λ i. (in_perfects n s p).1 (perfect_like n t s e' p ((in_perfects n t p).0 i)),
-      ))
+      ascending_same (perfects g.size g.stands) (perfects g.size t)
+      (perfects_ascend g.size g.stands) (perfects_ascend g.size t) (λ p.
+      let from = in_perfects g.size g.stands p in
+      let to = in_perfects g.size t p in
+      let are = perfect_alike g.size g.stands t i.stands p in
+      (λ c. to.1 (are.0 (from.0 c)), λ c. from.1 (are.1 (to.0 c))))
 
-  optima_like : optima one ≡ optima other
+  optimum_alike : (p : List ℕ) → Optimum g p ↔ Optimum (h g t d i) p
+  optimum_alike p =
+      (optimum_like g t d i p, optimum_like (h g t d i) g.stands g.cost back p)
+
+  optima_like : optima g ≡ optima (h g t d i)
   optima_like =
-      ascending_same (optima one) (optima other) (optima_ascend one) (optima_ascend other) (λ p. (
-        λ i. (in_optima other p).1 (there p ((in_optima one p).0 i)),
-        λ i. (in_optima one p).1 (back p ((in_optima other p).0 i)),
-      ))
+      ascending_same (optima g) (optima (h g t d i)) (optima_ascend g)
+      (optima_ascend (h g t d i)) (λ p.
+      let from = in_optima g p in
+      let to = in_optima (h g t d i) p in
+      let are = optimum_alike p in
+      (λ c. to.1 (are.0 (from.0 c)), λ c. from.1 (are.1 (to.0 c))))
 
-module _ (n columns : ℕ) (s t : ℕ → ℕ → Bool) (c d : ℕ → ℕ → List ℤ) (e : Alike n s t)
-    (f : CostAlike n s c d) where
-  alike_at : AlikeInside (one n columns s t c d e f) (other n columns s t c d e f)
-  alike_at =
-      let back_e = e' n columns s t c d e f in
-      let back_f = f' n columns s t c d e f in
-      record {
-        sane = (sane_like n columns s t c d e f, sane_like n columns t s d c back_e back_f);
-        perfect = perfect_alike n s t e;
-        perfects = perfects_like n columns s t c d e f;
-        totals = total_like n columns s t c d e f;
-        optimum = λ p. (there n columns s t c d e f p, back n columns s t c d e f p);
-        optima = optima_like n columns s t c d e f;
-        valid = λ left right p h. (
-          valid_like n columns s t c d e f left right p h,
-          valid_like n columns t s d c back_e back_f left right p (perfect_like n s t e p h),
-        );
-        greatest = λ left right p h. (
-          greatest_like n columns s t c d e f left right p h,
-          greatest_like n columns t s d c back_e back_f left right p (perfect_like n s t e p h),
-        );
-        largest = λ p out. (largest_like n s t e p out, largest_like n t s back_e p out);
-        unpaired = λ crowd short.
-            (unpaired_like n s t e crowd short, unpaired_like n t s back_e crowd short);
-        marked = λ l r. (
-          marked_like n columns s t c d e f l r,
-          marked_like n columns t s d c back_e back_f l r,
-        );
-        is_marked = λ l r. ap (λ ps. ltb l n && has_pair l r ps)
-            (optima_like n columns s t c d e f);
-      }
+alike_at : (g : Grid) (t : ℕ → ℕ → Bool) (d : ℕ → ℕ → List ℤ) → SameInside g (other g t d)
+    → AlikeInside g (other g t d)
+alike_at g t d i =
+    let there = other g t d in
+    let b = back g t d i in
+    record {
+      sane = (sane_like g t d i, sane_like there g.stands g.cost b);
+      perfect = perfect_alike g.size g.stands t i.stands;
+      perfects = perfects_like g t d i;
+      totals = total_like g t d i;
+      optimum = optimum_alike g t d i;
+      optima = optima_like g t d i;
+      valid = λ left right p f. (
+        valid_like g t d i left right p f,
+        valid_like there g.stands g.cost b left right p
+            (perfect_like g.size g.stands t i.stands p f),
+      );
+      greatest = λ left right p f. (
+        greatest_like g t d i left right p f,
+        greatest_like there g.stands g.cost b left right p
+            (perfect_like g.size g.stands t i.stands p f),
+      );
+      largest = λ p out. (
+        largest_like g.size g.stands t i.stands p out,
+        largest_like g.size t g.stands b.stands p out,
+      );
+      unpaired = λ crowd short. (
+        unpaired_like g.size g.stands t i.stands crowd short,
+        unpaired_like g.size t g.stands b.stands crowd short,
+      );
+      marked = λ l r.
+          (marked_like g t d i l r, marked_like there g.stands g.cost b l r);
+      is_marked = λ l r. ap (λ ps. ltb l g.size && has_pair l r ps) (optima_like g t d i);
+    }
 
 pub inside_matters : InsideMatters
 inside_matters g h i =
@@ -162,4 +162,5 @@ inside_matters g h i =
     (record { size = h.size; columns = k; stands = h.stands; cost = h.cost })) i.columns
     (subst (λ k. AlikeInside g
     (record { size = k; columns = g.columns; stands = h.stands; cost = h.cost })) i.size
-    (alike_at g.size g.columns g.stands h.stands g.cost h.cost i.stands i.cost))
+    (alike_at g h.stands h.cost
+    (record { size = refl; columns = refl; stands = i.stands; cost = i.cost })))

@@ -4,17 +4,18 @@
 -- through them; where it passes, the fact holds.
 use Rattle.std.proofs.Common.{◌≡◌, ℕ, ◌<◌, Bool, true, false, not, ◌&&◌, ◌||◌, eqb, ltb, leb, List}
 use Rattle.std.proofs.Common.{length, ℤ, Decides, sym, refl, subst}
-use Rattle.std.proofs.Common.{inl, inr}
+use Rattle.std.proofs.Common.{inl, inr, arith}
 use Rattle.std.specs.Ordering.{is_eq}
 use Rattle.std.specs.Cmp.{Equal-is}
 use Rattle.std.proofs.lemmas.Bool.{and_parts, or_cases, eqb-true, leb-true, ltb-true, both_ways}
-use Rattle.std.proofs.lemmas.Bool.{true≢false, not-true}
+use Rattle.std.proofs.lemmas.Bool.{not-true}
+use Rattle.std.proofs.lemmas.Bool.Decides.{nat_tests}
 use Rattle.blockset.specs.declared.TheConstants.{MOST_BLOCKS}
 use Rattle.cost.specs.declared.TheConstants.{RAIL, COST_LIMIT}
 use Rattle.cost.specs.Columns.{within, zeros, plus, lex}
 use Rattle.cost.proofs.Exact.{within_tells}
 use Rattle.cost.proofs.Order.{lex_same}
-use Rattle.pairing.specs.Grid.{Grid, Sane, at, PerfectIn}
+use Rattle.pairing.specs.Grid.{Grid, right_count, Sane, at, PerfectIn}
 use Rattle.pairing.specs.Prices.{Value, Valid, Greatest}
 use Rattle.pairing.specs.Optima.{is_upto, Marked, is_marked}
 use Rattle.pairing.proofs.Listing.{upto_tells, marks_are}
@@ -42,32 +43,36 @@ level_same xs ys e =
     let b = and_parts (eqb (length xs) (length ys)) (is_eq (lex xs ys)) e in
     lex_same xs ys (eqb-true (length xs) (length ys) b.0) ((Equal-is (lex xs ys)).0 b.1)
 
+-- ---- the standing pairs
+abbrev at_standing : Grid → (ℕ → ℕ → Bool) → Bool
+at_standing g t = all_below g.size
+    (λ l. all_below (right_count g) (λ r. implies (g.stands l r) (t l r)))
+
+standing_pass : (g : Grid) (t : ℕ → ℕ → Bool) → at_standing g t ≡ true → (l r : ℕ) → l < g.size
+    → r < right_count g → g.stands l r ≡ true → t l r ≡ true
+standing_pass g t e l r i j s = implied (g.stands l r) (t l r)
+    (passes (right_count g) (λ r. implies (g.stands l r) (t l r))
+    (passes g.size (λ l. all_below (right_count g) (λ r. implies (g.stands l r) (t l r))) e l i) r j)
+    s
+
 -- ---- a sane grid
 abbrev sane_pair : Grid → ℕ → ℕ → Bool
-sane_pair g l r =
-    implies (g.stands l r) (eqb (length (g.cost l r)) g.columns && within COST_LIMIT (g.cost l r))
+sane_pair g l r = eqb (length (g.cost l r)) g.columns && within COST_LIMIT (g.cost l r)
 
 abbrev pub sane : Grid → Bool
-sane g = leb g.size MOST_BLOCKS && all_below g.size (λ l. all_below g.size (sane_pair g l))
+sane g = leb g.size MOST_BLOCKS && at_standing g (sane_pair g)
 
 pub sane_is : (g : Grid) → sane g ≡ true → Sane g
 sane_is g e =
-    let b = and_parts (leb g.size MOST_BLOCKS)
-    (all_below g.size (λ l. all_below g.size (sane_pair g l))) e in
+    let b = and_parts (leb g.size MOST_BLOCKS) (at_standing g (sane_pair g)) e in
+    let each = λ (l r : ℕ) (i : l < g.size) (j : r < right_count g) (t : g.stands l r ≡ true).
+    and_parts (eqb (length (g.cost l r)) g.columns) (within COST_LIMIT (g.cost l r))
+    (standing_pass g (sane_pair g) b.1 l r i j t) in
     record {
       few = leb-true g.size MOST_BLOCKS b.0;
-      sized = λ l r i j t. eqb-true (length (g.cost l r)) g.columns (each b.1 l r i j t).0;
-      small = λ l r i j t. (within_tells COST_LIMIT (g.cost l r)).0 (each b.1 l r i j t).1;
+      sized = λ l r i j t. eqb-true (length (g.cost l r)) g.columns (each l r i j t).0;
+      small = λ l r i j t. (within_tells COST_LIMIT (g.cost l r)).0 (each l r i j t).1;
     }
-  where
-    each : all_below g.size (λ l. all_below g.size (sane_pair g l)) ≡ true → (l r : ℕ) → l < g.size
-        → r < g.size → g.stands l r ≡ true
-        → (eqb (length (g.cost l r)) g.columns ≡ true) × (within COST_LIMIT (g.cost l r) ≡ true)
-    each e l r i j t =
-        and_parts (eqb (length (g.cost l r)) g.columns) (within COST_LIMIT (g.cost l r))
-        (implied (g.stands l r) _
-        (passes g.size (sane_pair g l)
-        (passes g.size (λ l. all_below g.size (sane_pair g l)) e l i) r j) t)
 
 -- ---- the greatest prices
 module _ (g : Grid) (left right : ℕ → List ℤ) (p : List ℕ) (rank : List ℕ) where
@@ -79,33 +84,34 @@ module _ (g : Grid) (left right : ℕ → List ℤ) (p : List ℕ) (rank : List 
       let b = and_parts (eqb (length xs) g.columns) (within RAIL xs) e in
       record {
         sized = eqb-true (length xs) g.columns b.0;
-        on_rail =
-            (within_tells RAIL xs).0 b.1;
+        on_rail = (within_tells RAIL xs).0 b.1;
       }
 
-  abbrev under_test : ℕ → ℕ → Bool
-  under_test l r = implies (g.stands l r) (is_upto (plus (left l) (right r)) (g.cost l r))
+  abbrev under : ℕ → ℕ → Bool
+  under l r = is_upto (plus (left l) (right r)) (g.cost l r)
+
+  abbrev tight : ℕ → Bool
+  tight l = level (plus (left l) (right (at p l))) (g.cost l (at p l))
+
+  abbrev low : ℕ → Bool
+  low r = is_upto (right r) (zeros g.columns)
 
   abbrev tied : ℕ → ℕ → Bool
   tied r l = g.stands l r && (level (plus (left l) (right r)) (g.cost l r) && ltb (at rank (at p l))
       (at rank r))
 
-  abbrev attained_test : ℕ → Bool
-  attained_test r = level (right r) (zeros g.columns) || some_below g.size (tied r)
-
-  -- what is asked of each number, of a left block and of a right block
-  abbrev block : ℕ → Bool
-  block k =
-      value (left k) &&
-      (value (right k) &&
-      (all_below g.size (under_test k) &&
-      (level (plus (left k) (right (at p k))) (g.cost k (at p k)) &&
-      (is_upto (right k) (zeros g.columns) && attained_test k))))
+  abbrev attained : ℕ → Bool
+  attained r = level (right r) (zeros g.columns) || some_below g.size (tied r)
 
   abbrev pub greatest : Bool
-  greatest = all_below g.size block
+  greatest =
+      all_below g.size (λ l. value (left l)) &&
+      (all_below (right_count g) (λ r. value (right r)) &&
+      (at_standing g under &&
+      (all_below g.size tight &&
+      (all_below (right_count g) low && all_below (right_count g) attained))))
 
-  attained_is : (r : ℕ) → attained_test r ≡ true → Attained g left right p (at rank) r
+  attained_is : (r : ℕ) → attained r ≡ true → Attained g left right p (at rank) r
   attained_is r e =
       elim (or_cases (level (right r) (zeros g.columns)) (some_below g.size (tied r)) e) [
         | inl t ↦ inl (level_same (right r) (zeros g.columns) t)
@@ -125,24 +131,24 @@ module _ (g : Grid) (left right : ℕ → List ℤ) (p : List ℕ) (rank : List 
 
   pub greatest_is : Sane g → PerfectIn g p → greatest ≡ true → Greatest g left right p
   greatest_is s h e =
-      let b₁ = λ (k : ℕ) (i : k < g.size). and_parts (value (left k)) _ (passes g.size block e k i)
-      in
-      let b₂ = λ (k : ℕ) (i : k < g.size). and_parts (value (right k)) _ (b₁ k i).1 in
-      let b₃ = λ (k : ℕ) (i : k < g.size). and_parts (all_below g.size (under_test k)) _
-      (b₂ k i).1 in
-      let b₄ = λ (k : ℕ) (i : k < g.size). and_parts
-      (level (plus (left k) (right (at p k))) (g.cost k (at p k))) _ (b₃ k i).1 in
-      let b₅ = λ (k : ℕ) (i : k < g.size). and_parts (is_upto (right k) (zeros g.columns))
-      (attained_test k) (b₄ k i).1 in
+      let lefts = and_parts (all_below g.size (λ l. value (left l))) _ e in
+      let rights = and_parts (all_below (right_count g) (λ r. value (right r))) _ lefts.1 in
+      let unders = and_parts (at_standing g under) _ rights.1 in
+      let tights = and_parts (all_below g.size tight) _ unders.1 in
+      let lows = and_parts (all_below (right_count g) low) (all_below (right_count g) attained)
+      tights.1 in
       let v : Valid g left right p = record {
-        lefts = λ l i. value_is (left l) (b₁ l i).0;
-        rights = λ r j. value_is (right r) (b₂ r j).0;
+        lefts = λ l i. value_is (left l) (passes g.size (λ l. value (left l)) lefts.0 l i);
+        rights = λ r j. value_is (right r)
+            (passes (right_count g) (λ r. value (right r)) rights.0 r j);
         under = λ l r i j t. (upto_tells (plus (left l) (right r)) (g.cost l r)).0
-            (implied (g.stands l r) _ (passes g.size (under_test l) (b₃ l i).0 r j) t);
-        equal = λ l i. level_same (plus (left l) (right (at p l))) (g.cost l (at p l)) (b₄ l i).0;
+            (standing_pass g under unders.0 l r i j t);
+        equal = λ l i. level_same (plus (left l) (right (at p l))) (g.cost l (at p l))
+            (passes g.size tight tights.0 l i);
       } in
-      attained_greatest g s left right p h v (at rank) (λ r j. attained_is r (b₅ r j).1)
-      (λ r j. (upto_tells (right r) (zeros g.columns)).0 (b₅ r j).0)
+      attained_greatest g s left right p h v (at rank)
+      (λ r j. attained_is r (passes (right_count g) attained lows.1 r j))
+      (λ r j. (upto_tells (right r) (zeros g.columns)).0 (passes (right_count g) low lows.0 r j))
 
 -- ---- the marked pairs
 
@@ -151,24 +157,18 @@ abbrev alike : Bool → Bool → Bool
 alike a b = implies a b && implies b a
 
 alike_is : (a b : Bool) → alike a b ≡ true → a ≡ b
-alike_is true true e = refl
-alike_is true false e = absurd (true≢false (sym e))
-alike_is false true e = absurd (true≢false (sym e))
-alike_is false false e = refl
+alike_is a b e = grind (arith, nat_tests)
 
 -- at each standing pair the test t answers whether the pair is marked
 abbrev marks_pair : Grid → (ℕ → ℕ → Bool) → ℕ → ℕ → Bool
-marks_pair g t l r = implies (g.stands l r) (alike (is_marked g l r) (t l r))
+marks_pair g t l r = alike (is_marked g l r) (t l r)
 
 abbrev pub marks : Grid → (ℕ → ℕ → Bool) → Bool
-marks g t = all_below g.size (λ l. all_below g.size (marks_pair g t l))
+marks g t = at_standing g (marks_pair g t)
 
 pub marks_tell : (g : Grid) (t : ℕ → ℕ → Bool) → marks g t ≡ true → (l r : ℕ) → l < g.size
-    → r < g.size → g.stands l r ≡ true → Decides (t l r) (Marked g l r)
+    → r < right_count g → g.stands l r ≡ true → Decides (t l r) (Marked g l r)
 marks_tell g t e l r i j s =
     subst (λ b. Decides b (Marked g l r))
-    (alike_is (is_marked g l r) (t l r)
-    (implied (g.stands l r) _
-    (passes g.size (marks_pair g t l)
-    (passes g.size (λ l. all_below g.size (marks_pair g t l)) e l i) r j) s))
+    (alike_is (is_marked g l r) (t l r) (standing_pass g (marks_pair g t) e l r i j s))
     (marks_are g l r)
