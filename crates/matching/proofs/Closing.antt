@@ -44,59 +44,42 @@ module _ {n : ℕ} {tight : ℕ → ℕ → Bool} {p : List ℕ} (h : Perfect n 
   }
 
   module _ {k : ℕ} {leads : ℕ → ℕ → Bool} (s : Closing n tight p k leads) where
-    -- two ways from i to j: as before, or by k
-    By : ℕ → ℕ → Type 0
-    By i j = (leads i j ≡ true) ⊎ ((leads i k ≡ true) × (leads k j ≡ true))
-
-    onward : k < n → (i m j : ℕ) → i < n → m < n → m < k → By i m → By m j → By i j
-    unfolding By
-    onward inside i m j low mid less v w = elim v [
-      | inl e ↦ elim w [
-        | inl f ↦ inl (s.closed i m j low mid less e f)
-        | inr f ↦ inr (s.closed i m k low mid less e f.0, f.1)
-      ]
-      | inr e ↦ elim w [
-        | inl f ↦ inr (e.0, s.closed k m j inside mid less e.1 f)
-        | inr f ↦ inr (e.0, f.1)
-      ]
-    ]
-
-    -- to k and from k nothing is new
-    through : (i j : ℕ) → By i k → By k j → By i j
-    unfolding By
-    through i j v w =
-        inr (elim v [ inl e ↦ e | inr e ↦ e.0 ], elim w [ inl e ↦ e | inr e ↦ e.1 ])
-
     pub closing_more : k < n → {leads' : ℕ → ℕ → Bool}
         → ((i j : ℕ) → i < n → leads' i j ≡ (leads i j || (leads i k && leads k j)))
         → Closing n tight p (k + 1) leads'
-    unfolding By
     closing_more inside {leads' = leads'} is = record {
-      steps = λ l c i j t. back (at p l) c (h.below l i) (inl (s.steps l c i j t));
-      chains = λ i j low t. elim (by i j low t) [
+      steps = λ l c i j t. is (at p l) c (h.below l i) ∙ or_left _ _ (s.steps l c i j t);
+      chains = λ i j low t. elim (or_cases (leads i j) _ (sym (is i j low) ∙ t)) [
         | inl e ↦ s.chains i j low e
         | inr e ↦
-            let w = s.chains k j inside e.1 in
-            (w.0, joined (s.chains i k low e.0).1 w.1)
+            let both = and_parts (leads i k) (leads k j) e in
+            let w = s.chains k j inside both.1 in
+            (w.0, joined (s.chains i k low both.0).1 w.1)
       ];
       closed = λ i m j low mid less t u.
-          let v = by i m low t in
-          let w = by m j mid u in
-          back i j low (elim (cases_eq m k) [
-            | inl e ↦ through i j (subst (By i) e v) (subst (λ x. By x j) e w)
-            | inr ne ↦ onward inside i m j low mid (omega arith) v w
-          ]);
+          let v = sym (is i m low) ∙ t in
+          let w = sym (is m j mid) ∙ u in
+          is i j low ∙ elim (cases_eq m k) [
+            | inl e ↦ through (leads i j) (leads i k) (leads k j) (leads k k)
+                (subst (λ x. (leads i x || (leads i k && leads k x)) ≡ true) e v)
+                (subst (λ x. (leads x j || (leads x k && leads k j)) ≡ true) e w)
+            | inr ne ↦
+                let older : m < k = omega arith in
+                onward (leads i m) (leads m j) (leads i j) (leads i k) (leads k j) (leads m k)
+                (leads k m) (s.closed i m j low mid older) (s.closed i m k low mid older)
+                (s.closed k m j inside mid older) v w
+          ];
     }
       where
-        by : (i j : ℕ) → i < n → leads' i j ≡ true → By i j
-        by i j low t = elim (or_cases (leads i j) _ (sym (is i j low) ∙ t))
-            [ inl e ↦ inl e | inr e ↦ inr (and_parts (leads i k) (leads k j) e) ]
+        -- to k and from k nothing is new
+        through : (ij ik kj kk : Bool) → (ik || (ik && kk)) ≡ true → (kj || (kk && kj)) ≡ true
+            → (ij || (ik && kj)) ≡ true
+        through ij ik kj kk v w = grind arith
 
-        back : (i j : ℕ) → i < n → By i j → leads' i j ≡ true
-        back i j low w = is i j low ∙ elim w [
-          | inl e ↦ or_left (leads i j) _ e
-          | inr e ↦ or_right (leads i j) _ (and_from _ _ e.0 e.1)
-        ]
+        onward : (im mj ij ik kj mk km : Bool) → (im ≡ true → mj ≡ true → ij ≡ true)
+            → (im ≡ true → mk ≡ true → ik ≡ true) → (km ≡ true → mj ≡ true → kj ≡ true)
+            → (im || (ik && km)) ≡ true → (mj || (mk && kj)) ≡ true → (ij || (ik && kj)) ≡ true
+        onward im mj ij ik kj mk km a b c v w = grind arith
 
     -- at the end the pairs are just the chains from right blocks that are had
     pub closing_done : n ≤ k → (l c : ℕ) → l < n → c < n

@@ -77,11 +77,7 @@ module _ (rows : List BlockSet) {p : List ℕ} (h : Pairs rows p) (led : List Bl
       where
         same : (x y u v : Bool) → (x ≡ true → u ≡ true) → (y ≡ true → v ≡ true)
             → (u ≡ true → x ≡ true) → (v ≡ true → y ≡ true) → (x && y) ≡ (u && v)
-        same true true u v f g _ _ = sym (and_from u v (f refl) (g refl))
-        same true false u true f g _ k = absurd (both_ways false refl (k refl))
-        same true false u false f g _ _ = sym (and-false u)
-        same false y true v f g k _ = absurd (both_ways false refl (k refl))
-        same false y false v f g _ _ = refl
+        same x y u v f g h k = grind arith
 
     pub in_class : class own ≡ true
     in_class = let t = (tells own own low low).1 here in is own ∙ and_from _ _ t t
@@ -119,8 +115,7 @@ module _ (rows : List BlockSet) {p : List ℕ} (h : Pairs rows p) (led : List Bl
       ∙ pair_occurs l r i j
     where
       within : (t d x y : Bool) → d ≡ (x && y) → (t ≡ true → x ≡ true) → (t && d) ≡ (t && y)
-      within true d x y e f = e ∙ ap (λ b. b && y) (f refl)
-      within false d x y e f = refl
+      within t d x y e f = grind arith
 
 -- ---- a row of the table is written
 

@@ -6,7 +6,7 @@
 -- out: these are theorems of the pairing crate.
 use Rattle.std.proofs.Common.{◌≡◌, ℕ, zero, suc, ◌<◌, ◌≤◌, Bool, true, ◌&&◌, ◌||◌, ◌⊎◌, nat_lt}
 use Rattle.std.proofs.Common.{List, length, ◌↔◌, IsTrue, sym, refl, ap, ◌∙◌, subst, inl, inr, arith}
-use Rattle.std.proofs.lemmas.Bool.Decides.{Decides-at, Decides-like}
+use Rattle.std.proofs.lemmas.Bool.Decides.{nat_tests, Decides-at, Decides-like}
 use Rattle.std.proofs.lemmas.Bool.{cases_Bool, both_ways, and_parts, and_from, or_cases, or_left}
 use Rattle.std.proofs.lemmas.Bool.{or_right, lt-ltb, ltb-true, cond-true, cond-false}
 use mathlib.Core.Path.{fun_ext}
@@ -95,12 +95,10 @@ module _ {rows : List BlockSet} {p : List ℕ} {b : Bounds} {h : Holders} {x : R
     -- the search goes along every pair to a right block below n
     wide_along : (l c : ℕ) → c < length rows → holds rows l c ≡ true → is_along rows b l c ≡ true
     wide_along l c i y =
-        let in_both : (nat_lt c SET_WIDTH && nat_lt c (length rows)) ≡ true =
-        and_from _ _ (lt-ltb c 64 (omega (arith, s.few))) (lt-ltb c (length rows) i) in
-        and_from (holds rows l c) _ y (elim (cases_Bool (has b.roots l)) [
-          | inl t ↦ cond-true _ _ _ t ∙ wide.offer c ∙ in_both
-          | inr f ↦ cond-false _ _ _ f ∙ wide.live c ∙ in_both
-        ])
+        let o = wide.offer c in
+        let v = wide.live c in
+        let few = s.few in
+        grind (arith, nat_tests)
 
     -- what a left block that is left out, or has a reached right block, can take is reached
     takes : (l c : ℕ) → l < length rows → c < length rows → holds rows l c ≡ true

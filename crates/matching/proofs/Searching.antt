@@ -13,6 +13,7 @@ use Rattle.blockset.specs.declared.BlockSet.{BlockSet}
 use Rattle.blockset.specs.Has.{has, IsLeast}
 use Rattle.blockset.specs.Sets.{members}
 use Rattle.blockset.proofs.Members.{members_with, members-le, members-within}
+use Rattle.blockset.proofs.Removing.{still_in}
 use Rattle.pairing.specs.Grid.{at}
 use Rattle.matching.specs.declared.chains.Bounds.{Bounds}
 use Rattle.matching.specs.declared.chains.Holders.{Holders}
@@ -89,7 +90,7 @@ module _ {rows : List BlockSet} {b : Bounds} {h : Holders} {x : Reach} {pending 
   }
     where
       was : (j : ℕ) → has pending' j ≡ true → has pending j ≡ true
-      was j t = (and_parts (has pending j) (not (j == l)) (sym (is j) ∙ t)).0
+      was j t = (still_in (has pending) (has pending') l is j t).0
 
       leads : (j c : ℕ) → is_along rows b j c ≡ true
           → (has x.reached c ≡ true) ⊎ (has pending j ≡ true)

@@ -1,10 +1,8 @@
 -- Each round is one of proofs/Most.antt.
-use Rattle.std.proofs.Common.{◌≡◌, ℕ, Bool, true, false, not, ◌&&◌, ◌==◌, sym, ◌∙◌, subst, arith}
-use Rattle.std.proofs.lemmas.Bool.{both_ways, and_parts, and_from, lt-ltb, eqb-false, eq-eqb}
-use Rattle.std.proofs.lemmas.Bool.{not-true}
-use Rattle.std.proofs.Common.{refl, length}
+use Rattle.std.proofs.Common.{◌≡◌, ℕ, Bool, true, false, not, ◌&&◌, length, sym, ◌∙◌, subst, arith}
+use Rattle.std.proofs.lemmas.Bool.{both_ways, and_parts, and_from, lt-ltb, not-true}
 use Rattle.blockset.specs.Has.{has}
-use Rattle.blockset.proofs.Members.{members_less}
+use Rattle.blockset.proofs.Removing.{still_in, fewer}
 use Rattle.matching.specs.Search.{HasEnded}
 use Rattle.matching.proofs.Held.{ways_from}
 use Rattle.matching.proofs.Most.{IsWide, distinct, paired_more, most, unpaired}
@@ -35,15 +33,9 @@ exchange-l-requires c =
 
 pub rounds-smaller : goal.rounds-smaller
 rounds-smaller c =
-    let l = c.exchange-l.result in
     let e = c.exchange-l.ensures.exchanged in
-    members_less 64 (has c.rounds.out) (has c.remove.new.self) l
-    (omega (arith, e.inside, c.rounds.invariant.pairing.part.len, c.requires.small))
-    (λ j t. (and_parts (has c.rounds.out j) _ (sym (c.remove.ensures j) ∙ t)).0)
-    e.was_out (removed (has c.rounds.out) (has c.remove.new.self) l (c.remove.ensures l))
-  where
-    removed : (C D : ℕ → Bool) (l : ℕ) → D l ≡ (C l && not (l == l)) → D l ≡ false
-    removed C D l e = (let s = eq-eqb l l refl in grind arith)
+    fewer (has c.rounds.out) (has c.remove.new.self) c.exchange-l.result c.remove.ensures
+    (omega (arith, e.inside, c.rounds.invariant.pairing.part.len, c.requires.small)) e.was_out
 
 pub rounds-preserved : goal.rounds-preserved
 rounds-preserved c =
@@ -53,10 +45,9 @@ rounds-preserved c =
       pairing = paired_more c.search-reach.ensures.reached i.pairing e.exchanged c.remove.ensures
           (e.told 0 (λ j t. omega arith) i.pairing.holders);
       kept = λ j b t.
-          let was = and_parts (has c.rounds.out j) (not (j == c.exchange-l.result))
-          (sym (c.remove.ensures j) ∙ t) in
-          e.exchanged.kept j (omega (arith, i.pairing.part.len)) was.0
-          (eqb-false j c.exchange-l.result (not-true _ was.1)) ∙ i.kept j b was.0;
+          let was = still_in (has c.rounds.out) (has c.remove.new.self) c.exchange-l.result
+          c.remove.ensures j t in
+          e.exchanged.kept j (omega (arith, i.pairing.part.len)) was.0 was.1 ∙ i.kept j b was.0;
     }
 
 pub returns-else-is_empty : goal.returns-else-is_empty

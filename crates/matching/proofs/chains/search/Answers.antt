@@ -4,7 +4,8 @@ use Rattle.std.proofs.Common.{◌≡◌, ◌<◌, true, length, sym, ◌∙◌, 
 use Rattle.std.proofs.lemmas.Bool.{cases_eq, both_ways}
 use Rattle.blockset.specs.declared.TheConstants.{SET_WIDTH}
 use Rattle.blockset.specs.Has.{has}
-use Rattle.blockset.proofs.Members.{members-le, members_like, members_without, members-insert}
+use Rattle.blockset.proofs.Members.{members-le, members-insert}
+use Rattle.blockset.proofs.Removing.{fewer}
 use Rattle.pairing.specs.Grid.{at}
 use Rattle.matching.proofs.Inserting.{inserted, new_in, old_in, old_from}
 use Rattle.matching.proofs.Searching.{reaching, search_ways, search_grown, search_least}
@@ -81,8 +82,8 @@ loop-l-preserved-else-contains-2 c =
 pub loop-l-smaller : goal.loop-l-smaller
 loop-l-smaller c = omega (
   arith,
-  members_without 64 (has c.loop-l.pending) c.in-Some.l c.in-Some.ensures.0 c.in-Some.ensures.1,
-  members_like 64 _ (has c.remove.new.self) (λ j _. c.remove.ensures j),
+  fewer (has c.loop-l.pending) (has c.remove.new.self) c.in-Some.l c.remove.ensures
+      c.in-Some.ensures.0 c.in-Some.ensures.1,
 )
 
 pub loop-l-preserved : goal.loop-l-preserved
