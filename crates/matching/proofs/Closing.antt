@@ -4,9 +4,9 @@
 -- from i to m and on to j there are four ways, and in each of them the old closure at m, where m is
 -- not k, gives one of the two ways from i to j. When all right blocks had their round, each step of
 -- a chain is one more pair.
-use Rattle.std.proofs.Common.{◌≡◌, ℕ, ◌+◌, ◌<◌, ◌≤◌, Bool, true, ◌&&◌, ◌||◌, ◌⊎◌, List, nat_lt, ◌↔◌}
+use Rattle.std.proofs.Common.{◌≡◌, ℕ, ◌+◌, ◌<◌, ◌≤◌, Bool, true, ◌&&◌, ◌||◌, List, nat_lt, ◌↔◌}
 use Rattle.std.proofs.Common.{IsTrue, sym, ap, ◌∙◌, subst, inl, inr, arith}
-use Rattle.std.proofs.lemmas.Bool.{cases_eq, and_parts, and_from, or_cases, or_left, or_right}
+use Rattle.std.proofs.lemmas.Bool.{cases_eq, and_parts, and_from, or_cases, or_left}
 use Rattle.std.proofs.lemmas.Bool.{lt-ltb}
 use Rattle.std.proofs.lemmas.Bool.{ltb-true}
 use Rattle.pairing.specs.Grid.{at, Perfect}
@@ -57,29 +57,24 @@ module _ {n : ℕ} {tight : ℕ → ℕ → Bool} {p : List ℕ} (h : Perfect n 
             (w.0, joined (s.chains i k low both.0).1 w.1)
       ];
       closed = λ i m j low mid less t u.
-          let v = sym (is i m low) ∙ t in
-          let w = sym (is m j mid) ∙ u in
-          is i j low ∙ elim (cases_eq m k) [
-            | inl e ↦ through (leads i j) (leads i k) (leads k j) (leads k k)
-                (subst (λ x. (leads i x || (leads i k && leads k x)) ≡ true) e v)
-                (subst (λ x. (leads x j || (leads x k && leads k j)) ≡ true) e w)
+          let x = is i j low in
+          elim (cases_eq m k) [
+            | inl e ↦
+                let v = subst (λ y. leads' i y ≡ true) e t in
+                let w = subst (λ y. leads' y j ≡ true) e u in
+                let f = is i k low in
+                let g = is k j inside in
+                grind arith
             | inr ne ↦
                 let older : m < k = omega arith in
-                onward (leads i m) (leads m j) (leads i j) (leads i k) (leads k j) (leads m k)
-                (leads k m) (s.closed i m j low mid older) (s.closed i m k low mid older)
-                (s.closed k m j inside mid older) v w
+                let f = is i m low in
+                let g = is m j mid in
+                let through = s.closed i m j low mid older in
+                let to = s.closed i m k low mid older in
+                let from = s.closed k m j inside mid older in
+                grind arith
           ];
     }
-      where
-        -- to k and from k nothing is new
-        through : (ij ik kj kk : Bool) → (ik || (ik && kk)) ≡ true → (kj || (kk && kj)) ≡ true
-            → (ij || (ik && kj)) ≡ true
-        through ij ik kj kk v w = grind arith
-
-        onward : (im mj ij ik kj mk km : Bool) → (im ≡ true → mj ≡ true → ij ≡ true)
-            → (im ≡ true → mk ≡ true → ik ≡ true) → (km ≡ true → mj ≡ true → kj ≡ true)
-            → (im || (ik && km)) ≡ true → (mj || (mk && kj)) ≡ true → (ij || (ik && kj)) ≡ true
-        onward im mj ij ik kj mk km a b c v w = grind arith
 
     -- at the end the pairs are just the chains from right blocks that are had
     pub closing_done : n ≤ k → (l c : ℕ) → l < n → c < n

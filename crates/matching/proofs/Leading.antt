@@ -5,13 +5,12 @@
 -- these are just the right blocks of its row that are in one class with its own: strongly connected
 -- with it.
 use Rattle.std.proofs.Common.{◌≡◌, ℕ, ◌+◌, ◌<◌, ◌≤◌, Bool, true, false, if◌then◌else◌, ◌&&◌, ◌⊎◌}
-use Rattle.std.proofs.Common.{rules, List, length, ◌↔◌, IsTrue, sym, refl, ap, ◌∙◌, subst, inl, inr}
+use Rattle.std.proofs.Common.{rules, List, length, ◌↔◌, IsTrue, ◌∙◌, subst, inl, inr}
 use Rattle.std.proofs.Common.{arith}
-use Rattle.std.proofs.Math.Bool.{and-false}
 use borrow.Rule.Slice.PartMut.{put_mid}
 use Rattle.std.proofs.lemmas.List.{places}
 use Rattle.std.proofs.lemmas.Bool.Decides.{same_from_decides}
-use Rattle.std.proofs.lemmas.Bool.{cases_Bool, both_ways, and_parts, and_from, cond-true}
+use Rattle.std.proofs.lemmas.Bool.{cases_Bool, and_parts, and_from, cond-true}
 use Rattle.std.proofs.lemmas.Bool.{cond-false}
 use Rattle.blockset.specs.declared.BlockSet.{BlockSet}
 use Rattle.pairing.specs.Grid.{at}
@@ -70,14 +69,13 @@ module _ (rows : List BlockSet) {p : List ℕ} (h : Pairs rows p) (led : List Bl
       (is : (j : ℕ) → class j ≡ (holds led own j && holds led j own)) where
     pub is_class : IsClass (length rows) led class
     is_class i j a b t =
-        let both = and_parts (holds led own i) (holds led i own) (sym (is i) ∙ t) in
-        is j ∙ same (holds led own j) (holds led j own) (holds led i j) (holds led j i)
-        (lead_on i own j a low b both.1) (λ u. lead_on j own i b low a u both.0)
-        (lead_on own i j low a b both.0) (λ u. lead_on j i own b a low u both.1)
-      where
-        same : (x y u v : Bool) → (x ≡ true → u ≡ true) → (y ≡ true → v ≡ true)
-            → (u ≡ true → x ≡ true) → (v ≡ true → y ≡ true) → (x && y) ≡ (u && v)
-        same x y u v f g h k = grind arith
+        let d = is i in
+        let e = is j in
+        let from_i = lead_on i own j a low b in
+        let from_j = lead_on j own i b low a in
+        let to_j = lead_on own i j low a b in
+        let to_own = lead_on j i own b a low in
+        grind arith
 
     pub in_class : class own ≡ true
     in_class = let t = (tells own own low low).1 here in is own ∙ and_from _ _ t t
@@ -109,13 +107,10 @@ module _ (rows : List BlockSet) {p : List ℕ} (h : Pairs rows p) (led : List Bl
       → ((j : ℕ) → j < length rows → class j ≡ (holds led (at p l) j && holds led j (at p l)))
       → (holds rows l r && class r) ≡ has_pair l r (pairings rows)
   class_occurs l r i j class c =
-      within (holds rows l r) (class r) (holds led (at p l) r) (holds led r (at p l))
-      (c r j)
-      (λ u. (leads l r i j).1 (step l r (omega arith) i here u))
-      ∙ pair_occurs l r i j
-    where
-      within : (t d x y : Bool) → d ≡ (x && y) → (t ≡ true → x ≡ true) → (t && d) ≡ (t && y)
-      within t d x y e f = grind arith
+      let e = c r j in
+      let f = λ (u : holds rows l r ≡ true). (leads l r i j).1 (step l r (omega arith) i here u) in
+      let occurs = pair_occurs l r i j in
+      grind arith
 
 -- ---- a row of the table is written
 

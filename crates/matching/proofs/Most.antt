@@ -7,8 +7,8 @@
 use Rattle.std.proofs.Common.{◌≡◌, ℕ, zero, suc, ◌<◌, ◌≤◌, Bool, true, ◌&&◌, ◌||◌, ◌⊎◌, nat_lt}
 use Rattle.std.proofs.Common.{List, length, ◌↔◌, IsTrue, sym, refl, ap, ◌∙◌, subst, inl, inr, arith}
 use Rattle.std.proofs.lemmas.Bool.Decides.{nat_tests, Decides-at, Decides-like}
-use Rattle.std.proofs.lemmas.Bool.{cases_Bool, both_ways, and_parts, and_from, or_cases, or_left}
-use Rattle.std.proofs.lemmas.Bool.{or_right, lt-ltb, ltb-true, cond-true, cond-false}
+use Rattle.std.proofs.lemmas.Bool.{cases_Bool, both_ways, and_parts}
+use Rattle.std.proofs.lemmas.Bool.{ltb-true}
 use mathlib.Core.Path.{fun_ext}
 use Rattle.blockset.specs.declared.TheConstants.{MOST_BLOCKS, SET_WIDTH}
 use Rattle.blockset.specs.declared.BlockSet.{BlockSet}
@@ -153,21 +153,24 @@ module _ {rows : List BlockSet} {p : List ℕ} {b : Bounds} {h : Holders} {x : R
       crowd_reached l = (
         λ t. elim (cases_Bool (has b.roots l)) [
           | inl o ↦ free l (s.inside l o) o
-          | inr f ↦ elim (or_cases (has b.roots l) _ (sym (is l) ∙ t)) [
-            | inl o ↦ absurd (both_ways (has b.roots l) f o)
-            | inr a ↦
-                let both = and_parts (nat_lt l (length p)) (has x.reached (at p l)) a in
-                let c = at p l in
-                onward (at x.from c) l (from_reached (suc (at x.rank c)) c (omega arith) both.1)
-                (omega (arith, ltb-true l (length p) both.0, s.part.len)) f
-                (along-holds rows b (at x.from c) c (w.by c both.1))
-          ]
+          | inr f ↦
+              let both : (nat_lt l (length p) && has x.reached (at p l)) ≡ true =
+              (let e = is l in grind arith) in
+              let c = at p l in
+              let t' : has x.reached c ≡ true = grind arith in
+              onward (at x.from c) l (from_reached (suc (at x.rank c)) c (omega arith) t')
+              (omega (arith, ltb-true l (length p) (grind arith), s.part.len)) f
+              (along-holds rows b (at x.from c) c (w.by c t'))
         ],
-        λ v. is l ∙ elim (reached_row l v) [
-          | inl o ↦ or_left (has b.roots l) _ o
-          | inr t ↦ or_right (has b.roots l) _
-              (and_from _ _ (lt-ltb l (length p) (omega (arith, inside l v, s.part.len))) t)
-        ],
+        λ v.
+            let e = is l in
+            elim (reached_row l v) [
+              | inl o ↦ grind arith
+              | inr t ↦
+                  let i = inside l v in
+                  let len = s.part.len in
+                  grind (arith, nat_tests)
+            ],
       )
 
       -- so the crowd set and its shortage are known, where some left block is left out
@@ -184,10 +187,7 @@ module _ {rows : List BlockSet} {p : List ℕ} {b : Bounds} {h : Holders} {x : R
           record {
             none = λ q g.
                 let gone = members_none (length rows) (has b.roots) (t.2.1 (q, g)) in
-                some (λ l. elim (cases_Bool (has b.roots l)) [
-                  | inl o ↦ absurd (both_ways (has b.roots l) (gone l (s.inside l o)) o)
-                  | inr f ↦ f
-                ]);
+                some (λ l. let here = s.inside l in let z = gone l in grind arith);
             crowd_set = crowd_set;
             shortage_is = t.0 ∙ number;
           }

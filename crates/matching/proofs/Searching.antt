@@ -7,7 +7,7 @@ use Rattle.std.proofs.Common.{◌≡◌, ℕ, suc, ◌<◌, ◌≤◌, true, fal
 use Rattle.std.proofs.Common.{◌⊎◌, Option, List, length, slice_set, sym, ap, ◌∙◌, subst, inl, inr}
 use Rattle.std.proofs.Common.{arith}
 use Rattle.std.proofs.lemmas.List.{get_or-set_same, get_or-set_other, length-set}
-use Rattle.std.proofs.lemmas.Bool.{cases_eq, both_ways, and_from, and_parts, not_from_false, ne_eqb}
+use Rattle.std.proofs.lemmas.Bool.{cases_eq, both_ways, and_from, not_from_false, ne_eqb}
 use Rattle.blockset.specs.declared.TheConstants.{MOST_BLOCKS, SET_WIDTH}
 use Rattle.blockset.specs.declared.BlockSet.{BlockSet}
 use Rattle.blockset.specs.Has.{has, IsLeast}

@@ -6,8 +6,8 @@
 use Rattle.std.proofs.Common.{◌≡◌, ℕ, ◌+◌, ◌<◌, ◌≤◌, Bool, true, false, not, ◌&&◌, ◌||◌, ◌==◌}
 use Rattle.std.proofs.Common.{nat_lt, ◌⊎◌, List, length, sym, refl, ap, ◌∙◌, subst, inl, inr, arith}
 use Rattle.std.proofs.lemmas.Bool.Decides.{nat_tests}
-use Rattle.std.proofs.lemmas.Bool.{cases_eq, cases_lt, cases_Bool, both_ways, and_parts, and_from}
-use Rattle.std.proofs.lemmas.Bool.{or_cases, or_left, or_right, not-true, not_from_false}
+use Rattle.std.proofs.lemmas.Bool.{cases_eq, cases_lt, cases_Bool, both_ways, and_parts}
+use Rattle.std.proofs.lemmas.Bool.{or_cases, or_left, or_right}
 use Rattle.std.proofs.lemmas.Bool.{cond-true, cond-false, ltb-false}
 use Rattle.blockset.specs.declared.TheConstants.{MOST_BLOCKS, SET_WIDTH}
 use Rattle.blockset.specs.declared.BlockSet.{BlockSet}
@@ -102,24 +102,25 @@ module _ {rows : List BlockSet} {l floor : ℕ} {p : List ℕ} {h : Holders}
       ap (has live) (sym e) ∙ t.shut m x le lt low high (stays_shut r f (at p m) w m le lt refl)
       (ap (holds rows m) e ∙ ok)
 
-  -- what a pairing gives l, if not below the floor, is a candidate
+  -- what a pairing gives l is live, and if not below the floor a candidate
+  sent_live : (q : List ℕ) → Pairs rows q → Agree l p q → has live (at q l) ≡ true
+  sent_live q g a = elim (cases_Bool (has live (at q l))) [
+    | inl o ↦ o
+    | inr f ↦
+        let chain =
+        ((sends_if_chain (length rows) l (holds rows) p t.pairs l (at q l)
+        (omega arith) t.room (g.below l t.room)).1 (q, g, a, refl)).1 in
+        absurd (both_ways (has live (at p l))
+        (stays_shut (at q l) f (at p l) chain l (omega arith) t.room refl) t.own)
+  ]
+
   sent_candidate : (q : List ℕ) → Pairs rows q → Agree l p q → floor ≤ at q l
       → has candidates (at q l) ≡ true
   sent_candidate q g a up =
-      t.left (at q l)
-      ∙ and_from _ _ (and_from _ _ (g.standing l t.room) (elim (cases_Bool (has live (at q l))) [
-        | inl o ↦ o
-        | inr f ↦
-            let chain =
-            ((sends_if_chain (length rows) l (holds rows) p t.pairs l (at q l)
-            (omega arith) t.room (g.below l t.room)).1 (q, g, a, refl)).1 in
-            absurd (both_ways (has live (at p l))
-            (stays_shut (at q l) f (at p l) chain l (omega arith) t.room refl) t.own)
-      ]))
-      (not_from_false _ (high (at q l) up))
-    where
-      high : (x : ℕ) → floor ≤ x → nat_lt x floor ≡ false
-      high x le = grind (arith, nat_tests)
+      let e = t.left (at q l) in
+      let stands = g.standing l t.room in
+      let o = sent_live q g a in
+      grind (arith, nat_tests)
 
   -- so no pairing has one below the least candidate
   least : {r : ℕ} → IsLeast candidates r → (q : List ℕ) → Pairs rows q → Agree l p q
@@ -144,10 +145,9 @@ module _ {rows : List BlockSet} {l floor : ℕ} {p : List ℕ} {h : Holders}
   above : {r : ℕ} → IsLeast candidates r
       → (holds rows l r ≡ true) × (has live r ≡ true) × (floor ≤ r)
   above {r = r} first =
-      let a = and_parts (holds rows l r && has live r) (not (nat_lt r floor))
-      (sym (t.left r) ∙ first.1) in
-      let b = and_parts (holds rows l r) (has live r) a.0 in
-      (b.0, b.1, ltb-false r floor (not-true _ a.1))
+      let e = t.left r in
+      let m = first.1 in
+      (grind arith, grind arith, ltb-false r floor (grind arith))
 
   -- a pairing that gives l the least candidate is improved
   pub improved : {r : ℕ} {q : List ℕ} → IsLeast candidates r → Pairs rows q → Agree l p q
@@ -194,12 +194,14 @@ module _ {rows : List BlockSet} {l r floor : ℕ} {p : List ℕ} {b : Bounds} {h
   -- a pair of another left block to a live right block
   along_live : (m c : ℕ) → (m ≡ l → ⊥) → holds rows m c ≡ true → has b.live c ≡ true
       → is_along rows b m c ≡ true
-  along_live m c ne x o =
-      and_from (holds rows m c) _ x (cond-false _ _ _ (one_not f.roots m ne) ∙ o)
+  along_live m c ne x o = let e = one_not f.roots m ne in grind arith
 
   along_offer : is_along rows b l r ≡ true
-  along_offer = and_from (holds rows l r) _ f.stands
-      (cond-true _ _ _ (one_in f.roots) ∙ one_in f.offer)
+  along_offer =
+      let e = one_in f.roots in
+      let o = one_in f.offer in
+      let t = f.stands in
+      grind arith
 
   -- l's own right block is free while l is left out
   pub own_free : {c : ℕ} → has b.goals c ≡ true → (m : ℕ) → m < length p
@@ -221,10 +223,7 @@ module _ {rows : List BlockSet} {l r floor : ℕ} {p : List ℕ} {b : Bounds} {h
     -- ---- the search was in vain: what it reached is shut
 
     own-not : IsComplete rows b h x → has x.reached (at p l) ≡ false
-    own-not d = elim (cases_Bool (has x.reached (at p l))) [
-      | inl y ↦ absurd (both_ways _ (d.no_goal (at p l) y) (one_in f.goals))
-      | inr y ↦ y
-    ]
+    own-not d = let goal = one_in f.goals in let e = d.no_goal (at p l) in grind arith
 
     module _ (d : IsComplete rows b h x) (live' candidates' : BlockSet)
         (live-is : (j : ℕ) → has live' j ≡ (has b.live j && not (has x.reached j)))
@@ -240,11 +239,8 @@ module _ {rows : List BlockSet} {l r floor : ℕ} {p : List ℕ} {b : Bounds} {h
           → has live' (at p m) ≡ false → holds rows m (at p k) ≡ true
           → has b.live (at p k) ≡ true → has x.reached (at p k) ≡ true
       shut_on m k le lt was f' ok o =
-          let seen : has x.reached (at p m) ≡ true = elim (cases_Bool (has x.reached (at p m))) [
-            | inl y ↦ y
-            | inr y ↦ absurd (both_ways (has live' (at p m)) f'
-                (live-is (at p m) ∙ and_from _ _ was (not_from_false _ y)))
-          ] in
+          let seen : has x.reached (at p m) ≡ true =
+          (let e = live-is (at p m) in grind arith) in
           let ne : m ≡ l → ⊥ = λ e. both_ways (has x.reached (at p m))
           (ap (λ y. has x.reached (at p y)) e ∙ own-not d) seen in
           let had = hold.all m le (omega (arith, t.pairs.len)) (one_not f.roots m ne) in
@@ -262,9 +258,8 @@ module _ {rows : List BlockSet} {l r floor : ℕ} {p : List ℕ} {b : Bounds} {h
         pairs = t.pairs;
         room = t.room;
         holders = t.holders;
-        within = λ c o.
-            t.within c (and_parts (has b.live c) (not (has x.reached c)) (sym (live-is c) ∙ o)).0;
-        own = live-is (at p l) ∙ and_from _ _ t.own (not_from_false _ (own-not d));
+        within = λ c o. t.within c (let e = live-is c in grind arith);
+        own = (let e = live-is (at p l) in let o = own-not d in let was = t.own in grind arith);
         shut = λ m k le lt low high f' ok. elim (cases_Bool (has b.live (at p m))) [
           | inr z ↦ off (at p k) (t.shut m k le lt low high z ok)
           | inl z ↦ elim (cases_Bool (has b.live (at p k))) [
@@ -272,14 +267,8 @@ module _ {rows : List BlockSet} {l r floor : ℕ} {p : List ℕ} {b : Bounds} {h
             | inl y ↦ gone (at p k) (shut_on m k le lt z f' ok y)
           ]
         ];
-        left = λ j. narrowed (holds rows l j) (has b.live j) (not (nat_lt j floor))
-            (has candidates j) (has x.reached j) (has live' j) (has candidates' j) (t.left j)
-            (live-is j) (left j);
+        left = λ j. let e₀ = t.left j in let e₁ = live-is j in let e₂ = left j in grind arith;
       }
-        where
-          narrowed : (t o b c s d e : Bool) → c ≡ ((t && o) && b) → d ≡ (o && not s)
-              → e ≡ (c && d) → e ≡ ((t && d) && b)
-          narrowed t o b c s d e x y z = grind arith
 
       -- and the candidate is none any more
       pub fewer : IsLeast candidates r
@@ -289,7 +278,7 @@ module _ {rows : List BlockSet} {l r floor : ℕ} {p : List ℕ} {b : Bounds} {h
           (let e₁ = left r in
           let e₂ = gone r (d.rooted l r (one_in f.roots) along_offer) in grind arith) in
           members_less 64 (has candidates) (has candidates') r first.0
-          (λ j y. (and_parts (has candidates j) _ (sym (left j) ∙ y)).0) first.1 out
+          (λ j y. (let e = left j in grind arith)) first.1 out
 
     -- ---- it came to l's own right block, and the pairs along the chain were exchanged
 

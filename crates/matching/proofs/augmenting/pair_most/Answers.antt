@@ -1,16 +1,13 @@
 -- Each round is one of proofs/Most.antt.
-use Rattle.std.proofs.Common.{◌≡◌, ℕ, Bool, true, false, not, ◌&&◌, length, sym, ◌∙◌, subst, arith}
-use Rattle.std.proofs.lemmas.Bool.{both_ways, and_parts, and_from, lt-ltb, not-true}
+use Rattle.std.proofs.Common.{◌≡◌, ℕ, true, false, length, ◌∙◌, subst, arith}
+use Rattle.std.proofs.lemmas.Bool.Decides.{nat_tests}
+use Rattle.std.proofs.lemmas.Bool.{both_ways}
 use Rattle.blockset.specs.Has.{has}
 use Rattle.blockset.proofs.Removing.{still_in, fewer}
 use Rattle.matching.specs.Search.{HasEnded}
 use Rattle.matching.proofs.Held.{ways_from}
 use Rattle.matching.proofs.Most.{IsWide, distinct, paired_more, most, unpaired}
 use Rattle.matching.proofs.augmenting.pair_most.Goals as goal
-
--- a right block below n that is no goal is had
-had : (all held goals : Bool) → goals ≡ (all && not held) → all ≡ true → goals ≡ false → held ≡ true
-had all held goals e t f = grind arith
 
 pub exchange-l-requires : goal.exchange-l-requires
 exchange-l-requires c =
@@ -19,9 +16,8 @@ exchange-l-requires c =
     let held = has c.rounds.holders.held c.in-Some.goal in
     let found = subst (HasEnded c.args.rows.now _ c.rounds.holders c.search-reach.result)
     c.in-Some.is c.search-reach.ensures.goal in
-    let free : held ≡ false = not-true held
-    (and_parts (has c.all-all.result c.in-Some.goal) _
-    (sym (c.difference-goals.ensures c.in-Some.goal) ∙ found.1)).1 in
+    let free : held ≡ false = (let e = c.difference-goals.ensures c.in-Some.goal in
+    let goal = found.1 in grind arith) in
     record {
       distinct = distinct w s;
       small = omega (arith, s.part.len, c.requires.small);
@@ -59,10 +55,10 @@ returns-else-is_empty c =
     let wide : IsWide (length c.args.rows.now) _ =
     record { offer = c.all-all.ensures; live = c.all-all.ensures } in
     let taken = λ (j : ℕ) (t : has c.search-reach.result.reached j ≡ true).
-    had (has c.all-all.result j) (has c.rounds.holders.held j) (has c.difference-goals.result j)
-    (c.difference-goals.ensures j)
-    (c.all-all.ensures j ∙ and_from _ _ (lt-ltb j 64 (omega (arith, w.small j t, c.requires.small)))
-    (lt-ltb j (length c.args.rows.now) (w.small j t))) (vain.no_goal j t) in
+    let some : has c.rounds.holders.held j ≡ true = (let low = w.small j t in
+    let few = c.requires.small in let all = c.all-all.ensures j in
+    let goal = c.difference-goals.ensures j in let none = vain.no_goal j t in
+    grind (arith, nat_tests)) in some in
     record {
       largest = most w s vain wide taken;
       inside = s.inside;

@@ -1,9 +1,8 @@
 -- The state of the loop is that of proofs/Trying.antt, and each way out is one of its conclusions.
-use Rattle.std.proofs.Common.{◌≡◌, ℕ, ◌<◌, Bool, true, false, not, ◌&&◌, nat_lt, length, sym, refl}
+use Rattle.std.proofs.Common.{◌≡◌, ◌<◌, true, length, sym, refl}
 use Rattle.std.proofs.Common.{◌∙◌, ap, subst, arith}
 use Rattle.std.proofs.lemmas.Bool.Decides.{nat_tests}
 use Rattle.blockset.specs.declared.TheConstants.{SET_WIDTH}
-use Rattle.blockset.specs.Has.{has}
 use Rattle.blockset.proofs.Holding.{has_block}
 use Rattle.pairing.specs.Grid.{at}
 use Rattle.pairing.specs.Rows.{holds}
@@ -15,22 +14,16 @@ use Rattle.matching.proofs.Trying.{along_inside, own_free, pairs_distinct, impro
 use Rattle.matching.proofs.Trying.{sent_pairs, sent_improved, sent_holders}
 use Rattle.matching.proofs.stepping.improve.Goals as goal
 
--- a floor on blocks: what is left of a row's live blocks
-floored : (t o d e b : Bool) (j floor : ℕ) → (t ≡ true → j < SET_WIDTH) → e ≡ (t && o)
-    → b ≡ (nat_lt j SET_WIDTH && nat_lt j floor) → d ≡ (e && not b)
-    → d ≡ ((t && o) && not (nat_lt j floor))
-floored true o d e b j floor low x y z = (let s = low refl in grind (arith, nat_tests))
-floored false o d e b j floor low x y z = grind arith
-
 pub loop-r-init : goal.loop-r-init
 loop-r-init c = record {
   same = refl;
   trying = trying_start c.requires.small c.requires.pairs c.requires.inside c.requires.held _
       c.of-goals.ensures c.union-live.ensures
-      (λ j. floored (holds c.args.rows.now c.args.l j) (has c.union-live.result j)
-      (has c.difference-candidates.result j) (has c.intersection.result j) (has c.all.result j)
-      j c.args.floor (has_block _ j) (c.intersection.ensures j) (c.all.ensures j)
-      (c.difference-candidates.ensures j));
+      (λ j. let low : holds c.args.rows.now c.args.l j ≡ true → j < SET_WIDTH = has_block _ j in
+      let e₁ = c.intersection.ensures j in
+      let e₂ = c.all.ensures j in
+      let e₃ = c.difference-candidates.ensures j in
+      grind (arith, nat_tests));
 }
 
 pub returns-then-r-own-clause-improved : goal.returns-then-r-own-clause-improved
