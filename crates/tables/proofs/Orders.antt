@@ -1,22 +1,24 @@
 -- What is told of the places of the pair tables one after the other.
 -- Idea: the count from a place on is that of the place and of what is left past it, and a test of
 -- all places holds at each.
-use Rattle.std.proofs.Common.{◌≡◌, ℕ, ◌+◌, ◌<◌, ◌≤◌, true, cond, not, ◌||◌, Bool, zip}
+use Rattle.std.proofs.Common.{◌≡◌, ℕ, ◌+◌, ◌<◌, ◌≤◌, true, if◌then◌else◌, not, ◌||◌, Bool, zip}
 use Rattle.std.proofs.Common.{List, length, get_or, drop, ℤ, sym, ap, ◌∙◌, count_by, arith}
 use Rattle.std.proofs.lemmas.List.Elements.{All-get_or}
 use Rattle.std.proofs.lemmas.List.Sums.{sum_by-cons, AllPass-from_list_all}
 use Rattle.std.proofs.lemmas.List.{drop_more, drop_all}
 use Rattle.std.proofs.lemmas.Slice.Zip.{get_or-zip, length-zip}
 use Rattle.std.proofs.lemmas.Bool.{and_parts}
+use Rattle.cost.specs.declared.TheConstants.{COST_LIMIT}
 use Rattle.cost.specs.Columns.{within}
 use Rattle.tables.specs.PairTables.{is_place_in_order, in_order, says_stands, says_disturbed}
 
 -- the pairs that stand from a place on
 pub standing_more : (bytes : List ℕ) (k : ℕ) → k < length bytes
-    → count_by says_stands (drop k bytes) ≡ cond (says_stands (get_or bytes k 0)) 1 0
+    → count_by says_stands (drop k bytes) ≡ (if says_stands (get_or bytes k 0) then 1 else 0)
     + count_by says_stands (drop (k + 1) bytes)
 standing_more bytes k h = ap (count_by says_stands) (drop_more bytes k 0 h)
-    ∙ sum_by-cons (λ byte. cond (says_stands byte) 1 0) (get_or bytes k 0) (drop (k + 1) bytes)
+    ∙ sum_by-cons (λ byte. if says_stands byte then 1 else 0) (get_or bytes k 0)
+    (drop (k + 1) bytes)
 
 pub standing_all : (bytes : List ℕ) (k : ℕ) → length bytes ≤ k
     → count_by says_stands (drop k bytes) ≡ 0
@@ -33,9 +35,8 @@ in_order-at {K} meaning costs bytes d k h i e =
     (omega (arith, length-zip costs bytes)) (AllPass-from_list_all test (zip costs bytes) e)
 
 pub in_order_cost : (byte : ℕ) (columns : List ℤ) → is_place_in_order columns byte ≡ true
-    → says_stands byte ≡ true → within 1000000000 columns ≡ true
+    → says_stands byte ≡ true → within COST_LIMIT columns ≡ true
 in_order_cost byte columns e stands =
-    let cost =
-    (and_parts (not (says_disturbed byte)) (not (says_stands byte) || within 1000000000 columns)
-    e).1 in
-    ap (λ b. not b || within 1000000000 columns) (sym stands) ∙ cost
+    ap (λ b. not b || within COST_LIMIT columns) (sym stands)
+    ∙ (and_parts (not (says_disturbed byte)) (not (says_stands byte) || within COST_LIMIT columns)
+    e).1

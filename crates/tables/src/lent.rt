@@ -4,7 +4,7 @@ ghost use Rattle.std.specs.Prelude.{IsTrue, ◌↔◌, IfErr, OnOk};
 ghost use Rattle.tables.specs.Lent.{HasLengths, IsUsable, IsUnusable};
 
 use crate::flaw::Flaw;
-use crate::pair_tables::{have_places, in_order};
+use crate::pair_tables::{have_places, in_order, rights};
 use blockset::MOST_BLOCKS;
 use cost::Cost;
 use std::marker::Model;
@@ -40,7 +40,7 @@ impl<K> Tables<'_, K> {
         have_places(self.size, self.costs.len(), self.standing.len())
             && self.partners.len() == n
             && self.left.len() == n
-            && self.right.len() == n
+            && self.right.len() == rights(self.size)
     }
 }
 

@@ -15,6 +15,6 @@ pub use flaw::Flaw;
 pub use lent::{Tables, check_usable};
 pub use pair_rows::PairRows;
 pub use pair_tables::{
-    disturbed, enter_pair, fill, have_places, in_order, part_of, place, places, standing_pairs,
-    stands,
+    disturbed, enter_pair, fill, have_places, in_order, part_of, place, places, rights,
+    standing_pairs, stands,
 };

@@ -3,7 +3,7 @@
 ghost use Rattle.std.specs.Prelude.{◌≡◌, ◌<◌, ◌≤◌, length, replicate, count_by};
 ghost use Rattle.cost.specs.declared.TheConstants.{COST_LIMIT};
 ghost use Rattle.cost.specs.Columns.{Within};
-ghost use Rattle.pairing.specs.Places.{place_of, places_of};
+ghost use Rattle.pairing.specs.Places.{place_of, places_of, rights_of};
 ghost use Rattle.tables.specs.PairTables.{HavePlaces, have_places, says_stands, says_disturbed};
 ghost use Rattle.tables.specs.PairTables.{part_of};
 ghost use Rattle.tables.specs.PairTables.{in_order, costs_entered, standing_entered};
@@ -11,14 +11,22 @@ ghost use Rattle.tables.specs.Said.{IsInOrder};
 
 use cost::{COST_LIMIT, Cost};
 
-/// How many places the pair tables of n left and n right blocks have: one for each pair.
+/// How many right blocks face n left blocks: as many.
+pub fn rights(n: u16) -> usize
+    ensures { result ≡ rights_of n }
+{
+    n as usize
+}
+
+/// How many places the pair tables of n left blocks have: one for each pair.
 pub fn places(n: u16) -> usize
     ensures { result ≡ places_of n }
 {
-    n as usize * n as usize
+    n as usize * rights(n)
 }
 
-/// Whether pair tables of these lengths have a place for each pair of n left and n right blocks.
+/// Whether pair tables of these lengths have a place for each pair of n left blocks and their right
+/// blocks.
 pub fn have_places(n: u16, costs: usize, standing: usize) -> bool
     ensures { result ≡ have_places n costs standing }
 {
@@ -29,7 +37,7 @@ pub fn have_places(n: u16, costs: usize, standing: usize) -> bool
 pub fn place(n: u16, left: u16, right: u16) -> usize
     ensures { result ≡ place_of n left right }
 {
-    left as usize * n as usize + right as usize
+    left as usize * rights(n) + right as usize
 }
 
 /// The part of a pair table that belongs to left block `l` of n.
@@ -38,8 +46,8 @@ pub fn part_of<T>(n: u16, l: usize, table: &[T]) -> &[T]
     requires long { length table.now ≡ places_of n }
     ensures { result.now ≡ part_of n l table.now }
 {
-    let start = l * n as usize;
-    &table[start..start + n as usize]
+    let width = rights(n);
+    &table[l * width..l * width + width]
 }
 
 /// Whether a standing byte says that its pair stands.
