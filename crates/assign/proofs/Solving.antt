@@ -5,13 +5,11 @@ use Rattle.std.proofs.Common.{◌≡◌, ℕ, ◌*◌, ◌<◌, ◌≤◌, true,
 use Rattle.std.proofs.Common.{ap, ◌∙◌, subst, arith}
 use Rattle.std.proofs.lemmas.Nat.{mul-add-lt}
 use Rattle.std.proofs.lemmas.Bool.{and_parts, ltb-true}
-use Rattle.cost.proofs.Exact.{within_more}
 use Rattle.cost.specs.declared.Cost.{Ghosts}
 use Rattle.blockset.specs.declared.BlockSet.{BlockSet}
 use Rattle.tables.specs.PairTables.{byte_of, says_stands}
 use Rattle.pairing.specs.Places.{place_of}
 use Rattle.pairing.specs.Grid.{Sane}
-use Rattle.pairing.specs.Prices.{Value}
 use Rattle.pairing.specs.Largest.{Unpaired}
 use Rattle.pairing.proofs.Duality.{proves_optimum}
 use Rattle.pairing.specs.Rows.{holds}
@@ -20,7 +18,7 @@ use Rattle.tables.specs.PairRows.{StandingRows}
 use Rattle.tables.specs.Lent.{lent}
 use Rattle.pairing.proofs.Alike.{perfect_like}
 use Rattle.tables.proofs.Alike.{rows_alike, unpaired_rows}
-use Rattle.tables.proofs.Orderly.{columns_sized, sane_in_order}
+use Rattle.tables.proofs.Orderly.{near_value, sane_in_order}
 use Rattle.assign.specs.Weighed.{weight_at, cost_weight, SearchTables}
 use Rattle.assign.specs.Prices.{Solution}
 use Rattle.assign.specs.Answer.{Solved}
@@ -28,17 +26,6 @@ use Rattle.assign.proofs.Ending.{perfect_of, greatest}
 
 module _ {K : Type 0} (kind : Ghosts K)
     (sized : (x : K) → length (kind.meaning x) ≡ kind.columns) where
-  near_value : (n : ℕ) (table : List K) → length table ≡ n → Bounded kind 1000000000000 n
-      table → (k : ℕ) → k < n → Value kind.columns (columns_at kind table k)
-  near_value n table long near k h =
-      record {
-        sized = columns_sized kind sized table k (omega arith);
-        on_rail =
-            within_more 1000000000000 1000000000000000 (columns_at kind table k)
-            (omega arith)
-            (near k h);
-      }
-
   pub solved : (rows : List BlockSet) (costs : List K) (standing partners : List ℕ)
       (left right : List K) → Sane (grid_of kind (length rows) costs standing)
       → StandingRows (length rows) (λ l r. says_stands (byte_of (length rows) standing l r)) rows
@@ -56,8 +43,8 @@ module _ {K : Type 0} (kind : Ghosts K)
       let top = greatest g sane (holds rows) alike partners s.holders s.price (λ _. false) s.kept
       (λ l h. refl) perfect (weight_at kind right) s.topmost.stage s.topmost.via
       s.topmost.turns s.topmost.grown s.topmost.done (columns_at kind left)
-      (columns_at kind right) (near_value n left lefts s.left_near)
-      (near_value n right rights s.right_near)
+      (columns_at kind right) (near_value kind sized n left lefts s.left_near)
+      (near_value kind sized n right rights s.right_near)
       (λ r h. refl) s.topmost.tight in
       record {
         optimum =

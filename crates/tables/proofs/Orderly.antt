@@ -10,14 +10,15 @@ use Rattle.std.proofs.lemmas.List.Elements.{All-get_or, All-from_get_or}
 use Rattle.std.proofs.lemmas.List.Sums.{AllPass-from_list_all, list_all-from_AllPass}
 use Rattle.std.proofs.lemmas.Slice.Zip.{get_or-zip, length-zip}
 use Rattle.cost.specs.declared.Cost.{Ghosts}
-use Rattle.cost.specs.declared.TheConstants.{COST_LIMIT}
+use Rattle.cost.specs.declared.TheConstants.{COST_LIMIT, PRICE_LIMIT, RAIL}
 use Rattle.cost.specs.Columns.{Within, within}
-use Rattle.cost.proofs.Exact.{within_tells}
+use Rattle.cost.proofs.Exact.{within_tells, within_more}
 use Rattle.blockset.specs.declared.TheConstants.{MOST_BLOCKS}
 use Rattle.tables.specs.PairTables.{says_stands, says_disturbed, is_place_in_order, in_order}
 use Rattle.pairing.specs.Places.{place_of, places_of}
 use Rattle.pairing.specs.Grid.{Sane}
-use Rattle.tables.specs.Said.{columns_at, grid_of, IsInOrder}
+use Rattle.pairing.specs.Prices.{Value}
+use Rattle.tables.specs.Said.{columns_at, grid_of, Bounded, IsInOrder}
 use Rattle.tables.proofs.Gathering.{fine_tells}
 
 place_tells : (columns : List ℤ) (byte : ℕ) → IsTrue (is_place_in_order columns byte)
@@ -64,6 +65,14 @@ module _ {K : Type 0} (kind : Ghosts K) where
     columns_sized [] k h = absurd (omega arith)
     columns_sized (x ∷ table) zero h = wide x
     columns_sized (x ∷ table) (suc k) h = columns_sized table k (omega arith)
+
+    -- and values within 10^12 lie on the rail
+    pub near_value : (n : ℕ) (table : List K) → length table ≡ n → Bounded kind PRICE_LIMIT n table
+        → (k : ℕ) → k < n → Value kind.columns (columns_at kind table k)
+    near_value n table long near k h = record {
+      sized = columns_sized table k (omega arith);
+      on_rail = within_more PRICE_LIMIT RAIL (columns_at kind table k) (omega arith) (near k h);
+    }
 
     module _ (n : ℕ) (costs : List K) (standing : List ℕ) (few : n ≤ MOST_BLOCKS)
         (whole : length costs ≡ places_of n) where

@@ -4,15 +4,14 @@
 -- hold together, and the pairings over the rows are the optimum ones.
 use Rattle.std.specs.Prelude.{◌≡◌, ℕ, ◌+◌, ◌<◌, true, false, ◌↔◌, List, length, slice_index_or}
 use Rattle.std.specs.Prelude.{Contains}
-use Rattle.std.proofs.Common.{sym, subst, arith, below_more}
+use Rattle.std.proofs.Common.{sym, subst, below_more}
 use Rattle.std.proofs.lemmas.Bool.{both_ways}
 use Rattle.cost.specs.declared.Cost.{Ghosts}
-use Rattle.cost.specs.declared.TheConstants.{PRICE_LIMIT, RAIL}
 use Rattle.cost.specs.Columns.{Within, within}
-use Rattle.cost.proofs.Exact.{within_tells, within_more}
+use Rattle.cost.proofs.Exact.{within_tells}
 use Rattle.blockset.specs.declared.BlockSet.{BlockSet}
+use Rattle.pairing.specs.Places.{rights_of}
 use Rattle.pairing.specs.Grid.{Sane, Optimum}
-use Rattle.pairing.specs.Prices.{Value}
 use Rattle.pairing.proofs.Listing.{perfects_are, optima_are as optima_are_lem}
 use Rattle.pairing.specs.Rows.{holds, Pairs}
 use Rattle.tables.specs.Said.{columns_at, Bounded}
@@ -21,7 +20,7 @@ use Rattle.tables.specs.Sound.{IsSound}
 use Rattle.tables.specs.PairRows.{AreTightRows}
 use Rattle.tables.specs.Together.{Together}
 use Rattle.tables.proofs.Filling.{value_at}
-use Rattle.tables.proofs.Orderly.{sane_in_order, columns_sized}
+use Rattle.tables.proofs.Orderly.{sane_in_order, near_value}
 use Rattle.tables.proofs.Tightness.{pairs_tight, pairings_are_optima}
 use Rattle.walk.specs.Certified.{IsCertified}
 
@@ -62,13 +61,6 @@ module _ {K : Type 0} (kind : Ghosts K) (t : Lent K) where
       sane = sane_in_order kind wide t.size t.costs t.standing priced.few priced.room.costs_long
           sound.in_order
 
-      value : (table : List K) (n : ℕ) → length table ≡ n → Bounded kind PRICE_LIMIT n table
-          → (k : ℕ) → k < n → Value kind.columns (columns_at kind table k)
-      value table n long near k h = record {
-        sized = columns_sized kind wide table k (omega arith);
-        on_rail = within_more PRICE_LIMIT RAIL (columns_at kind table k) (omega arith) (near k h);
-      }
-
       together_if_paired : Together kind t
       together_if_paired =
           let tight = (pairs_tight kind t rows made t.partners).0 paired in
@@ -83,8 +75,9 @@ module _ {K : Type 0} (kind : Ghosts K) (t : Lent K) where
             left_prices = record { long = priced.room.left_long; near = priced.left_near };
             right_prices = record { long = priced.room.right_long; near = priced.right_near };
             valid = record {
-              lefts = value t.left t.size priced.room.left_long priced.left_near;
-              rights = value t.right t.size priced.room.right_long priced.right_near;
+              lefts = near_value kind wide t.size t.left priced.room.left_long priced.left_near;
+              rights = near_value kind wide (rights_of t.size) t.right priced.room.right_long
+                  priced.right_near;
               under = sound.feasible;
               equal = tight.1;
             };

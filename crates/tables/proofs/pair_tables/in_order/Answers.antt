@@ -1,5 +1,5 @@
 -- One place more; at the end all places that both tables have are passed.
-use Rattle.std.specs.Prelude.{◌≡◌, ◌+◌, ◌<◌, not, ◌&&◌, slice_index, slice_index_or, take, zip}
+use Rattle.std.specs.Prelude.{◌≡◌, ◌<◌, not, ◌&&◌, slice_index, slice_index_or, zip}
 use Rattle.std.specs.List.{list_all}
 use Rattle.std.proofs.Common.{sym, ap, ap₂, ◌∙◌, arith}
 use Rattle.std.proofs.lemmas.List.{get_or-take, length-take, take_all}
@@ -10,7 +10,7 @@ use lib.Bits.{bit_and, bit_or}
 use Rattle.cost.specs.declared.TheConstants.{COST_LIMIT}
 use Rattle.cost.specs.Columns.{within}
 use Rattle.tables.specs.PairTables.{is_place_in_order}
-use Rattle.tables.proofs.Gathering.{faultless, is_fine, gathered}
+use Rattle.tables.proofs.Gathering.{faultless, gathered}
 use Rattle.tables.proofs.pair_tables.in_order.Goals as goal
 
 pub loop-k-preserved : goal.loop-k-preserved
