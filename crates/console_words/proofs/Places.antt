@@ -7,21 +7,21 @@ use Rattle.std.specs.Prelude.{ℤ, pos, neg_ℤ, map, ◌==◌}
 use Rattle.std.specs.Str.Parse.{IsNumeral, digits_value}
 use Rattle.std.specs.Str.Parse.{without_leading_plus, without_leading_sign}
 use Rattle.console_words.specs.declared.complaint.Complaint.{Complaint}
-use Rattle.console_words.specs.Forms.{Slot, Fits, AllFit, IsTooLong, IsTooMany, Takes}
-use Rattle.console_words.specs.Forms.{a_block, number_told}
+use Rattle.console_words.specs.Forms.{Slot, Fills, AllFill, IsTooLong, IsTooMany, Takes}
+use Rattle.console_words.specs.Forms.{a_block, integer_in}
 use Rattle.console_words.specs.Sizing.{number_in}
 
-all_fit_more : (ss ts : List Slot) (xs ys : List (List ℕ)) → AllFit ss xs → AllFit ts ys
-    → AllFit (ss ++ ts) (xs ++ ys)
+all_fit_more : (ss ts : List Slot) (xs ys : List (List ℕ)) → AllFill ss xs → AllFill ts ys
+    → AllFill (ss ++ ts) (xs ++ ys)
 all_fit_more [] ts [] ys a b = b
 all_fit_more [] ts (x ∷ xs) ys a b = absurd a
 all_fit_more (s ∷ ss) ts [] ys a b = absurd a
 all_fit_more (s ∷ ss) ts (x ∷ xs) ys a b = (a.0, all_fit_more ss ts xs ys a.1 b)
 
 map_more : (xs ys : List (List ℕ))
-    → map number_told (xs ++ ys) ≡ map number_told xs ++ map number_told ys
+    → map integer_in (xs ++ ys) ≡ map integer_in xs ++ map integer_in ys
 map_more [] ys = refl
-map_more (x ∷ xs) ys = ap (λ zs. number_told x ∷ zs) (map_more xs ys)
+map_more (x ∷ xs) ys = ap (λ zs. integer_in x ∷ zs) (map_more xs ys)
 
 pub takes_more : (ss ts : List Slot) (old mid new : List (List ℕ)) (xs ys : List ℤ)
     → Takes ss old mid xs → Takes ts mid new ys → Takes (ss ++ ts) old new (xs ++ ys)
@@ -29,11 +29,11 @@ takes_more ss ts old mid new xs ys a b = (
   a.0 ++ b.0,
   a.1 ∙ ap (λ ws. a.0 ++ ws) b.1 ∙ sym (append_assoc a.0 b.0 new),
   all_fit_more ss ts a.0 b.0 a.2 b.2,
-  ap (λ zs. zs ++ ys) a.3 ∙ ap (λ zs. map number_told a.0 ++ zs) b.3 ∙ sym (map_more a.0 b.0),
+  ap (λ zs. zs ++ ys) a.3 ∙ ap (λ zs. map integer_in a.0 ++ zs) b.3 ∙ sym (map_more a.0 b.0),
 )
 
 long : (form : List ℕ) (ss : List Slot) (xs ws : List (List ℕ)) (c : Complaint)
-    → AllFit ss xs → ws ≢ [] → IsTooMany form c → IsTooLong form ss (xs ++ ws) c
+    → AllFill ss xs → ws ≢ [] → IsTooMany form c → IsTooLong form ss (xs ++ ws) c
 long form [] [] [] c a more many = absurd (more refl)
 long form [] [] (w ∷ ws) c a more many = many
 long form [] (x ∷ xs) ws c a more many = absurd a
@@ -47,7 +47,7 @@ too_long form ss old new xs c a more many = rw a.1 (long form ss a.0 new c a.2 m
 
 -- a word that stands for a block writes its number without a minus
 unsigned : (word : List ℕ) → IsNumeral 10 (without_leading_plus word)
-    → number_told word ≡ pos (number_in word)
+    → integer_in word ≡ pos (number_in word)
 unsigned [] numeral = absurd (omega arith)
 unsigned (c ∷ cs) numeral =
     let minus = c == 45 in
@@ -61,7 +61,7 @@ unsigned (c ∷ cs) numeral =
 
 -- the first word fills a place for a block, or for a number
 pub takes_block : (old new : List (List ℕ)) (word : List ℕ) (n : ℕ) → old ≡ word ∷ new
-    → Fits a_block word → n ≡ number_in word → Takes (a_block ∷ []) old new (pos n ∷ [])
+    → Fills a_block word → n ≡ number_in word → Takes (a_block ∷ []) old new (pos n ∷ [])
 takes_block old new word n e fits is = (
   word ∷ [],
   e,

@@ -14,7 +14,7 @@ use Rattle.console_words.specs.declared.turn.Turn.{Turn}
 use Rattle.console_words.specs.declared.turn.Turn.TheVariants.{Over}
 use Rattle.console_words.specs.Conversing.{Talk, TakesLine, Converses}
 use Rattle.console_words.specs.Conversing.Talk.{ends, is_over, goes_on}
-use Rattle.console_words.specs.Moving.{Says}
+use Rattle.console_words.specs.Moving.{Prints}
 
 -- the talk over these bytes, of which the rest is left before the line of a number
 abbrev pub LedTo : (bytes rest : List ℕ) (before after : Option (List ℕ)) → ℕ → Console → Type 0
@@ -75,7 +75,7 @@ taken_line {X = X} {E = E} bytes byte left left' item line shown ten is same yie
 pub leads_on : (known left left' before after after' : Option (List ℕ)) (number next : ℕ)
     (console console' : Console) (turn : Turn) (line said : List ℕ) → next ≡ number + 1
     → HasLed known left before after number console → IsTaken left left' line
-    → TakesLine number line console console' turn → Says said turn → Appends after after' said
+    → TakesLine number line console console' turn → Prints said turn → Appends after after' said
     → HasLed known left' before after' next console'
 leads_on None left left' before after after' number next console console' turn line said e led
     taken takes says appends = tt
@@ -93,10 +93,11 @@ leads_on (Some bytes) (Some rest) left' before after after' number next console 
     )
 
 -- what was written is the text of the whole talk, once nothing more comes
-closed : (bytes rest : List ℕ) (before after : Option (List ℕ)) (number : ℕ) (console : Console)
+talk_closes : (bytes rest : List ℕ) (before after : Option (List ℕ)) (number : ℕ)
+    (console : Console)
     → LedTo bytes rest before after number console → Talk number console rest []
     → Converses bytes before after
-closed bytes rest before after number console led talk =
+talk_closes bytes rest before after number console led talk =
     (led.0, subst (λ t. Talk 1 (Unopened One) bytes t) (append-nil led.0) (led.2 [] talk), led.1)
 
 pub ends_at_end : (known left before after : Option (List ℕ)) (number : ℕ) (console : Console)
@@ -105,7 +106,7 @@ pub ends_at_end : (known left before after : Option (List ℕ)) (number : ℕ) (
 ends_at_end None left before after number console led none = tt
 ends_at_end (Some bytes) None before after number console led none = absurd led
 ends_at_end (Some bytes) (Some rest) before after number console led none =
-    closed bytes rest before after number console led
+    talk_closes bytes rest before after number console led
     (subst (λ r. Talk number console r []) (sym none) (ends number console))
 
 pub ends_when_asked : (known left left' before after : Option (List ℕ)) (number : ℕ)
@@ -116,5 +117,5 @@ ends_when_asked None left left' before after number console console' line led ta
 ends_when_asked (Some bytes) None left' before after number console console' line led taken takes =
     absurd led
 ends_when_asked (Some bytes) (Some rest) left' before after number console console' line led taken
-    takes = closed bytes rest before after number console led (is_over number console console' rest
+    takes = talk_closes bytes rest before after number console led (is_over number console console' rest
     taken.0.0 (subst (λ l. TakesLine number l console console' Over) taken.0.1 takes))

@@ -11,7 +11,7 @@ use Rattle.std.specs.Char.{is_whitespace, is_not_whitespace}
 use Rattle.std.specs.Str.{chars, IsUtf8, NonePass, NoCharPasses, EmptyOrStartsWithPassing}
 use Rattle.std.proofs.lemmas.Bool.{cond-true, cond-false}
 use Rattle.std.proofs.lemmas.Str.{chars-nil, chars_past_char, IsUtf8-past_char, IsUtf8-had}
-use Rattle.console_words.specs.Words.{ended, words_among, words_of}
+use Rattle.console_words.specs.Words.{begun_word, words_among, words_of}
 
 not_false : (b : Bool) → not b ≡ false → b ≡ true
 not_false true e = refl
@@ -51,7 +51,7 @@ over_word (c ∷ word) begun bytes rest text e none =
     let on = over_word word (begun ++ encode_utf8 c) mid rest
     (IsUtf8-past_char bytes mid c text more) refl none.1 in (
       ap (words_among begun) (chars_past_char bytes mid c text more)
-          ∙ cond-false (is_whitespace c) (ended begun ++ words_among [] (chars mid))
+          ∙ cond-false (is_whitespace c) (begun_word begun ++ words_among [] (chars mid))
           (words_among (begun ++ encode_utf8 c) (chars mid)) none.0
           ∙ on.0
           ∙ ap (λ w. words_among w (chars rest))
@@ -77,13 +77,13 @@ word_ends b begun (r ∷ rest) more text starts =
     (words_among (encode_utf8 first.0) (chars more)) first.1))
 
 -- a step that gives a word takes it from the words of the text
-pub next_word : (text word gap rest more : List ℕ) → IsUtf8 text → text ≡ gap ++ (word ++ rest)
+pub word_of_step : (text word gap rest more : List ℕ) → IsUtf8 text → text ≡ gap ++ (word ++ rest)
     → 0 < length word → NoCharPasses is_not_whitespace gap → NoCharPasses is_whitespace word
     → EmptyOrStartsWithPassing is_whitespace rest more
     → (words_of text ≡ word ∷ words_of rest) × IsUtf8 rest
 unfolding words_of
-next_word text [] gap rest more utf8 e some white solid starts = absurd (omega arith)
-next_word text (b ∷ word) gap rest more utf8 e some white solid starts =
+word_of_step text [] gap rest more utf8 e some white solid starts = absurd (omega arith)
+word_of_step text (b ∷ word) gap rest more utf8 e some white solid starts =
     let past = over_white white.0 text ((b ∷ word) ++ rest) utf8
     (e ∙ ap (λ g. g ++ ((b ∷ word) ++ rest)) (sym white.1)) white.2 in
     let taken = over_word solid.0 [] ((b ∷ word) ++ rest) rest past.1
@@ -103,27 +103,27 @@ no_word text utf8 white =
     ∙ ap (words_among []) chars-nil
 
 -- what a step gives, as a reader of words sees it
-abbrev pub Stepped : SplitWhitespace → Option (Bor (List ℕ)) → SplitWhitespace → Type 0
-Stepped s None t = (words_of (split_whitespace_rest s) ≡ [])
+abbrev pub IsWordStep : SplitWhitespace → Option (Bor (List ℕ)) → SplitWhitespace → Type 0
+IsWordStep s None t = (words_of (split_whitespace_rest s) ≡ [])
     × (words_of (split_whitespace_rest t) ≡ [])
-Stepped s (Some word) t = words_of (split_whitespace_rest s)
+IsWordStep s (Some word) t = words_of (split_whitespace_rest s)
     ≡ word.now ∷ words_of (split_whitespace_rest t)
 
-pub stepped : (s : SplitWhitespace) (r : Option (Bor (List ℕ))) (t : SplitWhitespace)
+pub word_step : (s : SplitWhitespace) (r : Option (Bor (List ℕ))) (t : SplitWhitespace)
     → ∥ IsUtf8 (split_whitespace_rest s) ∥₁ → split_whitespace_steps s r t
-    → Stepped s r t × IsUtf8 (split_whitespace_rest t)
-stepped s None t had steps =
+    → IsWordStep s r t × IsUtf8 (split_whitespace_rest t)
+word_step s None t had steps =
     let utf8 = IsUtf8-had (split_whitespace_rest s) had in
     let none = no_word (split_whitespace_rest s) utf8 steps.1 in
     let same = ap split_whitespace_rest (sym steps.0) in
     ((none, ap words_of (sym same) ∙ none), subst IsUtf8 same utf8)
-stepped s (Some word) t had steps =
+word_step s (Some word) t had steps =
     let utf8 = IsUtf8-had (split_whitespace_rest s) had in
-    next_word (split_whitespace_rest s) word.now steps.0 (split_whitespace_rest t) steps.5.0 utf8
+    word_of_step (split_whitespace_rest s) word.now steps.0 (split_whitespace_rest t) steps.5.0 utf8
     steps.1 steps.2 steps.3 steps.4 steps.5.1
 
-pub dropped : (s : SplitWhitespace) (r : Option (Bor (List ℕ))) (t : SplitWhitespace)
-    → Stepped s r t
+pub word_step_drops : (s : SplitWhitespace) (r : Option (Bor (List ℕ))) (t : SplitWhitespace)
+    → IsWordStep s r t
     → words_of (split_whitespace_rest t) ≡ drop 1 (words_of (split_whitespace_rest s))
-dropped s None t is = is.1 ∙ ap (drop 1) (sym is.0)
-dropped s (Some word) t is = ap (drop 1) (sym is)
+word_step_drops s None t is = is.1 ∙ ap (drop 1) (sym is.0)
+word_step_drops s (Some word) t is = ap (drop 1) (sym is)

@@ -12,16 +12,14 @@ use Rattle.session.specs.declared.call.Act.TheVariants.{Enter, Strike, Total, Cl
 use Rattle.session.specs.declared.state.State.{State}
 use Rattle.session.specs.declared.state.State.TheVariants.{Open, Settled, Walking}
 use Rattle.session.specs.Runs.{state_of}
-use Rattle.report.specs.Listing.{pairing_line}
-use Rattle.report.specs.Refusing.{refusal_words, unmatched_words}
-use Rattle.report.specs.Text.{up_to}
+use Rattle.refusal_words.specs.Lines.{numbers_line, pairing_line, up_to}
+use Rattle.refusal_words.specs.Refusing.{refusal_lines, unmatched_lines}
 use Rattle.console_words.specs.declared.verb.Verb.{Verb}
 use Rattle.console_words.specs.Naming.{verb_word, verb_of}
 
 -- the right block of each left block
 abbrev pub partners_line : List ℕ → List ℕ
-partners_line partners =
-    codes "partners" ++ (flat_map (λ r. codes " " ++ decimal r) partners ++ codes "\n")
+partners_line = numbers_line (codes "partners")
 
 -- the mark of a pair, a row for each left block
 abbrev pub mark_word : Option ℕ → List ℕ
@@ -83,8 +81,8 @@ module _ {K : Type 0} (written : K → List ℕ) where
   -- the answer to a call that left the sheet in a state
   abbrev pub answer_words : Act K → State → Answer K → List ℕ
   answer_words act state NotMade = not_made_words state (verb_of act)
-  answer_words act state (Refused f) = refusal_words f.cause
-  answer_words act state (Unmatched f s) = unmatched_words f.cause s
+  answer_words act state (Refused f) = refusal_lines f.cause
+  answer_words act state (Unmatched f s) = unmatched_lines f.cause s
   answer_words act state Done = done_words act
   answer_words act state (IsSettled partners left right) =
       settled_lines partners.items left.items right.items

@@ -1,6 +1,6 @@
 -- Complaints in plain words.
 use Rattle.std.specs.Prelude.{ℕ, List, ◌++◌, codes, decimal}
-use Rattle.report.specs.Words.{meaning_of, remedy_for}
+use Rattle.refusal_words.specs.Words.{meaning_of, remedy_for}
 use Rattle.sheet.specs.declared.fault.Cause.TheVariants.{Size as SizeCause}
 use Rattle.console_words.specs.declared.complaint.Complaint.{Complaint}
 use Rattle.console_words.specs.declared.complaint.Complaint.TheVariants.{NotText, Unknown, TooFew}

@@ -23,8 +23,8 @@ abbrev pub IsOverflow : ParseIntError → Type 0
 IsOverflow error = (error_kind error ≡ PosOverflow) ⊎ (error_kind error ≡ NegOverflow)
 
 -- the signed number that a word writes in decimal
-abbrev pub number_told : List ℕ → ℤ
-number_told word = signed_digits_value 10 word
+abbrev pub integer_in : List ℕ → ℤ
+integer_in word = signed_digits_value 10 word
 
 -- a place in a form: for the first word of a line, a block, a number of a cost, the size of a
 -- sheet, the number of columns, a table or a call
@@ -40,31 +40,31 @@ pub data Slot : Type 0 where
 -- The word is what its place asks for. A number is written in decimal digits, of which some may be
 -- zeros in front. Before those of a block, which has 16 bits, and of a size there may be a `+`;
 -- before those of a cost, which has 64 bits and a sign, a `+` or a `-`.
-abbrev pub Fits : Slot → List ℕ → Type 0
-Fits a_lead word = (l : Lead) × (lead_word l ≡ word)
-Fits a_block word = IsNumeral 10 (without_leading_plus word) × (number_in word < 2 ^ 16)
-Fits a_number word = IsNumeral 10 (without_leading_sign word) × FitsSigned w64 (number_told word)
-Fits a_size word = TellsSize word
-Fits a_count word = (c : ColumnCount) × (count_word c ≡ word)
-Fits a_table word = (t : TableName) × (table_word t ≡ word)
-Fits a_call word = (v : Verb) × (verb_word v ≡ word)
+abbrev pub Fills : Slot → List ℕ → Type 0
+Fills a_lead word = (l : Lead) × (lead_word l ≡ word)
+Fills a_block word = IsNumeral 10 (without_leading_plus word) × (number_in word < 2 ^ 16)
+Fills a_number word = IsNumeral 10 (without_leading_sign word) × FitsSigned w64 (integer_in word)
+Fills a_size word = TellsSize word
+Fills a_count word = (c : ColumnCount) × (count_word c ≡ word)
+Fills a_table word = (t : TableName) × (table_word t ≡ word)
+Fills a_call word = (v : Verb) × (verb_word v ≡ word)
 
 -- A word that does not fit its place is blamed so: a numeral as too large or too small, and what is
 -- no numeral as none. Which of the two is told of a long word that is no numeral is left open.
 abbrev pub Blames : Slot → List ℕ → Complaint → Type 0
-Blames a_lead word (Unknown told) = (told.now ≡ word) × ¬ Fits a_lead word
-Blames a_block word (LargeBlock told) = (told.now ≡ word) × ¬ Fits a_block word
+Blames a_lead word (Unknown told) = (told.now ≡ word) × ¬ Fills a_lead word
+Blames a_block word (LargeBlock told) = (told.now ≡ word) × ¬ Fills a_block word
 Blames a_block word (NotFromZero told) =
     (told.now ≡ word) × ¬ IsNumeral 10 (without_leading_plus word)
-Blames a_number word (LargeCost told) = (told.now ≡ word) × ¬ Fits a_number word
+Blames a_number word (LargeCost told) = (told.now ≡ word) × ¬ Fills a_number word
 Blames a_number word (NotANumber told) =
     (told.now ≡ word) × ¬ IsNumeral 10 (without_leading_sign word)
-Blames a_size word (Size told) = (told.now ≡ word) × ¬ Fits a_size word
+Blames a_size word (Size told) = (told.now ≡ word) × ¬ Fills a_size word
 Blames a_size word (NotFromZero told) =
     (told.now ≡ word) × ¬ IsNumeral 10 (without_leading_plus word)
-Blames a_count word (Columns told) = (told.now ≡ word) × ¬ Fits a_count word
-Blames a_table word (UnknownTable told) = (told.now ≡ word) × ¬ Fits a_table word
-Blames a_call word (Unknown told) = (told.now ≡ word) × ¬ Fits a_call word
+Blames a_count word (Columns told) = (told.now ≡ word) × ¬ Fills a_count word
+Blames a_table word (UnknownTable told) = (told.now ≡ word) × ¬ Fills a_table word
+Blames a_call word (Unknown told) = (told.now ≡ word) × ¬ Fills a_call word
 Blames _ word complaint = ⊥
 
 -- a word is missing of the form, or one is left
@@ -77,23 +77,23 @@ IsTooMany form (TooMany told) = told.now ≡ form
 IsTooMany form _ = ⊥
 
 -- each place has its word, and no word is left
-abbrev pub AllFit : List Slot → List (List ℕ) → Type 0
-AllFit [] [] = Unit {0}
-AllFit (slot ∷ slots) (word ∷ words) = Fits slot word × AllFit slots words
-AllFit _ _ = ⊥
+abbrev pub AllFill : List Slot → List (List ℕ) → Type 0
+AllFill [] [] = Unit {0}
+AllFill (slot ∷ slots) (word ∷ words) = Fills slot word × AllFill slots words
+AllFill _ _ = ⊥
 
 -- the first place whose word is missing or does not fit is blamed
 abbrev pub Fails : List ℕ → List Slot → List (List ℕ) → Complaint → Type 0
 Fails form [] words complaint = ⊥
 Fails form (slot ∷ slots) [] complaint = IsTooFew form complaint
 Fails form (slot ∷ slots) (word ∷ words) complaint =
-    Blames slot word complaint ⊎ (Fits slot word × Fails form slots words complaint)
+    Blames slot word complaint ⊎ (Fills slot word × Fails form slots words complaint)
 
 -- each place has its word, but words are left
 abbrev pub IsTooLong : List ℕ → List Slot → List (List ℕ) → Complaint → Type 0
 IsTooLong form [] (word ∷ words) complaint = IsTooMany form complaint
 IsTooLong form (slot ∷ slots) (word ∷ words) complaint =
-    Fits slot word × IsTooLong form slots words complaint
+    Fills slot word × IsTooLong form slots words complaint
 IsTooLong form _ _ complaint = ⊥
 
 -- the words are not of the form, and this is what is told of it
@@ -104,4 +104,4 @@ IsWrongForm form slots words complaint =
 -- the words at the front fill these places, and write these numbers
 abbrev pub Takes : List Slot → List (List ℕ) → List (List ℕ) → List ℤ → Type 0
 Takes slots words left numbers = (taken : List (List ℕ)) × (words ≡ taken ++ left)
-    × AllFit slots taken × (numbers ≡ map number_told taken)
+    × AllFill slots taken × (numbers ≡ map integer_in taken)

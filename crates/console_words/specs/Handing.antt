@@ -13,23 +13,23 @@ use Rattle.console_words.specs.declared.table_name.TableName.TheVariants.{Partne
 use Rattle.console_words.specs.declared.table_name.TableName.TheVariants.{Walk, Marks}
 
 -- these lengths, with one place less of this table
-abbrev pub shortened : TableName → Lengths → Lengths
-shortened Costs whole = record whole { costs = whole.costs - 1 }
-shortened Standing whole = record whole { standing = whole.standing - 1 }
-shortened Partners whole = record whole { partners = whole.partners - 1 }
-shortened Left whole = record whole { left = whole.left - 1 }
-shortened Right whole = record whole { right = whole.right - 1 }
-shortened Walk whole = record whole { walk = whole.walk - 1 }
-shortened Marks whole = record whole { marks = whole.marks - 1 }
+abbrev pub short_lengths : TableName → Lengths → Lengths
+short_lengths Costs whole = record whole { costs = whole.costs - 1 }
+short_lengths Standing whole = record whole { standing = whole.standing - 1 }
+short_lengths Partners whole = record whole { partners = whole.partners - 1 }
+short_lengths Left whole = record whole { left = whole.left - 1 }
+short_lengths Right whole = record whole { right = whole.right - 1 }
+short_lengths Walk whole = record whole { walk = whole.walk - 1 }
+short_lengths Marks whole = record whole { marks = whole.marks - 1 }
 
 -- what a call is handed, of tables of these lengths
-abbrev pub handed_of : Option TableName → Lengths → Lengths
-handed_of None whole = whole
-handed_of (Some table) whole = shortened table whole
+abbrev pub handed_lengths : Option TableName → Lengths → Lengths
+handed_lengths None whole = whole
+handed_lengths (Some table) whole = short_lengths table whole
 
 -- the call of this act on a sheet in a state, handed its tables whole or one of them short
 abbrev pub call_on : {K : Type 0} → State → Act K → Option TableName → Call K
 call_on state act short = record {
   act = act;
-  handed = handed_of short (right_lengths (size_of (state_of state).sheet));
+  handed = handed_lengths short (right_lengths (size_of (state_of state).sheet));
 }

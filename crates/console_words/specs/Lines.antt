@@ -22,8 +22,8 @@ use Rattle.console_words.specs.declared.table_name.TableName.{TableName}
 use Rattle.console_words.specs.declared.verb.Verb.{Verb}
 use Rattle.console_words.specs.declared.verb.Verb.TheVariants.{Enter, Strike, Read, Quote}
 use Rattle.console_words.specs.Forms.{Slot, a_lead, a_block, a_number, a_size, a_count}
-use Rattle.console_words.specs.Forms.{a_table, a_call, Blames, AllFit, Fails, IsTooFew}
-use Rattle.console_words.specs.Forms.{IsWrongForm, number_told}
+use Rattle.console_words.specs.Forms.{a_table, a_call, Blames, AllFill, Fails, IsTooFew}
+use Rattle.console_words.specs.Forms.{IsWrongForm, integer_in}
 use Rattle.console_words.specs.Naming.{verb_word, verb_of, form_words, table_word, lead_word}
 use Rattle.console_words.specs.Naming.{count_word}
 use Rattle.console_words.specs.Sizing.{TellsSize, number_in}
@@ -39,9 +39,9 @@ AsksOpening words AsksHelp = words ≡ codes "help" ∷ []
 AsksOpening words AsksEnd = words ≡ codes "quit" ∷ []
 
 -- the word is for an open sheet
-abbrev pub IsNoSheet : List ℕ → Complaint → Type 0
-IsNoSheet word (NoSheet told) = told.now ≡ word
-IsNoSheet word _ = ⊥
+abbrev pub LacksSheet : List ℕ → Complaint → Type 0
+LacksSheet word (NoSheet told) = told.now ≡ word
+LacksSheet word _ = ⊥
 
 -- what is wrong with the words behind a first word
 abbrev pub IsWrongBehind : Lead → List (List ℕ) → Complaint → Type 0
@@ -50,8 +50,8 @@ IsWrongBehind Quit words complaint = IsWrongForm (codes "quit") [] words complai
 IsWrongBehind Columns words complaint =
     IsWrongForm (codes "columns 1` or `columns 2") (a_count ∷ []) words complaint
 IsWrongBehind Size words complaint = IsWrongForm (codes "size N") (a_size ∷ []) words complaint
-IsWrongBehind Short words complaint = IsNoSheet (lead_word Short) complaint
-IsWrongBehind (Call verb) words complaint = IsNoSheet (lead_word (Call verb)) complaint
+IsWrongBehind Short words complaint = LacksSheet (lead_word Short) complaint
+IsWrongBehind (Call verb) words complaint = LacksSheet (lead_word (Call verb)) complaint
 
 -- what is wrong with a line
 abbrev pub IsWrongOpening : List (List ℕ) → Complaint → Type 0
@@ -88,7 +88,7 @@ module _ {K : Type 0} (kind : Ghosts K) where
     -- the call's name stands first, and the words behind it fill its places with its numbers
     abbrev pub AsksCall : List (List ℕ) → Act K → Type 0
     AsksCall words act = (behind : List (List ℕ)) × (words ≡ verb_word (verb_of act) ∷ behind)
-        × AllFit (slots_of (verb_of act)) behind × (numbers_of act ≡ map number_told behind)
+        × AllFill (slots_of (verb_of act)) behind × (numbers_of act ≡ map integer_in behind)
 
     -- what a line asks for
     abbrev pub Asks : List (List ℕ) → Request K → Type 0

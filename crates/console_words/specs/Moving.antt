@@ -22,9 +22,9 @@ use Rattle.console_words.specs.Handing.{call_on}
 use Rattle.console_words.specs.Lines.{Asks, IsWrong}
 
 -- this is the text to print
-abbrev pub Says : List ℕ → Turn → Type 0
-Says words (Said text) = string_bytes text ≡ words
-Says words Over = ⊥
+abbrev pub Prints : List ℕ → Turn → Type 0
+Prints words (Said text) = string_bytes text ≡ words
+Prints words Over = ⊥
 
 module _ {K : Type 0} (kind : Ghosts K) where
   -- a sheet of n blocks a plane that was just opened: every pair is absent
@@ -34,19 +34,19 @@ module _ {K : Type 0} (kind : Ghosts K) where
     pub cells : AllAbsent n (cell kind.zero n desk.tables.costs.items desk.tables.standing.items)
 
   -- the call was made on the sheet, and this is its answer
-  abbrev pub Makes : Desk K → Act K → Option TableName → Answer K → Desk K → Type 0
-  Makes desk act short answer desk' = WasMade kind desk.state (tables_of desk.tables)
+  abbrev pub Performs : Desk K → Act K → Option TableName → Answer K → Desk K → Type 0
+  Performs desk act short answer desk' = WasMade kind desk.state (tables_of desk.tables)
       (call_on desk.state act short) answer desk'.state (tables_of desk'.tables)
 
   module _ (written : K → List ℕ) where
     -- what a request does: the call that it asks for is made, once, and its answer is told in
     -- words; help and the end change nothing
-    abbrev pub Answers : Desk K → Request K → Desk K → Turn → Type 0
-    Answers desk (Make act short) desk' turn = (answer : Answer K)
-        × Makes desk act short answer desk'
-        × Says (answer_words written act desk'.state answer) turn
-    Answers desk Help desk' turn = (desk' ≡ desk) × Says HELP.now turn
-    Answers desk Quit desk' turn = (desk' ≡ desk) × (turn ≡ Over)
+    abbrev pub Serves : Desk K → Request K → Desk K → Turn → Type 0
+    Serves desk (Make act short) desk' turn = (answer : Answer K)
+        × Performs desk act short answer desk'
+        × Prints (answer_words written act desk'.state answer) turn
+    Serves desk Help desk' turn = (desk' ≡ desk) × Prints HELP.now turn
+    Serves desk Quit desk' turn = (desk' ≡ desk) × (turn ≡ Over)
 
     -- what the line of this number and these words does: what it asks for; or if it asks for
     -- nothing, what is wrong with it is told, and nothing changes
@@ -54,6 +54,6 @@ module _ {K : Type 0} (kind : Ghosts K) where
       abbrev pub Moves : List (List ℕ) → Desk K → Desk K → Turn → Type 0
       Moves words desk desk' turn =
           ((request : Request K) × Asks kind numbers words request
-          × Answers desk request desk' turn)
+          × Serves desk request desk' turn)
           ⊎ ((complaint : Complaint) × IsWrong kind entering words complaint
-          × (desk' ≡ desk) × Says (complained_line number complaint) turn)
+          × (desk' ≡ desk) × Prints (complained_line number complaint) turn)

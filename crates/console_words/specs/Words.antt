@@ -6,14 +6,14 @@ use Rattle.std.specs.Str.Iter.{split_whitespace_rest}
 use Rattle.console_words.specs.declared.words.Words.{Words}
 
 -- the word of these bytes, if there are any
-abbrev pub ended : List ℕ → List (List ℕ)
-ended [] = []
-ended (byte ∷ bytes) = (byte ∷ bytes) ∷ []
+abbrev pub begun_word : List ℕ → List (List ℕ)
+begun_word [] = []
+begun_word (byte ∷ bytes) = (byte ∷ bytes) ∷ []
 
 -- the words among characters, where the first has begun with these bytes
 abbrev pub words_among : List ℕ → List ℕ → List (List ℕ)
-words_among begun [] = ended begun
-words_among begun (c ∷ cs) = (if is_whitespace c then ended begun ++ words_among [] cs
+words_among begun [] = begun_word begun
+words_among begun (c ∷ cs) = (if is_whitespace c then begun_word begun ++ words_among [] cs
     else words_among (begun ++ encode_utf8 c) cs)
 
 -- the words of a text: what stands between white space, which is all that Unicode calls so: the

@@ -8,7 +8,7 @@ ghost use Rattle.console_words.specs.Answering.{state_words, state_calls};
 
 use crate::typed_cost::TypedCost;
 use crate::verb::Verb;
-use report::{push_pairing_line, push_refusal, push_unmatched};
+use refusal_words::{push_numbers_line, push_pairing_line, push_refusal, push_unmatched};
 use session::{Act, Answer, State};
 use std::alloc::AllocError;
 use tables::place;
@@ -29,11 +29,7 @@ fn push_partners(text: &mut String, partners: &[u16]) -> Result<(), AllocError>
     ensures { OnOk result (string_bytes text.new
         ≡ string_bytes text.old ++ partners_line partners.now) }
 {
-    text.push_str("partners")?;
-    for right in partners {
-        write!(text, " {right}")?;
-    }
-    text.push_str("\n")
+    push_numbers_line(text, "partners", partners)
 }
 
 // Appends the line of the prices of one plane.

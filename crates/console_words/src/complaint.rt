@@ -3,7 +3,7 @@
 ghost use Rattle.std.specs.Prelude.{Some};
 ghost use Rattle.console_words.specs.Complaining.{complaint_text};
 
-use report::{meaning, remedy};
+use refusal_words::{meaning, remedy};
 use sheet::Cause;
 use std::error::Error;
 use std::fmt;

@@ -6,7 +6,7 @@ ghost use Rattle.console_words.specs.declared.opening.ColumnCount.TheVariants.{O
 ghost use Rattle.console_words.specs.declared.opening.Opening.TheVariants.{Size};
 ghost use Rattle.console_words.specs.Complaining.{complained_line};
 ghost use Rattle.console_words.specs.Conversing.{Opens, Turns, TakesLine, Converses, opened_line};
-ghost use Rattle.console_words.specs.Moving.{Says, Moves};
+ghost use Rattle.console_words.specs.Moving.{Prints, Moves};
 ghost use Rattle.console_words.specs.Words.{words_of, IsSkipped};
 
 use crate::complaint::Complaint;
@@ -34,8 +34,8 @@ pub enum Console {
 }
 
 // The text of a complaint about a line.
-fn complained(heap: Global, number: usize, complaint: Complaint<'_>) -> Result<Turn, AllocError>
-    ensures { IfOk result (Says (complained_line number complaint.entry)) }
+fn complaint_turn(heap: Global, number: usize, complaint: Complaint<'_>) -> Result<Turn, AllocError>
+    ensures { IfOk result (Prints (complained_line number complaint.entry)) }
 {
     Ok(Turn::Said(format!(in heap; "line {number}: {complaint}\n")?))
 }
@@ -59,7 +59,7 @@ fn opened_text(heap: Global, blocks: u16, columns: ColumnCount) -> Result<String
 }
 
 // Opens a sheet.
-fn opened(
+fn open_console(
     heap: Global,
     size: SheetSize,
     columns: ColumnCount,
@@ -84,12 +84,12 @@ fn take_unopened(
     ensures { IfOk result (λ taken. Turns number (words_of line.now) (Unopened columns) taken.0
         taken.1) }
 {
-    let opening = match Opening::parse(line) {
+    let opening = match Opening::from_line(line) {
         Ok(opening) => opening,
         Err(complaint) => {
             return Ok((
                 Console::Unopened(columns),
-                complained(heap, number, complaint)?,
+                complaint_turn(heap, number, complaint)?,
             ));
         }
     };
@@ -98,7 +98,7 @@ fn take_unopened(
             let text = format!(in heap; "{}\n", columns.in_words())?;
             Ok((Console::Unopened(columns), Turn::Said(text)))
         }
-        Opening::Size(size) => opened(heap, size, columns),
+        Opening::Size(size) => open_console(heap, size, columns),
         Opening::Help => {
             let text = String::from_str(heap, HELP)?;
             Ok((Console::Unopened(columns), Turn::Said(text)))
@@ -117,9 +117,9 @@ fn take_opened<K: TypedCost>(
     ensures { IfOk result (λ taken. Moves K.Cost K.written K.numbers K.entering number
         (words_of line.now) desk taken.0 taken.1) }
 {
-    match Request::parse(line) {
-        Ok(request) => desk.answer(heap, request),
-        Err(complaint) => Ok((desk, complained(heap, number, complaint)?)),
+    match Request::from_line(line) {
+        Ok(request) => desk.serve(heap, request),
+        Err(complaint) => Ok((desk, complaint_turn(heap, number, complaint)?)),
     }
 }
 
@@ -167,7 +167,7 @@ impl Console {
         ensures { IfOk result (λ taken. TakesLine number line.now self taken.0 taken.1) }
     {
         let Ok(line) = str::from_utf8(line) else {
-            return Ok((self, complained(heap, number, Complaint::NotText)?));
+            return Ok((self, complaint_turn(heap, number, Complaint::NotText)?));
         };
         if is_skipped(line) {
             return Ok((self, Turn::Said(String::new(heap))));

@@ -9,7 +9,7 @@ use crate::answer_lines::push_answer;
 use crate::help::HELP;
 use crate::request::Request;
 use crate::sheet_size::SheetSize;
-use crate::table_name::{TableName, handed};
+use crate::table_name::{TableName, handed_lengths};
 use crate::turn::Turn;
 use crate::typed_cost::TypedCost;
 use session::{Act, Answer, Call, Lengths, SheetTables, State, make};
@@ -25,7 +25,7 @@ pub struct Desk<K> {
 }
 
 impl<K: TypedCost> Desk<K> {
-    ghost use Rattle.console_words.specs.Moving.{IsBlank, Makes, Answers};
+    ghost use Rattle.console_words.specs.Moving.{IsBlank, Performs, Serves};
 
     /// Opens a sheet over new tables.
     pub(crate) fn open(heap: Global, size: SheetSize) -> Result<Desk<K>, AllocError>
@@ -43,28 +43,28 @@ impl<K: TypedCost> Desk<K> {
         })
     }
 
-    // Makes a call, which is handed a table one place short, or all of them whole.
-    fn make(
+    // Performs a call, which is handed a table one place short, or all of them whole.
+    fn perform(
         self,
         heap: Global,
         act: Act<K>,
         short: Option<TableName>,
     ) -> Result<(Desk<K>, Answer<K>), AllocError>
-        ensures { IfOk result (λ made. Makes K.Cost self act short made.1 made.0) }
+        ensures { IfOk result (λ made. Performs K.Cost self act short made.1 made.0) }
     {
         let Desk { state, mut tables } = self;
-        let handed = handed(short, Lengths::right(state.size()));
+        let handed = handed_lengths(short, Lengths::right(state.size()));
         let (state, answer) = make(heap, state, &mut tables, Call { act, handed });
         Ok((Desk { state, tables }, answer?))
     }
 
     /// Does what a request asks for.
-    pub(crate) fn answer(
+    pub(crate) fn serve(
         self,
         heap: Global,
         request: Request<K>,
     ) -> Result<(Desk<K>, Turn), AllocError>
-        ensures { IfOk result (λ made. Answers K.Cost K.written self request made.0 made.1) }
+        ensures { IfOk result (λ made. Serves K.Cost K.written self request made.0 made.1) }
     {
         let mut text = String::new(heap);
         match request {
@@ -74,7 +74,7 @@ impl<K: TypedCost> Desk<K> {
                 Ok((self, Turn::Said(text)))
             }
             Request::Make { act, short } => {
-                let (desk, answer) = self.make(heap, act, short)?;
+                let (desk, answer) = self.perform(heap, act, short)?;
                 push_answer(&mut text, act, &desk.state, answer)?;
                 Ok((desk, Turn::Said(text)))
             }

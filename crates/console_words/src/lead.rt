@@ -19,7 +19,7 @@ pub enum Lead {
 
 impl Lead {
     /// What a word begins.
-    pub fn named(word: &str) -> Option<Lead>
+    pub fn from_word(word: &str) -> Option<Lead>
         ensures found { IfSome result (λ lead. lead_word lead ≡ word.now) }
         ensures unknown { IfNone result ((lead : Lead) → lead_word lead ≢ word.now) }
     {
@@ -29,7 +29,7 @@ impl Lead {
             "columns" => Some(Lead::Columns),
             "size" => Some(Lead::Size),
             "short" => Some(Lead::Short),
-            _ => Some(Lead::Call(Verb::named(word)?)),
+            _ => Some(Lead::Call(Verb::from_word(word)?)),
         }
     }
 }

@@ -22,7 +22,7 @@ pub enum ColumnCount {
 
 impl ColumnCount {
     /// The count that a word tells.
-    pub fn told(word: &str) -> Result<ColumnCount, Complaint<'_>>
+    pub fn from_word(word: &str) -> Result<ColumnCount, Complaint<'_>>
         ensures one { (result ≡ Ok One) ↔ (word.now ≡ codes "1") }
         ensures two { (result ≡ Ok Two) ↔ (word.now ≡ codes "2") }
         ensures other { IfErr result (Blames a_count word.now) }
@@ -56,23 +56,27 @@ pub enum Opening {
 
 impl Opening {
     /// What a line asks for.
-    pub fn parse(line: &str) -> Result<Opening, Complaint<'_>>
+    pub fn from_line(line: &str) -> Result<Opening, Complaint<'_>>
         ensures asked { IfOk result (AsksOpening (words_of line.now)) }
         ensures wrong { IfErr result (IsWrongOpening (words_of line.now)) }
     {
         let mut words = Words::of(line, "size N");
-        let word = words.word()?;
-        let Some(lead) = Lead::named(word) else {
+        let word = words.next_word()?;
+        let Some(lead) = Lead::from_word(word) else {
             return Err(Complaint::Unknown(word));
         };
-        let opening = led_by(lead, word, &mut words)?;
+        let opening = opening_after(lead, word, &mut words)?;
         words.end()?;
         Ok(opening)
     }
 }
 
 // What a line asks for by its first word and those behind it.
-fn led_by<'a>(lead: Lead, word: &'a str, words: &mut Words<'a>) -> Result<Opening, Complaint<'a>>
+fn opening_after<'a>(
+    lead: Lead,
+    word: &'a str,
+    words: &mut Words<'a>,
+) -> Result<Opening, Complaint<'a>>
     requires { lead_word lead ≡ word.now }
     ensures whole { IfOk result (λ opening. words_left words.new ≡ []
         → AsksOpening (word.now ∷ words_left words.old) opening) }
@@ -84,11 +88,11 @@ fn led_by<'a>(lead: Lead, word: &'a str, words: &mut Words<'a>) -> Result<Openin
     match lead {
         Lead::Columns => {
             words.expect_form("columns 1` or `columns 2");
-            Ok(Opening::Columns(ColumnCount::told(words.word()?)?))
+            Ok(Opening::Columns(ColumnCount::from_word(words.next_word()?)?))
         }
         Lead::Size => {
             words.expect_form("size N");
-            Ok(Opening::Size(SheetSize::told(words.word()?)?))
+            Ok(Opening::Size(SheetSize::from_word(words.next_word()?)?))
         }
         Lead::Help => {
             words.expect_form("help");

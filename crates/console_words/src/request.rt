@@ -31,23 +31,23 @@ pub enum Request<K> {
 
 impl<K: TypedCost> Request<K> {
     /// What a line asks for.
-    pub fn parse(line: &str) -> Result<Request<K>, Complaint<'_>>
+    pub fn from_line(line: &str) -> Result<Request<K>, Complaint<'_>>
         ensures asked { IfOk result (Asks K.Cost K.numbers (words_of line.now)) }
         ensures wrong { IfErr result (IsWrong K.Cost K.entering (words_of line.now)) }
     {
         let mut words = Words::of(line, "help");
-        let word = words.word()?;
-        let Some(lead) = Lead::named(word) else {
+        let word = words.next_word()?;
+        let Some(lead) = Lead::from_word(word) else {
             return Err(Complaint::Unknown(word));
         };
-        let request = led_by(lead, word, &mut words)?;
+        let request = request_after(lead, word, &mut words)?;
         words.end()?;
         Ok(request)
     }
 }
 
 // What a line asks for by its first word and those behind it.
-fn led_by<'a, K: TypedCost>(
+fn request_after<'a, K: TypedCost>(
     lead: Lead,
     word: &'a str,
     words: &mut Words<'a>,
@@ -70,16 +70,16 @@ fn led_by<'a, K: TypedCost>(
             Ok(Request::Quit)
         }
         Lead::Columns | Lead::Size => Err(Complaint::SheetIsOpen(word)),
-        Lead::Short => short_call(words),
+        Lead::Short => short_request(words),
         Lead::Call(verb) => {
-            let act = call(verb, words)?;
+            let act = typed_act(verb, words)?;
             Ok(Request::Make { act, short: None })
         }
     }
 }
 
 // What is asked for by the words behind `short`: a table, and a call that it is short for.
-fn short_call<'a, K: TypedCost>(words: &mut Words<'a>) -> Result<Request<K>, Complaint<'a>>
+fn short_request<'a, K: TypedCost>(words: &mut Words<'a>) -> Result<Request<K>, Complaint<'a>>
     ensures whole { IfOk result (λ request. words_left words.new ≡ []
         → Asks K.Cost K.numbers (lead_word Short ∷ words_left words.old) request) }
     ensures longer { IfOk result (λ request. (complaint : Complaint) → words_left words.new ≢ []
@@ -88,15 +88,15 @@ fn short_call<'a, K: TypedCost>(words: &mut Words<'a>) -> Result<Request<K>, Com
     ensures wrong { IfErr result (IsWrongShort K.Cost K.entering (words_left words.old)) }
 {
     words.expect_form("short TABLE CALL ..");
-    let word = words.word()?;
-    let Some(table) = TableName::named(word) else {
+    let word = words.next_word()?;
+    let Some(table) = TableName::from_word(word) else {
         return Err(Complaint::UnknownTable(word));
     };
-    let word = words.word()?;
-    let Some(verb) = Verb::named(word) else {
+    let word = words.next_word()?;
+    let Some(verb) = Verb::from_word(word) else {
         return Err(Complaint::Unknown(word));
     };
-    let act = call(verb, words)?;
+    let act = typed_act(verb, words)?;
     Ok(Request::Make {
         act,
         short: Some(table),
@@ -104,7 +104,7 @@ fn short_call<'a, K: TypedCost>(words: &mut Words<'a>) -> Result<Request<K>, Com
 }
 
 // The call of this name, with what the words behind it say.
-fn call<'a, K: TypedCost>(verb: Verb, words: &mut Words<'a>) -> Result<Act<K>, Complaint<'a>>
+fn typed_act<'a, K: TypedCost>(verb: Verb, words: &mut Words<'a>) -> Result<Act<K>, Complaint<'a>>
     ensures form { form_of words.new ≡ form_words K.entering verb }
     ensures verb { IfOk result (λ act. verb_of act ≡ verb) }
     ensures told { IfOk result (λ act. Takes (slots_of K.Cost verb) (words_left words.old)
@@ -115,20 +115,20 @@ fn call<'a, K: TypedCost>(verb: Verb, words: &mut Words<'a>) -> Result<Act<K>, C
     words.expect_form(verb.form::<K>());
     match verb {
         Verb::Enter => {
-            let (left, right) = pair(words)?;
+            let (left, right) = typed_pair(words)?;
             let cost = K::take_from(words)?;
             Ok(Act::Enter { left, right, cost })
         }
         Verb::Strike => {
-            let (left, right) = pair(words)?;
+            let (left, right) = typed_pair(words)?;
             Ok(Act::Strike { left, right })
         }
         Verb::Read => {
-            let (left, right) = pair(words)?;
+            let (left, right) = typed_pair(words)?;
             Ok(Act::Read { left, right })
         }
         Verb::Quote => {
-            let (left, right) = pair(words)?;
+            let (left, right) = typed_pair(words)?;
             Ok(Act::Quote { left, right })
         }
         Verb::Settle => Ok(Act::Settle),
@@ -142,14 +142,14 @@ fn call<'a, K: TypedCost>(verb: Verb, words: &mut Words<'a>) -> Result<Act<K>, C
 }
 
 // The next two words as a left and a right block.
-fn pair<'a>(words: &mut Words<'a>) -> Result<(u16, u16), Complaint<'a>>
+fn typed_pair<'a>(words: &mut Words<'a>) -> Result<(u16, u16), Complaint<'a>>
     ensures form { form_of words.new ≡ form_of words.old }
     ensures told { IfOk result (λ told. Takes (a_block ∷ (a_block ∷ [])) (words_left words.old)
         (words_left words.new) (pos told.0 ∷ (pos told.1 ∷ []))) }
     ensures failed { IfErr result (Fails (form_of words.old) (a_block ∷ (a_block ∷ []))
         (words_left words.old)) }
 {
-    let left = words.block()?;
-    let right = words.block()?;
+    let left = words.next_block()?;
+    let right = words.next_block()?;
     Ok((left, right))
 }

@@ -20,7 +20,7 @@ impl SheetSize {
     ghost use Rattle.console_words.specs.Sizing.{TellsSize, number_in};
 
     /// The size that a word tells, in decimal digits behind a `+` or nothing.
-    pub fn told(word: &str) -> Result<SheetSize, Complaint<'_>>
+    pub fn from_word(word: &str) -> Result<SheetSize, Complaint<'_>>
         ensures told { IsOk result ↔ TellsSize word.now }
         ensures value { IfOk result (λ size. size.blocks ≡ number_in word.now) }
         ensures other { IfErr result (Blames a_size word.now) }

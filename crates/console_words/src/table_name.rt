@@ -3,7 +3,7 @@
 ghost use Rattle.std.specs.Prelude.{◌≡◌, ◌≢◌, IfSome, IfNone};
 ghost use Rattle.console_words.specs.declared.table_name.TableName.{TableName};
 ghost use Rattle.console_words.specs.Naming.{table_word};
-ghost use Rattle.console_words.specs.Handing.{shortened, handed_of};
+ghost use Rattle.console_words.specs.Handing.{short_lengths, handed_lengths};
 
 use session::Lengths;
 
@@ -21,7 +21,7 @@ pub enum TableName {
 
 impl TableName {
     /// The table that a word names.
-    pub fn named(word: &str) -> Option<TableName>
+    pub fn from_word(word: &str) -> Option<TableName>
         ensures found { IfSome result (λ table. table_word table ≡ word.now) }
         ensures unknown { IfNone result ((table : TableName) → table_word table ≢ word.now) }
     {
@@ -39,7 +39,7 @@ impl TableName {
 
     /// These lengths, with one place less of this table.
     pub fn shorten(self, whole: Lengths) -> Lengths
-        ensures { result ≡ shortened self whole }
+        ensures { result ≡ short_lengths self whole }
     {
         let mut lengths = whole;
         match self {
@@ -56,8 +56,8 @@ impl TableName {
 }
 
 /// What a call is handed of whole tables: all, or one of them a place short.
-pub(crate) fn handed(short: Option<TableName>, whole: Lengths) -> Lengths
-    ensures { result ≡ handed_of short whole }
+pub(crate) fn handed_lengths(short: Option<TableName>, whole: Lengths) -> Lengths
+    ensures { result ≡ handed_lengths short whole }
 {
     match short {
         Some(table) => table.shorten(whole),

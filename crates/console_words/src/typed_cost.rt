@@ -53,7 +53,7 @@ impl TypedCost for Plain {
     }
 
     fn take_from<'a>(words: &mut Words<'a>) -> Result<Plain, Complaint<'a>> {
-        Ok(Plain(words.number()?))
+        Ok(Plain(words.next_number()?))
     }
 
     fn push_to(self, text: &mut String) -> Result<(), AllocError> {
@@ -76,8 +76,8 @@ impl TypedCost for TwoStep<Plain, Plain> {
     }
 
     fn take_from<'a>(words: &mut Words<'a>) -> Result<TwoStep<Plain, Plain>, Complaint<'a>> {
-        let first = Plain(words.number()?);
-        let second = Plain(words.number()?);
+        let first = Plain(words.next_number()?);
+        let second = Plain(words.next_number()?);
         Ok(TwoStep(first, second))
     }
 

@@ -25,7 +25,7 @@ pub enum Verb {
 
 impl Verb {
     /// The call that a word names.
-    pub fn named(word: &str) -> Option<Verb>
+    pub fn from_word(word: &str) -> Option<Verb>
         ensures found { IfSome result (λ verb. verb_word verb ≡ word.now) }
         ensures unknown { IfNone result ((verb : Verb) → verb_word verb ≢ word.now) }
     {

@@ -44,7 +44,7 @@ impl<'a> Words<'a> {
     }
 
     /// The next word.
-    pub fn word(&mut self) -> Result<&'a str, Complaint<'a>>
+    pub fn next_word(&mut self) -> Result<&'a str, Complaint<'a>>
         ensures form { form_of self.new ≡ form_of self.old }
         ensures rest { words_left self.new ≡ drop 1 (words_left self.old) }
         ensures word { IfOk result (λ word. words_left self.old ≡ word.now ∷ words_left self.new) }
@@ -56,7 +56,7 @@ impl<'a> Words<'a> {
 
     /// The next word as a block number: decimal digits, behind a `+` or nothing. Whether the sheet
     /// has such a block is not asked here.
-    pub fn block(&mut self) -> Result<u16, Complaint<'a>>
+    pub fn next_block(&mut self) -> Result<u16, Complaint<'a>>
         ensures form { form_of self.new ≡ form_of self.old }
         ensures rest { words_left self.new ≡ drop 1 (words_left self.old) }
         ensures told { IfOk result (λ told. Takes (a_block ∷ []) (words_left self.old)
@@ -64,7 +64,7 @@ impl<'a> Words<'a> {
         ensures failed { IfErr result
             (Fails (form_of self.old) (a_block ∷ []) (words_left self.old)) }
     {
-        let word = self.word()?;
+        let word = self.next_word()?;
         match word.parse::<u16>() {
             Ok(block) => Ok(block),
             Err(error) if is_overflow(&error) => Err(Complaint::LargeBlock(word)),
@@ -74,7 +74,7 @@ impl<'a> Words<'a> {
 
     /// The next word as a signed whole number: decimal digits, behind a `+`, a `-` or nothing.
     /// Whether a cost may be so large is not asked here.
-    pub fn number(&mut self) -> Result<i64, Complaint<'a>>
+    pub fn next_number(&mut self) -> Result<i64, Complaint<'a>>
         ensures form { form_of self.new ≡ form_of self.old }
         ensures rest { words_left self.new ≡ drop 1 (words_left self.old) }
         ensures told { IfOk result (λ told. Takes (a_number ∷ []) (words_left self.old)
@@ -82,7 +82,7 @@ impl<'a> Words<'a> {
         ensures failed { IfErr result
             (Fails (form_of self.old) (a_number ∷ []) (words_left self.old)) }
     {
-        let word = self.word()?;
+        let word = self.next_word()?;
         match word.parse::<i64>() {
             Ok(number) => Ok(number),
             Err(error) if is_overflow(&error) => Err(Complaint::LargeCost(word)),
@@ -98,7 +98,7 @@ impl<'a> Words<'a> {
         ensures left { IfErr result (λ complaint. (words_left self.old ≢ [])
             × IsTooMany (form_of self.old) complaint) }
     {
-        match self.word() {
+        match self.next_word() {
             Ok(_) => Err(Complaint::TooMany(self.form)),
             // none is left, as it should be
             Err(_) => Ok(()),

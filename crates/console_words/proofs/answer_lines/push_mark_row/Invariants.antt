@@ -1,7 +1,7 @@
 -- The text has the marks up to here.
 use Rattle.std.proofs.Common.{◌≡◌, ◌++◌, string_bytes, slice_get}
 use Rattle.pairing.specs.Places.{place_of}
-use Rattle.report.specs.Text.{up_to}
+use Rattle.refusal_words.specs.Lines.{up_to}
 use Rattle.console_words.specs.Answering.{mark_word}
 use Rattle.console_words.proofs.answer_lines.push_mark_row.Given as goal
 

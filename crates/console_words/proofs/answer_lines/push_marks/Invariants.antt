@@ -1,6 +1,6 @@
 -- The text has the rows up to here.
 use Rattle.std.proofs.Common.{◌≡◌, ◌++◌, string_bytes}
-use Rattle.report.specs.Text.{up_to}
+use Rattle.refusal_words.specs.Lines.{up_to}
 use Rattle.console_words.specs.Answering.{mark_row}
 use Rattle.console_words.proofs.answer_lines.push_marks.Given as goal
 

@@ -4,7 +4,7 @@ use Rattle.std.proofs.Common.{◌≡◌, ℕ, Bool, sym, subst, arith, refl, Non
 use Rattle.std.specs.Prelude.{◌==◌, slice_index, IsTrue}
 use Rattle.std.specs.Str.{IsUtf8}
 use Rattle.std.proofs.lemmas.Bool.Decides.{nat_tests}
-use Rattle.console_words.proofs.WordSteps.{stepped}
+use Rattle.console_words.proofs.WordSteps.{word_step}
 use Rattle.console_words.proofs.console.is_skipped.Goals as goal
 
 tests : (b : Bool) (x : ℕ) → b ≡ (x == 35) → (IsTrue b → x ≡ 35) × (x ≡ 35 → IsTrue b)
@@ -13,7 +13,7 @@ tests b x e = grind (arith, nat_tests)
 pub returns-in-Some : goal.returns-in-Some
 returns-in-Some c =
     let rest = c.split_whitespace.ensures.rest in
-    let step = stepped c.split_whitespace.result (Some c.in-Some.word) c.next.new.self
+    let step = word_step c.split_whitespace.result (Some c.in-Some.word) c.next.new.self
     ∣ subst IsUtf8 (sym rest) c.utf8.line ∣₁ c.in-Some.ensures.steps in
     rw (← rest, step.0) (tests c.starts_with.result (slice_index c.in-Some.word.now 0)
     (c.starts_with.ensures.byte (omega arith) (omega arith) (λ w o h. h)))
@@ -21,6 +21,6 @@ returns-in-Some c =
 pub returns-in-None : goal.returns-in-None
 returns-in-None c =
     let rest = c.split_whitespace.ensures.rest in
-    let step = stepped c.split_whitespace.result None c.next.new.self
+    let step = word_step c.split_whitespace.result None c.next.new.self
     ∣ subst IsUtf8 (sym rest) c.utf8.line ∣₁ c.in-None.ensures.steps in
     rw (← rest, step.0.0) (λ true. tt, λ skipped. refl)

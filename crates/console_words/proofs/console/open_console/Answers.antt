@@ -1,7 +1,7 @@
 -- The sheet that is opened is of the kind whose costs have the columns asked for.
-use Rattle.console_words.proofs.console.opened.Goals as goal
-use Rattle.console_words.proofs.console.opened.Goals.{in-One+in_ok-open-in-One}
-use Rattle.console_words.proofs.console.opened.Goals.{in-Two+in_ok-open-in-Two}
+use Rattle.console_words.proofs.console.open_console.Goals as goal
+use Rattle.console_words.proofs.console.open_console.Goals.{in-One+in_ok-open-in-One}
+use Rattle.console_words.proofs.console.open_console.Goals.{in-Two+in_ok-open-in-Two}
 
 pub returns : goal.returns
 returns c =

@@ -9,18 +9,18 @@ use Rattle.std.specs.declared.str.SplitWhitespace.{SplitWhitespace}
 use Rattle.console_words.specs.declared.complaint.Complaint.{Complaint}
 use Rattle.console_words.specs.Forms.{IsTooFew}
 use Rattle.console_words.specs.Words.{words_of, form_of}
-use Rattle.console_words.proofs.WordSteps.{Stepped, stepped, dropped}
-use Rattle.console_words.proofs.words.Words.word.Goals as goal
+use Rattle.console_words.proofs.WordSteps.{IsWordStep, word_step, word_step_drops}
+use Rattle.console_words.proofs.words.Words.next_word.Goals as goal
 
 given : (s : SplitWhitespace) (r : Option (Bor (List ℕ))) (t : SplitWhitespace) (e : Complaint)
-    → Stepped s r t
+    → IsWordStep s r t
     → IfOk (ok_or r e) (λ word. words_of (split_whitespace_rest s)
     ≡ word.now ∷ words_of (split_whitespace_rest t))
 given s None t e is = tt
 given s (Some word) t e is = is
 
 missing : (s : SplitWhitespace) (r : Option (Bor (List ℕ))) (t : SplitWhitespace) (e : Complaint)
-    (form : List ℕ) → IsTooFew form e → Stepped s r t
+    (form : List ℕ) → IsTooFew form e → IsWordStep s r t
     → IfErr (ok_or r e) (λ complaint. (words_of (split_whitespace_rest s) ≡ [])
     × IsTooFew form complaint)
 missing s None t e form too_few is = (is.0, too_few)
@@ -28,25 +28,25 @@ missing s (Some word) t e form too_few is = tt
 
 pub invariant_of-self : goal.invariant_of-self
 invariant_of-self c =
-    let step = stepped c.args.self.now.rest c.next.result c.next.new.self
+    let step = word_step c.args.self.now.rest c.next.result c.next.new.self
     c.args.self.now.text c.next.ensures.steps in
     record { text = ∣ step.1 ∣₁ }
 
 pub returns-clause-rest : goal.returns-clause-rest
 returns-clause-rest c =
-    let step = stepped c.args.self.now.rest c.next.result c.next.new.self
+    let step = word_step c.args.self.now.rest c.next.result c.next.new.self
     c.args.self.now.text c.next.ensures.steps in
-    dropped c.args.self.now.rest c.next.result c.next.new.self step.0
+    word_step_drops c.args.self.now.rest c.next.result c.next.new.self step.0
 
 pub returns-clause-word : goal.returns-clause-word
 returns-clause-word c =
-    let step = stepped c.args.self.now.rest c.next.result c.next.new.self
+    let step = word_step c.args.self.now.rest c.next.result c.next.new.self
     c.args.self.now.text c.next.ensures.steps in
     rw c.ok_or.ensures.value (given c.args.self.now.rest c.next.result c.next.new.self _ step.0)
 
 pub returns-clause-missing : goal.returns-clause-missing
 returns-clause-missing c =
-    let step = stepped c.args.self.now.rest c.next.result c.next.new.self
+    let step = word_step c.args.self.now.rest c.next.result c.next.new.self
     c.args.self.now.text c.next.ensures.steps in
     rw c.ok_or.ensures.value (missing c.args.self.now.rest c.next.result c.next.new.self _
     (form_of c.args.self.now) refl step.0)

@@ -3,7 +3,7 @@
 -- of the answer are all that is appended to an empty text.
 use Rattle.std.proofs.Common.{◌++◌, ap, ◌∙◌}
 use Rattle.console_words.specs.Answering.{answer_words}
-use Rattle.console_words.proofs.desk.Desk.answer.Goals as goal
+use Rattle.console_words.proofs.desk.Desk.serve.Goals as goal
 
 pub returns-in_ok-push_answer-in-Make : goal.returns-in_ok-push_answer-in-Make
 returns-in_ok-push_answer-in-Make g c =
