@@ -2,9 +2,10 @@
 -- Idea: a map is made of its cells, and a cell of what is told of its pair. The marks of a table
 -- tell the pairs that some optimum pairing has, and the loaded costs are the stated ones. Grids
 -- that are the same inside have the same crowd set, so what is told of none is the same too.
-use Rattle.std.proofs.Common.{◌≡◌, ℕ, zero, suc, ◌<◌, max, Bool, true, false, cond, ◌&&◌, eqb, List}
-use Rattle.std.proofs.Common.{[], ◌∷◌, ◌++◌, length, ℤ, Option, Result, codes, decimal, sym, refl}
-use Rattle.std.proofs.Common.{ap, ap₂, ◌∙◌, subst, arith}
+use Rattle.std.proofs.Common.{◌≡◌, ℕ, zero, suc, ◌<◌, max, Bool, true, false, ◌&&◌, List, [], ◌∷◌}
+use Rattle.std.proofs.Common.{◌++◌, length, ℤ, Option, Result, codes, decimal, sym, refl, ap, ap₂}
+use Rattle.std.proofs.Common.{◌∙◌, subst, arith}
+use Rattle.std.specs.Prelude.{◌==◌, if◌then◌else◌}
 use Rattle.std.proofs.lemmas.Bool.{lt-ltb}
 use Rattle.cost.specs.declared.plain_kind.Plain.{Plain}
 use Rattle.pairing.specs.Grid.{Grid, at, total}
@@ -12,6 +13,7 @@ use Rattle.pairing.specs.Places.{place_of}
 use Rattle.pairing.specs.Largest.{Unpaired}
 use Rattle.pairing.specs.Optima.{optima, has_pair, is_marked}
 use Rattle.matching.specs.Answers.{IsNth}
+use Rattle.matching.proofs.Nth.{nth_optimum}
 use Rattle.tables.specs.Lent.{Lent, grid}
 use Rattle.sheet.specs.Walking.{AreMarks}
 use Rattle.sheet.specs.Size.{Sheet}
@@ -23,11 +25,10 @@ use Rattle.report.specs.Text.{cost_in}
 use Rattle.report.specs.Listing.{total_line}
 use Rattle.report.specs.Mapping.{SheetView, cell_text, cell_of, right_in, most, row_width}
 use Rattle.report.specs.Mapping.{column_width, head_line, table_row, table_rows, legend}
-use Rattle.report.specs.Mapping.{map_text}
+use Rattle.report.specs.Mapping.{map_lines, map_text}
 use Rattle.report.specs.Drawing.{grid_view, IsMapOver, IsMap}
 use Rattle.report.proofs.Described.{cost_shown}
 use Rattle.report.proofs.Lines.{up_same}
-use Rattle.matching.proofs.Nth.{nth_optimum}
 
 -- ---- A map is made of its cells
 
@@ -36,37 +37,20 @@ most_same zero f g e = refl
 most_same (suc k) f g e =
     ap₂ max (most_same k f g (λ i h. e i (omega arith))) (e k (omega arith))
 
-module _ (n : ℕ) (cell cell' : ℕ → ℕ → List ℕ)
-    (same : (l r : ℕ) → l < n → r < n → cell l r ≡ cell' l r) where
-  width_same : column_width n cell ≡ column_width n cell'
-  width_same = ap (λ k. max k 2)
-      (most_same n (λ l. row_width cell l n) (λ l. row_width cell' l n)
-      (λ l i. most_same n (λ r. length (cell l r)) (λ r. length (cell' l r))
-      (λ r j. ap length (same l r i j))))
-
-  rows_same : (width : ℕ) → table_rows n cell width n ≡ table_rows n cell' width n
-  rows_same width = up_same n (table_row n cell width) (table_row n cell' width)
-      (λ l i. ap (λ t. right_in 2 (decimal l) ++ (t ++ codes "\n"))
-      (up_same n (λ r. codes " " ++ right_in width (cell l r))
-      (λ r. codes " " ++ right_in width (cell' l r))
-      (λ r j. ap (λ t. codes " " ++ right_in width t) (same l r i j))))
-
--- what two views show of n blocks a plane
-module _ (n : ℕ) (cost cost' : ℕ → ℕ → Option ℤ) (first first' occurs occurs' : ℕ → ℕ → Bool)
-  where
-    abbrev one : SheetView
-    one = record { size = n; cost = cost; first = first; occurs = occurs }
-
-    abbrev other : SheetView
-    other = record { size = n; cost = cost'; first = first'; occurs = occurs' }
-
-    map_same : ((l r : ℕ) → l < n → r < n → cell_of one l r ≡ cell_of other l r)
-        → map_text one ≡ map_text other
-    map_same same =
-        ap (λ k. head_line n k ++ (table_rows n (cell_of one) k n ++ legend))
-        (width_same n (cell_of one) (cell_of other) same)
-        ∙ ap (λ t. head_line n (column_width n (cell_of other)) ++ (t ++ legend))
-        (rows_same n (cell_of one) (cell_of other) same (column_width n (cell_of other)))
+lines_same : (n : ℕ) (cell cell' : ℕ → ℕ → List ℕ)
+    → ((l r : ℕ) → l < n → r < n → cell l r ≡ cell' l r) → map_lines n cell ≡ map_lines n cell'
+lines_same n cell cell' same =
+    let width = column_width n cell' in
+    ap (λ k. head_line n k ++ (table_rows n cell k n ++ legend))
+    (ap (λ k. max k 2) (most_same n (λ l. row_width cell l n) (λ l. row_width cell' l n)
+    (λ l i. most_same n (λ r. length (cell l r)) (λ r. length (cell' l r))
+    (λ r j. ap length (same l r i j)))))
+    ∙ ap (λ t. head_line n width ++ (t ++ legend))
+    (up_same n (table_row n cell width) (table_row n cell' width)
+    (λ l i. ap (λ t. right_in 2 (decimal l) ++ (t ++ codes "\n"))
+    (up_same n (λ r. codes " " ++ right_in width (cell l r))
+    (λ r. codes " " ++ right_in width (cell' l r))
+    (λ r j. ap (λ t. codes " " ++ right_in width t) (same l r i j)))))
 
 -- ---- Views of a grid
 
@@ -83,16 +67,16 @@ over_same : (cost cost' : ℕ → ℕ → Option ℤ) (g h : Grid) (ps : List (L
     → ((crowd short : ℕ)
     → Unpaired g.size g.stands crowd short → Unpaired h.size h.stands crowd short)
     → IsMapOver cost g ps text → IsMapOver cost' h ps text
-over_same cost cost' g h [] text totals maps crowds told =
-    (told.0, crowds told.0.crowd told.0.short told.1, told.2)
-over_same cost cost' g h (p ∷ ps) text totals maps crowds told =
-    told ∙ ap₂ (λ t m. total_line t ++ m) (totals p (omega arith, refl)) (maps p)
+over_same cost cost' g h [] text totals maps crowds is =
+    (is.0, crowds is.0.crowd is.0.short is.1, is.2)
+over_same cost cost' g h (p ∷ ps) text totals maps crowds is =
+    is ∙ ap₂ (λ t m. total_line t ++ m) (totals p (omega arith, refl)) (maps p)
 
 -- ---- Settled tables
 
-told_back : (b : Bool) → eqb (cond b 1 0) 1 ≡ b
-told_back true = refl
-told_back false = refl
+is_one : (b : Bool) → (if b then 1 else 0) == 1 ≡ b
+is_one true = refl
+is_one false = refl
 
 module _ (t : Lent Plain) (marks : List ℕ) where
   -- what a drawing of the tables with these marks shows
@@ -100,15 +84,15 @@ module _ (t : Lent Plain) (marks : List ℕ) where
   tables_view = record {
     size = t.size;
     cost = cost_in t.size t.costs t.standing;
-    first = λ l r. eqb (at t.partners l) r;
-    occurs = λ l r. eqb (at marks (place_of t.size l r)) 1;
+    first = λ l r. at t.partners l == r;
+    occurs = λ l r. at marks (place_of t.size l r) == 1;
   }
 
-  marks_told : AreMarks plain_kind t marks → (l r : ℕ) → l < t.size → r < t.size
-      → eqb (at marks (place_of t.size l r)) 1 ≡ is_marked (grid plain_kind t) l r
-  marks_told m l r i j =
+  occurs_marked : AreMarks plain_kind t marks → (l r : ℕ) → l < t.size → r < t.size
+      → tables_view.occurs l r ≡ is_marked (grid plain_kind t) l r
+  occurs_marked m l r i j =
       let has = has_pair l r (optima (grid plain_kind t)) in
-      ap (λ k. eqb k 1) (m.marks l r i j) ∙ told_back has
+      ap (λ k. k == 1) (m.marks l r i j) ∙ is_one has
       ∙ ap (λ b. b && has) (sym (lt-ltb l t.size i))
 
   -- it is the map of the grid in them, if the partners are the first optimum pairing
@@ -119,12 +103,11 @@ module _ (t : Lent Plain) (marks : List ℕ) where
   drawn m text first e =
       let g = grid plain_kind t in
       let cost = cost_in t.size t.costs t.standing in
-      let is_first : ℕ → ℕ → Bool = λ l r. eqb (at t.partners l) r in
       map_first cost g (optima g) t.partners text first
       (e ∙ ap (λ x. total_line (total g t.partners) ++ x)
-      (map_same t.size cost cost is_first is_first
-      (λ l r. eqb (at marks (place_of t.size l r)) 1) (is_marked g)
-      (λ l r i j. ap (λ o. cell_text (is_first l r) o (cost l r)) (marks_told m l r i j))))
+      (lines_same t.size (cell_of tables_view) (cell_of (grid_view cost g t.partners))
+      (λ l r i j. ap (λ o. cell_text (at t.partners l == r) o (cost l r))
+      (occurs_marked m l r i j))))
 
 -- ---- The order that was loaded
 
@@ -135,14 +118,15 @@ module _ (order : Order) (r : Result Sheet Fault) (costs : List Plain) (standing
       → IsMap (cost_stated order.pairs) (grid_stated order) text
   drawn_order text map =
       let n = order.size in
+      let cost = cost_in n costs standing in
+      let stated = cost_stated order.pairs in
       let g = plain_grid n costs standing in
       let h = grid_stated order in
       let alike = loaded_alike order r costs standing accepted in
-      subst (λ (ps : List (List ℕ)). IsMapOver (cost_stated order.pairs) h ps text) alike.optima
-      (over_same (cost_in n costs standing) (cost_stated order.pairs) g h (optima g) text
+      subst (λ (ps : List (List ℕ)). IsMapOver stated h ps text) alike.optima
+      (over_same cost stated g h (optima g) text
       (λ p i. alike.totals p (nth_optimum g 0 p i).perfect)
-      (λ p. map_same n (cost_in n costs standing) (cost_stated order.pairs)
-      (λ l m. eqb (at p l) m) (λ l m. eqb (at p l) m) (is_marked g) (is_marked h)
-      (λ l m i j. ap₂ (λ o c. cell_text (eqb (at p l) m) o c) (alike.is_marked l m)
+      (λ p. lines_same n (cell_of (grid_view cost g p)) (cell_of (grid_view stated h p))
+      (λ l m i j. ap₂ (cell_text (at p l == m)) (alike.is_marked l m)
       (cost_shown order costs standing accepted.shows l m i j)))
       (λ crowd short u. (alike.unpaired crowd short).0 u) map)

@@ -2,10 +2,10 @@
 -- Idea: no two pairings of the list are equal, so a pairing tells its place in it, and a step from
 -- place k leads to place k + 1 or says that k was the last. Each step adds the line of one more.
 use Rattle.std.proofs.Common.{◌≡◌, ℕ, ◌+◌, ◌<◌, ◌≤◌, true, ◌≢◌, List, [], ◌∷◌, ◌++◌}
-use Rattle.std.proofs.Common.{length, take, ltb, codes, sym, refl, ap, ap₂, ◌∙◌, subst, ⊎_elim}
+use Rattle.std.proofs.Common.{length, take, codes, sym, refl, ap, ◌∙◌, subst, ⊎_elim}
 use Rattle.std.proofs.Common.{append_assoc, arith}
 use Rattle.std.specs.List.{AllPairs}
-use Rattle.std.proofs.lemmas.List.{take_more, take_all, flat_map_more}
+use Rattle.std.proofs.lemmas.List.{take_more, flat_map_more}
 use Rattle.std.proofs.lemmas.Bool.{cases_lt, cond-true, cond-false, lt-ltb, le-ltb}
 use Rattle.pairing.specs.Grid.{Grid, total}
 use Rattle.pairing.specs.Optima.{optima}
@@ -16,7 +16,7 @@ use Rattle.matching.proofs.Nth.{nth_optimum}
 use Rattle.matching.specs.declared.stepping.Step.TheVariants.{Next, End}
 use Rattle.refusal_words.specs.Lines.{pairing_line}
 use Rattle.report.specs.Listing.{pairing_lines, total_line}
-use Rattle.report.specs.Listing.{listed, listing_over, listing_text}
+use Rattle.report.specs.Listing.{last_line, listed, listing_over, listing_text}
 
 -- ---- Places
 
@@ -53,32 +53,25 @@ module _ (ps : List (List ℕ)) (start text text' : List ℕ) where
       ∙ ap (λ qs. start ++ pairing_lines qs)
       (ap (λ q. take k ps ++ q ∷ []) (sym here.1) ∙ sym (take_more ps k [] here.0))
 
-  -- the lines of all pairings, and then the last line
-  pub listed_whole : length ps ≤ 1000 → (k : ℕ) → k ≡ length ps
-      → text ≡ start ++ pairing_lines (take k ps) → text' ≡ text ++ codes "end\n"
+  -- the lines of the pairings that a listing has, and then the last line
+  pub listed_whole : (last : List ℕ) → last_line (length ps) ≡ last
+      → text ≡ start ++ pairing_lines (take 1000 ps) → text' ≡ text ++ last
       → text' ≡ start ++ listed ps
-  listed_whole few k all e e' =
-      e' ∙ ap (λ t. t ++ codes "end\n") e
-      ∙ append_assoc start (pairing_lines (take k ps)) (codes "end\n")
-      ∙ ap (λ t. start ++ t) (ap₂ (λ qs t. pairing_lines qs ++ t)
-      (take_all k ps (omega arith) ∙ sym (take_all 1000 ps few))
-      (sym (cond-false (ltb 1000 (length ps)) (codes "more\n") (codes "end\n")
-      (le-ltb 1000 (length ps) few))))
+  listed_whole last is e e' =
+      e' ∙ ap (λ t. t ++ last) e ∙ append_assoc start (pairing_lines (take 1000 ps)) last
+      ∙ ap (λ t. start ++ (pairing_lines (take 1000 ps) ++ t)) (sym is)
 
-  -- the lines of as many pairings as a listing has, where others remain, and then the last line
-  pub listed_part : 1000 < length ps → text ≡ start ++ pairing_lines (take 1000 ps)
-      → text' ≡ text ++ codes "more\n" → text' ≡ start ++ listed ps
-  listed_part many e e' =
-      e' ∙ ap (λ t. t ++ codes "more\n") e
-      ∙ append_assoc start (pairing_lines (take 1000 ps)) (codes "more\n")
-      ∙ ap (λ t. start ++ (pairing_lines (take 1000 ps) ++ t))
-      (sym (cond-true (ltb 1000 (length ps)) (codes "more\n") (codes "end\n")
-      (lt-ltb 1000 (length ps) many)))
+-- the last line tells whether others remain
+pub last_is_end : (n : ℕ) → n ≤ 1000 → last_line n ≡ codes "end\n"
+last_is_end n few = cond-false _ _ _ (le-ltb 1000 n few)
+
+pub last_is_more : (n : ℕ) → 1000 < n → last_line n ≡ codes "more\n"
+last_is_more n many = cond-true _ _ _ (lt-ltb 1000 n many)
 
 -- ---- Listings
 
 module _ (g : Grid) where
-  over_first : (ps : List (List ℕ)) (p text : List ℕ) → IsNth ps 0 p
+  pub over_first : (ps : List (List ℕ)) (p text : List ℕ) → IsNth ps 0 p
       → text ≡ total_line (total g p) ++ listed ps → text ≡ listing_over g ps
   over_first [] p text first e = absurd (omega (arith, first.0))
   over_first (q ∷ qs) p text first e =
@@ -86,10 +79,6 @@ module _ (g : Grid) where
 
   pub optima_distinct : AllPairs ◌≢◌ (optima g)
   optima_distinct = (optima_are g).list.distinct
-
-  pub listing_first : (p text : List ℕ) → IsNth (optima g) 0 p
-      → text ≡ total_line (total g p) ++ listed (optima g) → text ≡ listing_text g
-  listing_first p text first e = over_first (optima g) p text first e
 
 -- grids of which the same is told have the same listing
 module _ (g h : Grid) where

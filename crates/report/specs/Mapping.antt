@@ -82,9 +82,10 @@ table_rows n cell width k = up_to k (table_row n cell width)
 abbrev pub legend : List ℕ
 legend = codes "* first optimum pairing, + another optimum pairing, . absent\n"
 
-abbrev pub map_width : SheetView → ℕ
-map_width v = column_width v.size (cell_of v)
+-- a table of n rows of n cells, between the line of the numbers and what the marks mean
+abbrev pub map_lines : (n : ℕ) (cell : ℕ → ℕ → List ℕ) → List ℕ
+map_lines n cell = head_line n (column_width n cell)
+    ++ (table_rows n cell (column_width n cell) n ++ legend)
 
 abbrev pub map_text : SheetView → List ℕ
-map_text v = head_line v.size (map_width v)
-    ++ (table_rows v.size (cell_of v) (map_width v) v.size ++ legend)
+map_text v = map_lines v.size (cell_of v)

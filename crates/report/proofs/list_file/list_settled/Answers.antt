@@ -8,7 +8,7 @@ use Rattle.tables.specs.Lent.{grid}
 use Rattle.orderfile.specs.Loading.{plain_kind}
 use Rattle.report.specs.Listing.{total_line, listed}
 use Rattle.report.proofs.Accepting.{same_tables, partners_total}
-use Rattle.report.proofs.Listed.{listing_first}
+use Rattle.report.proofs.Listed.{over_first}
 use Rattle.report.proofs.list_file.list_settled.Goals as goal
 
 pub push_pairings-requires-clause-first : goal.push_pairings-requires-clause-first
@@ -26,7 +26,7 @@ returns c =
     let costs = partners_total t c.requires.together z
     (subst (λ u. rail_of z ∷ [] ≡ total (grid plain_kind u) u.partners) same
     c.in-Ok.ensures.1) in
-    listing_first g t.partners (string_bytes c.push_pairings.new.text) c.requires.settled.first
+    over_first g (optima g) t.partners (string_bytes c.push_pairings.new.text) c.requires.settled.first
     (c.in_ok-push_pairings.ensures ∙ ap (λ s. s ++ listed (optima g))
     (c.in_ok-push_total_line.ensures
     ∙ ap (λ s. s ++ total_line (z ∷ [])) c.new-text.ensures.bytes ∙ ap total_line costs))

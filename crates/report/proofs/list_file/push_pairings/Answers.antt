@@ -1,12 +1,13 @@
 -- The pairing in the list tells its place, so each step leads to the next place or ends the list.
 use Rattle.std.proofs.Common.{◌≡◌, ◌+◌, ◌++◌, length, take, codes, string_bytes}
-use Rattle.std.proofs.Common.{subst, arith}
+use Rattle.std.proofs.Common.{sym, ap, ◌∙◌, subst, arith}
+use Rattle.std.proofs.lemmas.List.{take_all}
 use Rattle.pairing.specs.Optima.{optima}
 use Rattle.tables.specs.Lent.{grid}
 use Rattle.orderfile.specs.Loading.{plain_kind}
 use Rattle.report.specs.Listing.{listed, pairing_lines}
 use Rattle.report.proofs.Lines.{written}
-use Rattle.report.proofs.Listed.{line_more, listed_whole, listed_part}
+use Rattle.report.proofs.Listed.{line_more, listed_whole, last_is_end, last_is_more}
 use Rattle.matching.proofs.Nth.{nth_optimum}
 use Rattle.report.proofs.Listed.{optima_distinct, place_next, place_last}
 use Rattle.report.proofs.list_file.push_pairings.Goals as goal
@@ -17,19 +18,21 @@ step-requires-clause-optimum c =
 
 pub returns-in-End : goal.returns-in-End
 returns-in-End c =
-    let g = grid plain_kind c.args.tables.now in
+    let ps = optima (grid plain_kind c.args.tables.now) in
     let k = c.loop.counter in
     let start = string_bytes c.args.text.now in
-    let last : k + 1 ≡ length (optima g) = place_last (optima g) (optima_distinct g) k c.loop.list
-    c.step.new.list c.loop.invariant.here c.in-End.ensures in
-    let more = line_more (optima g) start (string_bytes c.loop.text)
-    (string_bytes c.push_pairing_line.new.text) k c.loop.list c.loop.invariant.here
-    c.loop.invariant.lines c.in_ok-push_pairing_line.ensures in
-    written c.push_str.result (string_bytes c.push_pairing_line.new.text)
-    (string_bytes c.push_str.new.self) (codes "end\n") (start ++ listed (optima g))
-    c.push_str.ensures.bytes
-    (λ e. listed_whole (optima g) start (string_bytes c.push_pairing_line.new.text)
-    (string_bytes c.push_str.new.self) (omega arith) (k + 1) last more e)
+    let text = string_bytes c.push_pairing_line.new.text in
+    let last : k + 1 ≡ length ps = place_last ps (optima_distinct (grid plain_kind c.args.tables.now))
+    k c.loop.list c.step.new.list c.loop.invariant.here c.in-End.ensures in
+    let all : text ≡ start ++ pairing_lines (take 1000 ps) =
+    line_more ps start (string_bytes c.loop.text) text k c.loop.list c.loop.invariant.here
+    c.loop.invariant.lines c.in_ok-push_pairing_line.ensures
+    ∙ ap (λ qs. start ++ pairing_lines qs)
+    (take_all (k + 1) ps (omega arith) ∙ sym (take_all 1000 ps (omega arith))) in
+    written c.push_str.result text (string_bytes c.push_str.new.self) (codes "end\n")
+    (start ++ listed ps) c.push_str.ensures.bytes
+    (listed_whole ps start text (string_bytes c.push_str.new.self) (codes "end\n")
+    (last_is_end (length ps) (omega arith)) all)
 
 pub loop-preserved : goal.loop-preserved
 loop-preserved c =
@@ -45,12 +48,12 @@ loop-preserved c =
 
 pub returns : goal.returns
 returns c =
-    let g = grid plain_kind c.args.tables.now in
+    let ps = optima (grid plain_kind c.args.tables.now) in
     let start = string_bytes c.args.text.now in
+    let text = string_bytes c.loop.text in
     let whole : c.loop.counter ≡ 1000 = omega arith in
-    written c.push_str-2.result (string_bytes c.loop.text) (string_bytes c.push_str-2.new.self)
-    (codes "more\n") (start ++ listed (optima g)) c.push_str-2.ensures.bytes
-    (λ e. listed_part (optima g) start (string_bytes c.loop.text)
-    (string_bytes c.push_str-2.new.self) (omega (arith, c.loop.invariant.here.0))
-    (subst (λ k. string_bytes c.loop.text ≡ start ++ pairing_lines (take k (optima g))) whole
-    c.loop.invariant.lines) e)
+    written c.push_str-2.result text (string_bytes c.push_str-2.new.self) (codes "more\n")
+    (start ++ listed ps) c.push_str-2.ensures.bytes
+    (listed_whole ps start text (string_bytes c.push_str-2.new.self) (codes "more\n")
+    (last_is_more (length ps) (omega (arith, c.loop.invariant.here.0)))
+    (subst (λ k. text ≡ start ++ pairing_lines (take k ps)) whole c.loop.invariant.lines))
