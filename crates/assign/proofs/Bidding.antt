@@ -11,11 +11,11 @@ use Rattle.std.proofs.lemmas.Bool.{ne_eqb, and_parts, not-true}
 use Rattle.blockset.proofs.Removing.{still_in}
 use Rattle.matching.specs.Exchange.{without}
 use Rattle.assign.specs.Offers.{Nearest}
-use Rattle.assign.specs.Bids.{BestBid}
+use Rattle.assign.specs.Bids.{IsBestBid}
 
 module _ (to held : ℕ → Bool) (v cost : ℕ → ℤ) where
   module _ (j : ℕ) (near : Nearest to v cost j) where
-    pub bid_free : held j ≡ false → (w : ℤ) → w ≡ v j → BestBid to held v cost j w
+    pub bid_free : held j ≡ false → (w : ℤ) → w ≡ v j → IsBestBid to held v cost j w
     bid_free free w same = record {
       member = near.member;
       best = λ c t ne. omega (arith, ints, near.least c t);
@@ -25,8 +25,8 @@ module _ (to held : ℕ → Bool) (v cost : ℕ → ℤ) where
     }
 
     module _ (free : ℕ → Bool) (free_is : (c : ℕ) → free c ≡ (to c && not (held c)))
-        (none_held : (i : ℕ) (w : ℤ) → held i ≡ true → BestBid to held v cost i w → ⊥) where
-      is_free : (i : ℕ) (w : ℤ) → BestBid to held v cost i w → (held i ≡ false) × (free i ≡ true)
+        (none_held : (i : ℕ) (w : ℤ) → held i ≡ true → IsBestBid to held v cost i w → ⊥) where
+      is_free : (i : ℕ) (w : ℤ) → IsBestBid to held v cost i w → (held i ≡ false) × (free i ≡ true)
       is_free i w bid = ⊎_elim
           (λ (h : held i ≡ true). absurd (none_held i w h bid))
           (λ (f : held i ≡ false). (
@@ -39,7 +39,7 @@ module _ (to held : ℕ → Bool) (v cost : ℕ → ℤ) where
       module _ (f : ℕ) (first : Nearest free v cost f) where
         -- the nearest free one is as near as the nearest of all
         pub as_near : (cost f -ℤ v f) ≤ℤ (cost j -ℤ v j) → (w : ℤ) → w ≡ v f
-            → BestBid to held v cost f w
+            → IsBestBid to held v cost f w
         as_near le w same =
             let parts = and_parts (to f) (not (held f)) (sym (free_is f) ∙ first.member) in
             record {
@@ -51,7 +51,7 @@ module _ (to held : ℕ → Bool) (v cost : ℕ → ℤ) where
             }
 
         pub no_bid_far : (cost j -ℤ v j) <ℤ (cost f -ℤ v f) → (i : ℕ) (w : ℤ)
-            → BestBid to held v cost i w → ⊥
+            → IsBestBid to held v cost i w → ⊥
         no_bid_far less i w bid =
             let own = is_free i w bid in
             let far = first.least i own.1 in
@@ -67,7 +67,7 @@ module _ (to held : ℕ → Bool) (v cost : ℕ → ℤ) where
       apart = still_in to (without to j) j (λ _. refl) k next.member
 
       pub bid_falls : held j ≡ true → (cost j -ℤ v j) <ℤ (cost k -ℤ v k) → (w : ℤ)
-          → w ≡ cost j -ℤ (cost k -ℤ v k) → BestBid to held v cost j w
+          → w ≡ cost j -ℤ (cost k -ℤ v k) → IsBestBid to held v cost j w
       bid_falls mine less w is = record {
         member = near.member;
         best = λ c t ne. omega (
@@ -83,12 +83,12 @@ module _ (to held : ℕ → Bool) (v cost : ℕ → ℤ) where
 
       -- no held one is nearer than both of two that are equally near
       pub no_bid_tied : (cost k -ℤ v k) ≤ℤ (cost j -ℤ v j) → (i : ℕ) (w : ℤ) → held i ≡ true
-          → BestBid to held v cost i w → ⊥
+          → IsBestBid to held v cost i w → ⊥
       no_bid_tied le i w h bid =
           ⊎_elim
           (λ (e : j ≡ i).
-          let b : BestBid to held v cost j w =
-          subst (λ (z : ℕ). BestBid to held v cost z w) (sym e) bid in
+          let b : IsBestBid to held v cost j w =
+          subst (λ (z : ℕ). IsBestBid to held v cost z w) (sym e) bid in
           let mine = subst (λ (z : ℕ). held z ≡ true) (sym e) h in
           absurd (omega (arith, ints, b.falls mine, b.best k apart.0 apart.1)))
           (λ (ne : j ≡ i → ⊥). absurd (omega
@@ -98,7 +98,7 @@ module _ (to held : ℕ → Bool) (v cost : ℕ → ℤ) where
 -- costs that are the same where they count
 pub bid_like : (to held : ℕ → Bool) (v cost cost' : ℕ → ℤ)
     → ((c : ℕ) → to c ≡ true → cost' c ≡ cost c) → (j : ℕ) (w : ℤ)
-    → BestBid to held v cost j w → BestBid to held v cost' j w
+    → IsBestBid to held v cost j w → IsBestBid to held v cost' j w
 bid_like to held v cost cost' same j w bid = record {
   member = bid.member;
   best = λ c t ne. omega (arith, ints, bid.best c t ne, same c t, same j bid.member);

@@ -5,25 +5,28 @@
 use Rattle.std.proofs.Common.{◌≡◌, ℕ, Bool, true, List, length, ℤ, sym, ap, ◌∙◌, subst, arith}
 use Rattle.std.proofs.lemmas.Int.{ints}
 use Rattle.pairing.specs.Grid.{at}
-use Rattle.matching.specs.declared.chains.Holders.{Holders}
+use Rattle.blockset.specs.Has.{has}
+use Rattle.assign.specs.declared.tree.Cheapest.{Cheapest}
+use Rattle.assign.specs.declared.tree.FirstPairs.{FirstPairs}
 use Rattle.assign.specs.Search.{Kept}
-use Rattle.assign.specs.Pairs.{CheapestOf, Chosen}
+use Rattle.assign.specs.Pairs.{AreCheapest, AreChosen}
 
-pub cheaply_kept : (n : ℕ) (stands : ℕ → ℕ → Bool) (cost : ℕ → ℕ → ℤ) (priced : ℕ → Bool)
-    (row : ℕ → ℕ) (v : ℕ → ℤ) → CheapestOf n n stands cost priced row v
-    → (out : ℕ → Bool) (p : List ℕ) (o : Holders) → length p ≡ n → Chosen n priced row out p o
-    → Kept n stands cost out p o v
-cheaply_kept n stands cost priced row v cheapest out p o sized chosen = record {
+pub cheaply_kept : {n : ℕ} {stands : ℕ → ℕ → Bool} {cost : ℕ → ℕ → ℤ} {of : Cheapest}
+    {v : ℕ → ℤ} → AreCheapest n n stands cost of v → {p : List ℕ} {made : FirstPairs}
+    → length p ≡ n → AreChosen n of p made
+    → Kept n stands cost (has made.out) p made.holders v
+cheaply_kept {stands = stands} {cost = cost} {of = of} cheapest {p = p} sized chosen = record {
   pairs = record {
     len = sized;
     below = λ l h u. cheapest.inside (at p l) (chosen.cheap l h u).0;
     standing = λ l h u. let w = chosen.cheap l h u in
         subst (λ (z : ℕ). stands z (at p l) ≡ true) w.1 (cheapest.stood (at p l) w.0);
-    once = λ l m hl hm ul um e. sym (chosen.cheap l hl ul).1 ∙ ap row e ∙ (chosen.cheap m hm um).1;
+    once = λ l m hl hm ul um e. sym (chosen.cheap l hl ul).1 ∙ ap (at of.row) e ∙ (chosen.cheap m hm um).1;
   };
   holding = chosen.holding;
   fair = λ l c h u i s.
       let w = chosen.cheap l h u in
-      let own : cost (row (at p l)) (at p l) ≡ cost l (at p l) = ap (λ z. cost z (at p l)) w.1 in
+      let own : cost (at of.row (at p l)) (at p l) ≡ cost l (at p l) =
+      ap (λ z. cost z (at p l)) w.1 in
       omega (arith, ints, cheapest.costs (at p l) w.0, (cheapest.least l c h s).1);
 }

@@ -1,14 +1,20 @@
--- Reads and writes of tables of values.
+-- Reads and writes of tables of values, and the part of the cost table that a left block has.
 -- Idea: the columns at a place are those of the value there, and a write changes them at its own
 -- place only.
-use Rattle.std.proofs.Common.{◌≡◌, ℕ, ◌<◌, ◌≤◌, List, [], map, length, get_or, set, sym, ap, ◌∙◌}
-use Rattle.std.proofs.Common.{subst}
+use Rattle.std.proofs.Common.{◌≡◌, ℕ, ◌+◌, ◌-◌, ◌*◌, ◌<◌, ◌≤◌, true, List, [], map, length, get_or}
+use Rattle.std.proofs.Common.{take, drop, set, sym, ap, ◌∙◌, subst, ⊎_elim}
+use Rattle.std.proofs.lemmas.Bool.{cases_eq}
 use Rattle.std.proofs.lemmas.List.{get_or-set_same, get_or-set_other, map-set, length-map}
 use Rattle.cost.specs.declared.Cost.{Ghosts}
+use Rattle.cost.specs.declared.TheConstants.{COST_LIMIT}
 use Rattle.cost.specs.Columns.{Within}
+use Rattle.blockset.specs.declared.BlockSet.{BlockSet}
+use Rattle.pairing.specs.Places.{place_of}
+use Rattle.pairing.specs.Rows.{holds}
 use Rattle.cost.proofs.Exact.{within_more}
 use Rattle.tables.specs.Said.{columns_at}
-use Rattle.tables.proofs.Filling.{value_at}
+use Rattle.tables.proofs.Filling.{value_at, columns_at_lem}
+use Rattle.assign.specs.Weighed.{BoundedOn, SearchTables}
 
 module _ {K : Type 0} (kind : Ghosts K) where
   pub put_same : (xs : List K) (i : ℕ) (y : K) → i < length xs
@@ -32,3 +38,30 @@ module _ {K : Type 0} (kind : Ghosts K) where
   pub entry_is : (xs : List K) (i : ℕ) (x : K) → i < length xs → x ≡ get_or xs i x
       → kind.meaning (get_or xs i x) ≡ columns_at kind xs i
   entry_is xs i x h e = sym (ap kind.meaning e) ∙ value_at kind xs i x h e
+
+  -- a table that one value is written to is within what the value and the table were within
+  pub put_bound : (a b n : ℕ) (xs : List K) (i : ℕ) (y : K) → i < length xs → a ≤ b
+      → Within b (kind.meaning y) → ((c : ℕ) → c < n → Within a (columns_at kind xs c))
+      → (c : ℕ) → c < n → Within b (columns_at kind (set xs i y) c)
+  put_bound a b n xs i y h le near far c below = ⊎_elim
+      (λ (e : c ≡ i). subst (λ z. Within b (columns_at kind (set xs i y) z)) (sym e)
+      (subst (Within b) (sym (put_same xs i y h)) near))
+      (λ (ne : c ≡ i → ⊥). subst (Within b) (sym (put_other xs i c y ne))
+      (within_more a b (columns_at kind xs c) le (far c below)))
+      (cases_eq c i)
+
+-- the part of a table that left block l has, where each has n places
+abbrev pub part_of : {X : Type 0} (n l : ℕ) → List X → List X
+part_of n l xs = take (l * n + n - l * n) (drop (l * n) xs)
+
+module _ {K : Type 0} {kind : Ghosts K} {rows : List BlockSet} {costs : List K}
+    (lent : SearchTables kind rows costs) (l : ℕ) (room : l < length rows) where
+  -- the costs of a left block stand in its part of the table
+  pub part_is : (c : ℕ) → holds rows l c ≡ true
+      → columns_at kind (part_of (length rows) l costs) c
+      ≡ columns_at kind costs (place_of (length rows) l c)
+  part_is c t = columns_at_lem kind costs (length rows) l room lent.square c
+      (lent.inside l c room t)
+
+  pub part_modest : BoundedOn kind COST_LIMIT (holds rows l) (part_of (length rows) l costs)
+  part_modest c t = subst (Within COST_LIMIT) (sym (part_is c t)) (lent.modest l c room t)

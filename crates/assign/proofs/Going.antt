@@ -12,16 +12,17 @@ use Rattle.cost.specs.declared.Cost.{Ghosts}
 use Rattle.blockset.specs.declared.BlockSet.{BlockSet}
 use Rattle.blockset.specs.Has.{has, IsEmpty, IsLeast}
 use Rattle.pairing.specs.Grid.{at}
-use Rattle.matching.specs.declared.chains.Holders.{Holders}
 use Rattle.assign.specs.Weighed.{weight_at}
-use Rattle.assign.specs.Bids.{BidOf, Reduced, GoesOn, HadTurn, FirstHadTurn}
+use Rattle.assign.specs.Pairs.{SoFar}
+use Rattle.assign.specs.Bids.{HasNoBid, IsReduced, HasGoneOn, HasHadTurn, HasHadFirstTurn}
 
-pub same_goes_on : (held : ℕ → Bool) (v : ℕ → ℤ) → GoesOn held held v v
-same_goes_on held v = record { held = λ _ t. t; falls = λ c. ≤ℤ_refl (v c) }
+pub same_goes_on : {K : Type 0} (kind : Ghosts K) (now : SoFar K) → HasGoneOn kind now now
+same_goes_on kind now =
+    record { held = λ _ t. t; falls = λ c. ≤ℤ_refl (weight_at kind now.right c) }
 
-pub goes_further : (h h' h'' : ℕ → Bool) (v v' v'' : ℕ → ℤ) → GoesOn h h' v v'
-    → GoesOn h' h'' v' v'' → GoesOn h h'' v v''
-goes_further h h' h'' v v' v'' one two = record {
+pub goes_further : {K : Type 0} {kind : Ghosts K} {s s' s'' : SoFar K} → HasGoneOn kind s s'
+    → HasGoneOn kind s' s'' → HasGoneOn kind s s''
+goes_further one two = record {
   held = λ c t. two.held c (one.held c t);
   falls = λ c. omega (arith, ints, one.falls c, two.falls c);
 }
@@ -53,38 +54,30 @@ module _ (out aside rest : BlockSet)
   none_of_all empty j = sym (same j) ∙ empty j
 
 module _ {K : Type 0} (kind : Ghosts K) (rows : List BlockSet) (costs : List K) where
-  pub bid_stays : (out held : BlockSet) (right : List K) (held' : BlockSet) (right' : List K)
-      (held'' : BlockSet) (right'' : List K)
-      → FirstHadTurn kind rows costs out held right held' right'
-      → GoesOn (has held') (has held'') (weight_at kind right') (weight_at kind right'')
-      → FirstHadTurn kind rows costs out held right held'' right''
-  bid_stays out held right held' right' held'' right'' first on l least = ⊎_elim inl
+  pub turn_stays : (out : BlockSet) (s s' s'' : SoFar K) → HasHadFirstTurn kind rows costs out s s'
+      → HasGoneOn kind s' s'' → HasHadFirstTurn kind rows costs out s s''
+  turn_stays out s s' s'' first on l least = ⊎_elim inl
       (λ b. inr (b.0, b.1, b.2, on.held b.0 b.3, omega (arith, ints, on.falls b.0, b.4)))
       (first l least)
 
   -- the turn of the left block that is left out first
-  pub first_turn : (out : BlockSet) (o : Holders) (right : List K) (o' : Holders) (right' : List K)
-      (l : ℕ) → IsLeast out l → (p p' : List ℕ) (out' : BlockSet)
-      → (has out' l ≡ false → has o'.held (at p' l) ≡ true) → (did : Bool)
-      → MatchBool did
-      (Reduced kind rows costs o.held l (has out) p right (has out') p' right')
-      (((j : ℕ) (w : ℤ) → BidOf kind rows costs o.held right l j w → ⊥)
-      × (out' ≡ out) × (p' ≡ p) × (o' ≡ o) × (right' ≡ right))
-      → FirstHadTurn kind rows costs out o.held right o'.held right'
-  first_turn out o right o' right' l least p p' out' taken did step m also = subst
-      (λ z. HadTurn kind rows costs o.held right z o'.held right')
-      (least_once out l m least also) (turn did step)
+  pub first_turn : (out : BlockSet) (s s' : SoFar K) (l : ℕ) → IsLeast out l
+      → (s'.out l ≡ false → has s'.holders.held (at s'.partners l) ≡ true) → (Same : Type 0)
+      → (did : Bool)
+      → MatchBool did (IsReduced kind rows costs l s s') (HasNoBid kind rows costs s l × Same)
+      → HasHadFirstTurn kind rows costs out s s'
+  first_turn out s s' l least taken Same did step m also =
+      subst (λ z. HasHadTurn kind rows costs z s s') (least_once out l m least also)
+      (turn did step)
     where
-      turn : (did : Bool) → MatchBool did
-          (Reduced kind rows costs o.held l (has out) p right (has out') p' right')
-          (((j : ℕ) (w : ℤ) → BidOf kind rows costs o.held right l j w → ⊥)
-          × (out' ≡ out) × (p' ≡ p) × (o' ≡ o) × (right' ≡ right))
-          → HadTurn kind rows costs o.held right l o'.held right'
+      turn : (did : Bool)
+          → MatchBool did (IsReduced kind rows costs l s s') (HasNoBid kind rows costs s l × Same)
+          → HasHadTurn kind rows costs l s s'
       turn true done = inr (
         done.block,
-        weight_at kind right' done.block,
+        weight_at kind s'.right done.block,
         done.bid,
-        ap (has o'.held) (sym done.seated.gets) ∙ taken done.seated.paired,
-        ≤ℤ_refl (weight_at kind right' done.block),
+        ap (has s'.holders.held) (sym done.seated.gets) ∙ taken done.seated.paired,
+        ≤ℤ_refl (weight_at kind s'.right done.block),
       )
       turn false none = inl none.0

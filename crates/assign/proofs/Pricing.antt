@@ -13,10 +13,13 @@ use Rattle.cost.specs.Columns.{Within, zeros}
 use Rattle.cost.proofs.Exact.{zeros_within}
 use Rattle.cost.specs.Weights.{weight}
 use Rattle.cost.proofs.Weights.{weight_zeros}
+use Rattle.blockset.specs.Has.{has, IsEmpty}
+use Rattle.pairing.specs.Grid.{at}
 use Rattle.tables.specs.Said.{columns_at}
 use Rattle.assign.specs.Weighed.{weight_at}
 use Rattle.assign.specs.Offers.{Offered}
-use Rattle.assign.specs.Pairs.{CheapestOf}
+use Rattle.assign.specs.declared.tree.Cheapest.{Cheapest}
+use Rattle.assign.specs.Pairs.{AreCheapest}
 
 -- a table that is cleared: it holds the value of zero everywhere
 module _ {K : Type 0} (kind : Ghosts K) (nought : K) (columns : ℕ)
@@ -37,30 +40,30 @@ module _ {K : Type 0} (kind : Ghosts K) (nought : K) (columns : ℕ)
 
 module _ (n : ℕ) (stands : ℕ → ℕ → Bool) (cost : ℕ → ℕ → ℤ) where
   -- no left block has made an offer, and no right block has a price
-  pub cheapest_none : (priced : ℕ → Bool) (row : ℕ → ℕ) (v : ℕ → ℤ) → ((c : ℕ) → priced c ≡ false)
-      → CheapestOf 0 n stands cost priced row v
-  cheapest_none priced row v none = record {
-    inside = λ c t. absurd (both_ways (priced c) (none c) t);
-    low = λ c t. absurd (both_ways (priced c) (none c) t);
-    stood = λ c t. absurd (both_ways (priced c) (none c) t);
-    costs = λ c t. absurd (both_ways (priced c) (none c) t);
+  pub cheapest_none : (of : Cheapest) (v : ℕ → ℤ) → IsEmpty of.priced
+      → AreCheapest 0 n stands cost of v
+  cheapest_none of v none = record {
+    inside = λ c t. absurd (both_ways (has of.priced c) (none c) t);
+    low = λ c t. absurd (both_ways (has of.priced c) (none c) t);
+    stood = λ c t. absurd (both_ways (has of.priced c) (none c) t);
+    costs = λ c t. absurd (both_ways (has of.priced c) (none c) t);
     least = λ l c h. absurd (omega arith);
   }
 
   -- left block m offers its costs, `own`, to the right blocks that it stands with
-  module _ (m : ℕ) (priced : ℕ → Bool) (row : ℕ → ℕ) (v : ℕ → ℤ)
-      (so_far : CheapestOf m n stands cost priced row v) (shift : ℤ) (unshifted : shift ≡ pos 0)
-      (own : ℕ → ℤ) (to : ℕ → Bool)
-      (to_is : (c : ℕ) → to c ≡ stands m c) (to_inside : (c : ℕ) → to c ≡ true → c < n)
-      (own_is : (c : ℕ) → c < n → own c ≡ cost m c) (priced' : ℕ → Bool)
-      (joined : (c : ℕ) → priced' c ≡ (priced c || to c))
-      (row' : ℕ → ℕ) (v' : ℕ → ℤ)
-      (offers : (c : ℕ) → Offered shift own m to priced v row v' row' c) where
+  module _ (m : ℕ) (of of' : Cheapest) (v v' : ℕ → ℤ) (so_far : AreCheapest m n stands cost of v)
+      (shift : ℤ) (unshifted : shift ≡ pos 0) (own : ℕ → ℤ)
+      (inside : (c : ℕ) → stands m c ≡ true → c < n)
+      (own_is : (c : ℕ) → stands m c ≡ true → own c ≡ cost m c)
+      (joined : (c : ℕ) → has of'.priced c ≡ (has of.priced c || stands m c))
+      (offers : (c : ℕ) → Offered shift own m (stands m) (has of.priced) v (at of.row) v'
+      (at of'.row) c) where
     -- the price of c is what it costs with a left block that it stands with
     CostOfOne : ℕ → Type 0
-    CostOfOne c = (c < n) × (row' c < m + 1) × (stands (row' c) c ≡ true) × (v' c ≡ cost (row' c) c)
+    CostOfOne c = (c < n) × (at of'.row c < m + 1) × (stands (at of'.row c) c ≡ true)
+        × (v' c ≡ cost (at of'.row c) c)
 
-    keeps : (c : ℕ) → priced c ≡ true → v' c ≡ v c → row' c ≡ row c → CostOfOne c
+    keeps : (c : ℕ) → has of.priced c ≡ true → v' c ≡ v c → at of'.row c ≡ at of.row c → CostOfOne c
     unfolding CostOfOne
     keeps c t e r =
         let low = so_far.low c t in (
@@ -70,35 +73,35 @@ module _ (n : ℕ) (stands : ℕ → ℕ → Bool) (cost : ℕ → ℕ → ℤ) 
           e ∙ so_far.costs c t ∙ ap (λ z. cost z c) (sym r),
         )
 
-    takes : (c : ℕ) → to c ≡ true → v' c ≡ cost m c → row' c ≡ m → CostOfOne c
+    takes : (c : ℕ) → stands m c ≡ true → v' c ≡ cost m c → at of'.row c ≡ m → CostOfOne c
     unfolding CostOfOne
     takes c t e r = (
-      to_inside c t,
+      inside c t,
       omega arith,
-      ap (λ z. stands z c) r ∙ sym (to_is c) ∙ t,
-      e
-          ∙ ap (λ z. cost z c) (sym r),
+      ap (λ z. stands z c) r ∙ t,
+      e ∙ ap (λ z. cost z c) (sym r),
     )
 
-    one : (c : ℕ) → priced' c ≡ true → CostOfOne c
+    one : (c : ℕ) → has of'.priced c ≡ true → CostOfOne c
     one c t = ⊎_elim
-        (λ (y : to c ≡ true). ⊎_elim
+        (λ (y : stands m c ≡ true). ⊎_elim
         (λ w. keeps c w.0 w.1 w.2)
-        (λ w. takes c y (omega (arith, ints, w.0, own_is c (to_inside c y))) w.1)
+        (λ w. takes c y (omega (arith, ints, w.0, own_is c y)) w.1)
         ((offers c).change y))
-        (λ (f : to c ≡ false).
+        (λ (f : stands m c ≡ false).
         let w = (offers c).others f in
-        keeps c (⊎_elim (λ (x : priced c ≡ true). x)
-        (λ (y : to c ≡ true). absurd (both_ways (to c) f y))
-        (or_cases (priced c) (to c) (sym (joined c) ∙ t))) w.0 w.1)
-        (cases_Bool (to c))
+        keeps c (⊎_elim (λ (x : has of.priced c ≡ true). x)
+        (λ (y : stands m c ≡ true). absurd (both_ways (stands m c) f y))
+        (or_cases (has of.priced c) (stands m c) (sym (joined c) ∙ t))) w.0 w.1)
+        (cases_Bool (stands m c))
 
     -- no price rises
-    falls : (c : ℕ) → priced c ≡ true → v' c ≤ℤ v c
-    falls c t = ⊎_elim (λ (y : to c ≡ true). (offers c).less y t)
-        (λ (f : to c ≡ false). omega (arith, ints, ((offers c).others f).0)) (cases_Bool (to c))
+    falls : (c : ℕ) → has of.priced c ≡ true → v' c ≤ℤ v c
+    falls c t = ⊎_elim (λ (y : stands m c ≡ true). (offers c).less y t)
+        (λ (f : stands m c ≡ false). omega (arith, ints, ((offers c).others f).0))
+        (cases_Bool (stands m c))
 
-    pub cheapest_more : CheapestOf (m + 1) n stands cost priced' row' v'
+    pub cheapest_more : AreCheapest (m + 1) n stands cost of' v'
     unfolding CostOfOne
     cheapest_more = record {
       inside = λ c t. (one c t).0;
@@ -107,13 +110,15 @@ module _ (n : ℕ) (stands : ℕ → ℕ → Bool) (cost : ℕ → ℕ → ℤ) 
       costs = λ c t. (one c t).3;
       least = λ l c h st. ⊎_elim
           (λ (e : l ≡ m).
-          let y : to c ≡ true = to_is c ∙ ap (λ z. stands z c) (sym e) ∙ st in
+          let y : stands m c ≡ true = ap (λ z. stands z c) (sym e) ∙ st in
           let same : cost l c ≡ cost m c = ap (λ z. cost z c) e in (
-            joined c ∙ or_right (priced c) (to c) y,
-            omega (arith, ints, (offers c).most y, own_is c (to_inside c y)),
+            joined c ∙ or_right (has of.priced c) (stands m c) y,
+            omega (arith, ints, (offers c).most y, own_is c y),
           ))
           (λ (ne : l ≡ m → ⊥).
-          let w = so_far.least l c (omega arith) st in
-          (joined c ∙ or_left (priced c) (to c) w.0, omega (arith, ints, falls c w.0, w.1)))
+          let w = so_far.least l c (omega arith) st in (
+            joined c ∙ or_left (has of.priced c) (stands m c) w.0,
+            omega (arith, ints, falls c w.0, w.1),
+          ))
           (cases_eq l m);
     }

@@ -2,38 +2,50 @@
 -- Idea: the price of that right block falls, and no other changes. For the new left block no other
 -- right block is nearer then. Any other left block keeps a right block whose price is the same, and
 -- what falls is farther for it than it was.
-use Rattle.std.proofs.Common.{◌≡◌, ℕ, ◌<◌, Bool, true, false, List, ℤ, ◌+ℤ◌}
-use Rattle.std.proofs.Common.{◌≤ℤ◌, sym, ap, ◌∙◌, subst, ⊎_elim, arith}
+use Rattle.std.proofs.Common.{◌≡◌, ℕ, ◌+◌, ◌*◌, ◌<◌, ◌≤◌, Bool, true, false, ◌||◌, eqb, List, length}
+use Rattle.std.proofs.Common.{set, ℤ, ◌+ℤ◌, ◌≤ℤ◌, sym, ap, ◌∙◌, subst, ⊎_elim, arith}
 use Rattle.std.proofs.lemmas.Int.{ints}
 use Rattle.std.proofs.lemmas.Bool.{cases_eq, cases_Bool}
+use Rattle.cost.specs.declared.Cost.{Ghosts}
+use Rattle.cost.specs.declared.TheConstants.{COST_LIMIT}
+use Rattle.cost.specs.Columns.{Within}
+use Rattle.cost.proofs.Exact.{within_more}
+use Rattle.cost.specs.Weights.{weight}
+use Rattle.blockset.specs.declared.BlockSet.{BlockSet}
 use Rattle.blockset.specs.Has.{has}
 use Rattle.pairing.specs.Grid.{at}
+use Rattle.pairing.specs.Rows.{holds}
 use Rattle.matching.specs.declared.chains.Holders.{Holders}
 use Rattle.matching.specs.Exchange.{Holding}
 use Rattle.assign.specs.Search.{Kept}
-use Rattle.assign.specs.Bids.{BestBid, Seated}
+use Rattle.matching.proofs.Inserting.{old_in}
+use Rattle.tables.specs.Said.{Bounded}
+use Rattle.assign.specs.declared.limits.TheConstants.{INNER_PRICE_LIMIT, REDUCED_LIMIT}
+use Rattle.assign.specs.declared.tree.Bid.{Bid}
+use Rattle.assign.specs.Weighed.{weight_at, cost_weight, SearchTables}
+use Rattle.assign.specs.Pairs.{SoFar, so_far, IsPriced}
+use Rattle.assign.specs.Bids.{IsBestBid, IsPricedNear, IsSeated, IsBidOf, IsReduced, HasGoneOn}
+use Rattle.assign.proofs.Entries.{put_same, put_other, put_bound, part_of, part_is}
+use Rattle.assign.proofs.Bidding.{bid_like}
+use Rattle.assign.proofs.Seating.{not_inserted}
 
--- no price rises with a bid
-pub price_falls : (to held : ℕ → Bool) (v cost : ℕ → ℤ) (j : ℕ) (w : ℤ)
-    → BestBid to held v cost j w → (v' : ℕ → ℤ) → v' j ≡ w
-    → ((c : ℕ) → (c ≡ j → ⊥) → v' c ≡ v c) → (c : ℕ) → v' c ≤ℤ v c
-price_falls to held v cost j w bid v' new same c = ⊎_elim
-    (λ (e : c ≡ j).
-    let now : v' c ≡ w = ap v' e ∙ new in
-    let before : v c ≡ v j = ap v e in
-    ⊎_elim (λ (h : held j ≡ true). omega (arith, ints, bid.falls h))
-    (λ (f : held j ≡ false). omega (arith, ints, bid.free f)) (cases_Bool (held j)))
-    (λ (ne : c ≡ j → ⊥). omega (arith, ints, same c ne))
-    (cases_eq c j)
-
-module _ (n : ℕ) (stands : ℕ → ℕ → Bool) (cost : ℕ → ℕ → ℤ) (out : ℕ → Bool) (p : List ℕ)
-    (o : Holders) (v : ℕ → ℤ) (kept : Kept n stands cost out p o v) (l j : ℕ) (below : j < n)
-    (w : ℤ) (bid : BestBid (stands l) (has o.held) v (cost l) j w) (out' : ℕ → Bool) (p' : List ℕ)
-    (seated : Seated n out p l j out' p') (o' : Holders)
+-- a pairing with prices, and a bid that left block l has taken under them
+module _ {n : ℕ} {stands : ℕ → ℕ → Bool} {cost : ℕ → ℕ → ℤ} {out : ℕ → Bool} {p : List ℕ}
+    {o : Holders} {v : ℕ → ℤ} (kept : Kept n stands cost out p o v) (l j : ℕ) (below : j < n)
+    (w : ℤ) (bid : IsBestBid (stands l) (has o.held) v (cost l) j w) {out' : ℕ → Bool}
+    {p' : List ℕ} (seated : IsSeated n out p l j out' p') (o' : Holders)
     (told : Holding 0 p' out' o') (v' : ℕ → ℤ) (new : v' j ≡ w)
     (same : (c : ℕ) → (c ≡ j → ⊥) → v' c ≡ v c) where
-  falls : (c : ℕ) → v' c ≤ℤ v c
-  falls = price_falls (stands l) (has o.held) v (cost l) j w bid v' new same
+  -- no price rises
+  pub falls : (c : ℕ) → v' c ≤ℤ v c
+  falls c = ⊎_elim
+      (λ (e : c ≡ j).
+      let now : v' c ≡ w = ap v' e ∙ new in
+      let before : v c ≡ v j = ap v e in
+      ⊎_elim (λ (h : has o.held j ≡ true). omega (arith, ints, bid.falls h))
+      (λ (f : has o.held j ≡ false). omega (arith, ints, bid.free f)) (cases_Bool (has o.held j)))
+      (λ (ne : c ≡ j → ⊥). omega (arith, ints, same c ne))
+      (cases_eq c j)
 
   fair_new : (c : ℕ) → stands l c ≡ true → (v' c +ℤ cost l j) ≤ℤ (v' j +ℤ cost l c)
   fair_new c st = ⊎_elim
@@ -99,3 +111,80 @@ module _ (n : ℕ) (stands : ℕ → ℕ → Bool) (cost : ℕ → ℕ → ℤ) 
     holding = told;
     fair = fair;
   }
+
+-- what a left block bids for by its part of the cost table, and what by the table
+module _ {K : Type 0} {kind : Ghosts K} {rows : List BlockSet} {costs : List K}
+    (lent : SearchTables kind rows costs) (l : ℕ) (room : l < length rows) (now : SoFar K) (j : ℕ)
+    (w : ℤ) where
+  -- by its part of the table
+  abbrev pub IsPartBid : Type 0
+  IsPartBid = IsBestBid (holds rows l) (has now.holders.held) (weight_at kind now.right)
+      (weight_at kind (part_of (length rows) l costs)) j w
+
+  pub by_table : IsPartBid → IsBidOf kind rows costs now l j w
+  by_table = bid_like (holds rows l) (has now.holders.held) (weight_at kind now.right)
+      (weight_at kind (part_of (length rows) l costs)) (cost_weight kind (length rows) costs l)
+      (λ c t. ap weight (sym (part_is lent l room c t))) j w
+
+  pub by_part : IsBidOf kind rows costs now l j w → IsPartBid
+  by_part = bid_like (holds rows l) (has now.holders.held) (weight_at kind now.right)
+      (cost_weight kind (length rows) costs l) (weight_at kind (part_of (length rows) l costs))
+      (λ c t. ap weight (part_is lent l room c t)) j w
+
+-- what one step of the row reduction leaves
+pub record IsStep {K : Type 0} (kind : Ghosts K) (rows : List BlockSet) (costs : List K) (l : ℕ)
+    (before after : SoFar K) : Type 0 where
+  pub reduced : IsReduced kind rows costs l before after
+  pub goes_on : HasGoneOn kind before after
+  pub paired : IsPriced kind rows costs after
+  pub bound : (b : ℕ) → Bounded kind b (length rows) before.right → b ≤ REDUCED_LIMIT
+      → Bounded kind (b + 2 * COST_LIMIT) (length rows) after.right
+
+pub step_of : {K : Type 0} {kind : Ghosts K} {rows : List BlockSet} {costs : List K}
+    → SearchTables kind rows costs → {before : SoFar K} → IsPriced kind rows costs before
+    → length before.right ≡ length rows → (l : ℕ) → l < length rows → (taken : Bid K)
+    → IsBidOf kind rows costs before l taken.block (weight (kind.meaning taken.price))
+    → IsPricedNear kind (length rows) before.right taken
+    → Bounded kind REDUCED_LIMIT (length rows) before.right
+    → {out' : ℕ → Bool} {p' : List ℕ}
+    → IsSeated (length rows) before.out before.partners l taken.block out' p' → (o' : Holders)
+    → Holding 0 (length rows) p' out' (has o'.held) o'.row
+    → ((c : ℕ) → has o'.held c ≡ (eqb c taken.block || has before.holders.held c))
+    → IsStep kind rows costs l before
+    (so_far out' p' o' (set before.right taken.block taken.price))
+step_of {kind = kind} {rows = rows} {costs = costs} lent {before = before} paired long l room taken
+    bid near close {out' = out'} {p' = p'} seated o' told held =
+    let j = taken.block in
+    let right' = set before.right j taken.price in
+    let inside : j < length rows = lent.inside l j room bid.member in
+    let lies : j < length before.right = omega arith in
+    let here = put_same kind before.right j taken.price lies in
+    let others = λ (c : ℕ) (ne : c ≡ j → ⊥). put_other kind before.right j c taken.price ne in
+    let w = weight (kind.meaning taken.price) in
+    record {
+      reduced = record {
+        block = j;
+        bid = subst (IsBidOf kind rows costs before l j) (sym (ap weight here)) bid;
+        seated = seated;
+        others = others;
+      };
+      goes_on = record {
+        held = old_in (has before.holders.held) (has o'.held) j held;
+        falls = falls paired.kept l j inside w bid seated o' told (weight_at kind right')
+            (ap weight here) (λ c ne. ap weight (others c ne));
+      };
+      paired = record {
+        kept = reduced_kept paired.kept l j inside w bid seated o' told (weight_at kind right')
+            (ap weight here) (λ c ne. ap weight (others c ne));
+        priced = put_bound kind INNER_PRICE_LIMIT INNER_PRICE_LIMIT (length rows) before.right j
+            taken.price lies (omega arith)
+            (within_more (REDUCED_LIMIT + 2 * COST_LIMIT) INNER_PRICE_LIMIT
+            (kind.meaning taken.price) (omega arith) (near REDUCED_LIMIT close (omega arith)))
+            paired.priced;
+        unsold = λ c h f.
+            let free = not_inserted (has before.holders.held) (has o'.held) j held c f in
+            subst (Within COST_LIMIT) (sym (others c free.1)) (paired.unsold c h free.0);
+      };
+      bound = λ b far le. put_bound kind b (b + 2 * COST_LIMIT) (length rows) before.right j
+          taken.price lies (omega arith) (near b far le) far;
+    }

@@ -12,6 +12,15 @@ use Rattle.matching.specs.declared.chains.Holders.{Holders}
 use Rattle.matching.specs.Exchange.{GivesDistinct, Holding}
 use Rattle.matching.proofs.Inserting.{new_in, old_in, old_from}
 
+-- a block that a set with c in it does not have is not c, and was not there before
+pub not_inserted : (C D : ℕ → Bool) (c : ℕ) → ((j : ℕ) → D j ≡ (eqb j c || C j)) → (j : ℕ)
+    → D j ≡ false → (C j ≡ false) × (j ≡ c → ⊥)
+not_inserted C D c is j f = (
+  ⊎_elim (λ (t : C j ≡ true). absurd (both_ways (D j) f (old_in C D c is j t)))
+      (λ (z : C j ≡ false). z) (cases_Bool (C j)),
+  λ e. both_ways (D j) f (subst (λ z. D z ≡ true) (sym e) (new_in C D c is)),
+)
+
 -- who is left out now: whoever was and is not l, and whoever had c
 pub record Ousts (out held : ℕ → Bool) (row : List ℕ) (l c : ℕ) (out' : ℕ → Bool) : Type 0 where
   pub back : (j : ℕ) → out' j ≡ true → ((out j ≡ true) × (j ≡ l → ⊥))

@@ -20,7 +20,7 @@ use Rattle.pairing.proofs.Alike.{perfect_like}
 use Rattle.tables.proofs.Alike.{rows_alike, unpaired_rows}
 use Rattle.tables.proofs.Orderly.{near_value, sane_in_order}
 use Rattle.assign.specs.Weighed.{weight_at, cost_weight, SearchTables}
-use Rattle.assign.specs.Prices.{Solution}
+use Rattle.assign.specs.Prices.{IsSolution}
 use Rattle.assign.specs.Answer.{Solved}
 use Rattle.assign.proofs.Ending.{perfect_of, greatest}
 
@@ -30,7 +30,7 @@ module _ {K : Type 0} (kind : Ghosts K)
       (left right : List K) → Sane (grid_of kind (length rows) costs standing)
       → StandingRows (length rows) (λ l r. says_stands (byte_of (length rows) standing l r)) rows
       → length partners ≡ length rows → length left ≡ length rows → length right ≡ length rows
-      → Solution kind rows costs partners left right
+      → IsSolution kind rows costs partners left right
       → Solved kind (lent (length rows) costs standing partners left right)
   solved rows costs standing partners left right sane made paired lefts rights s =
       let n = length rows in
@@ -102,7 +102,7 @@ pub solved_of : {K : Type 0} (kind : Ghosts K) → ((x : K) → length (kind.mea
     standing
     → StandingRows (length rows) (λ l r. says_stands (byte_of (length rows) standing l r)) rows
     → length partners ≡ n → length left ≡ n → length right ≡ n
-    → Solution kind rows costs partners left right
+    → IsSolution kind rows costs partners left right
     → Solved kind (lent n costs standing partners left right)
 solved_of kind sized n costs standing rows partners left right long few square ordered made paired
     lefts rights s =

@@ -13,11 +13,12 @@ use Rattle.tables.specs.Said.{columns_at, Bounded}
 use Rattle.assign.specs.declared.limits.TheConstants.{REDUCED_LIMIT}
 use Rattle.assign.specs.declared.tree.Bid.{Bid}
 use Rattle.assign.specs.Weighed.{weight_at, cost_weight}
+use Rattle.assign.specs.Pairs.{SoFar}
 
 -- A left block that stands with the right blocks of `to` at these costs takes j of them, whose
 -- price is w then. None of them is nearer beyond its price. A free one keeps its price; where j is
 -- held, its price falls, and only so far that another one is as near.
-pub record BestBid (to held : ℕ → Bool) (v cost : ℕ → ℤ) (j : ℕ) (w : ℤ) : Type 0 where
+pub record IsBestBid (to held : ℕ → Bool) (v cost : ℕ → ℤ) (j : ℕ) (w : ℤ) : Type 0 where
   pub member : to j ≡ true
   pub best : (c : ℕ) → to c ≡ true → c ≢ j → (v c +ℤ cost j) ≤ℤ (w +ℤ cost c)
   pub free : held j ≡ false → w ≡ v j
@@ -26,21 +27,21 @@ pub record BestBid (to held : ℕ → Bool) (v cost : ℕ → ℤ) (j : ℕ) (w 
       → (c : ℕ) × (to c ≡ true) × (c ≢ j) × (v c +ℤ cost j ≡ w +ℤ cost c)
 
 -- the best bid of a left block with these costs, if there is any
-abbrev pub FindsBid : {K : Type 0} (kind : Ghosts K) (to held : ℕ → Bool) (costs right : List K)
+abbrev pub IsBidFound : {K : Type 0} (kind : Ghosts K) (to held : ℕ → Bool) (costs right : List K)
     → Option (Bid K) → Type 0
-FindsBid kind to held costs right found = MatchOption found
-    ((j : ℕ) (w : ℤ) → BestBid to held (weight_at kind right) (weight_at kind costs) j w → ⊥)
-    (λ bid. BestBid to held (weight_at kind right) (weight_at kind costs) bid.block
+IsBidFound kind to held costs right found = MatchOption found
+    ((j : ℕ) (w : ℤ) → IsBestBid to held (weight_at kind right) (weight_at kind costs) j w → ⊥)
+    (λ bid. IsBestBid to held (weight_at kind right) (weight_at kind costs) bid.block
     (weight (kind.meaning bid.price)))
 
 -- the price of a bid is at most two costs farther from zero than the prices so far
-abbrev pub PricedNear : {K : Type 0} (kind : Ghosts K) (n : ℕ) (right : List K) → Bid K → Type 0
-PricedNear kind n right bid = (b : ℕ) → Bounded kind b n right → b ≤ REDUCED_LIMIT
+abbrev pub IsPricedNear : {K : Type 0} (kind : Ghosts K) (n : ℕ) (right : List K) → Bid K → Type 0
+IsPricedNear kind n right bid = (b : ℕ) → Bounded kind b n right → b ≤ REDUCED_LIMIT
     → Within (b + 2 * COST_LIMIT) (kind.meaning bid.price)
 
 -- Left block l, which was left out, has right block c now. A left block that had c before is left
 -- out instead, and all others keep what they have.
-pub record Seated (n : ℕ) (out : ℕ → Bool) (p : List ℕ) (l c : ℕ) (out' : ℕ → Bool) (p' : List ℕ)
+pub record IsSeated (n : ℕ) (out : ℕ → Bool) (p : List ℕ) (l c : ℕ) (out' : ℕ → Bool) (p' : List ℕ)
     : Type 0 where
   pub len : length p' ≡ n
   pub inside : (m : ℕ) → out' m ≡ true → m < n
@@ -50,37 +51,41 @@ pub record Seated (n : ℕ) (out : ℕ → Bool) (p : List ℕ) (l c : ℕ) (out
   pub stays : (m : ℕ) → m < n → m ≢ l → out m ≡ false → at p m ≢ c → out' m ≡ false
   pub was : (m : ℕ) → m < n → m ≢ l → out' m ≡ false → (out m ≡ false) × (at p m ≢ c)
 
--- what left block l can bid for under the prices of `right`, and at what price
-abbrev pub BidOf : {K : Type 0} (kind : Ghosts K) (rows : List BlockSet) (costs : List K)
-    (held : BlockSet) (right : List K) (l j : ℕ) (w : ℤ) → Type 0
-BidOf kind rows costs held right l j w = BestBid (holds rows l) (has held) (weight_at kind right)
-    (cost_weight kind (length rows) costs l) j w
+-- what left block l can bid for under the prices so far, and at what price
+abbrev pub IsBidOf : {K : Type 0} (kind : Ghosts K) (rows : List BlockSet) (costs : List K)
+    (now : SoFar K) (l j : ℕ) (w : ℤ) → Type 0
+IsBidOf kind rows costs now l j w = IsBestBid (holds rows l) (has now.holders.held)
+    (weight_at kind now.right) (cost_weight kind (length rows) costs l) j w
+
+-- there is nothing that left block l can bid for
+abbrev pub HasNoBid : {K : Type 0} (kind : Ghosts K) (rows : List BlockSet) (costs : List K)
+    (now : SoFar K) (l : ℕ) → Type 0
+HasNoBid kind rows costs now l = (j : ℕ) (w : ℤ) → IsBidOf kind rows costs now l j w → ⊥
 
 -- left block l has taken what it bids for, and no other price has changed
-pub record Reduced {K : Type 0} (kind : Ghosts K) (rows : List BlockSet) (costs : List K)
-    (held : BlockSet) (l : ℕ) (out : ℕ → Bool) (p : List ℕ) (right : List K) (out' : ℕ → Bool)
-    (p' : List ℕ) (right' : List K) : Type 0 where
+pub record IsReduced {K : Type 0} (kind : Ghosts K) (rows : List BlockSet) (costs : List K) (l : ℕ)
+    (before after : SoFar K) : Type 0 where
   pub block : ℕ
-  pub bid : BidOf kind rows costs held right l block (weight_at kind right' block)
-  pub seated : Seated (length rows) out p l block out' p'
-  pub others : (c : ℕ) → c ≢ block → columns_at kind right' c ≡ columns_at kind right c
+  pub bid : IsBidOf kind rows costs before l block (weight_at kind after.right block)
+  pub seated : IsSeated (length rows) before.out before.partners l block after.out after.partners
+  pub others : (c : ℕ) → c ≢ block
+      → columns_at kind after.right c ≡ columns_at kind before.right c
 
 -- every right block that was held is held, and no price has risen
-pub record GoesOn (before after : ℕ → Bool) (v v' : ℕ → ℤ) : Type 0 where
-  pub held : (c : ℕ) → before c ≡ true → after c ≡ true
-  pub falls : (c : ℕ) → v' c ≤ℤ v c
+pub record HasGoneOn {K : Type 0} (kind : Ghosts K) (before after : SoFar K) : Type 0 where
+  pub held : (c : ℕ) → has before.holders.held c ≡ true → has after.holders.held c ≡ true
+  pub falls : (c : ℕ) → weight_at kind after.right c ≤ℤ weight_at kind before.right c
 
 -- Left block l has had its turn: a right block that it could bid for is held, at no higher price
 -- than it bid; or there was none that it could bid for.
-abbrev pub HadTurn : {K : Type 0} (kind : Ghosts K) (rows : List BlockSet) (costs : List K)
-    (held : BlockSet) (right : List K) (l : ℕ) (held' : BlockSet) (right' : List K) → Type 0
-HadTurn kind rows costs held right l held' right' =
-    ((j : ℕ) (w : ℤ) → BidOf kind rows costs held right l j w → ⊥)
-    ⊎ ((j : ℕ) × (w : ℤ) × BidOf kind rows costs held right l j w × (has held' j ≡ true)
-    × (weight_at kind right' j ≤ℤ w))
+abbrev pub HasHadTurn : {K : Type 0} (kind : Ghosts K) (rows : List BlockSet) (costs : List K)
+    (l : ℕ) (before after : SoFar K) → Type 0
+HasHadTurn kind rows costs l before after = HasNoBid kind rows costs before l
+    ⊎ ((j : ℕ) × (w : ℤ) × IsBidOf kind rows costs before l j w
+    × (has after.holders.held j ≡ true) × (weight_at kind after.right j ≤ℤ w))
 
 -- the left block that is left out first has had its turn
-abbrev pub FirstHadTurn : {K : Type 0} (kind : Ghosts K) (rows : List BlockSet) (costs : List K)
-    (out held : BlockSet) (right : List K) (held' : BlockSet) (right' : List K) → Type 0
-FirstHadTurn kind rows costs out held right held' right' =
-    (l : ℕ) → IsLeast out l → HadTurn kind rows costs held right l held' right'
+abbrev pub HasHadFirstTurn : {K : Type 0} (kind : Ghosts K) (rows : List BlockSet)
+    (costs : List K) (out : BlockSet) (before after : SoFar K) → Type 0
+HasHadFirstTurn kind rows costs out before after =
+    (l : ℕ) → IsLeast out l → HasHadTurn kind rows costs l before after

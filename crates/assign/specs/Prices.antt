@@ -24,7 +24,7 @@ pub record Topmost {K : Type 0} (kind : Ghosts K) (rows : List BlockSet) (costs 
       (at partners l) ≡ cost_weight kind (length rows) costs l (at partners l)
 
 -- a perfect pairing, prices that go with it, and those that the last search makes of them
-pub record Solution {K : Type 0} (kind : Ghosts K) (rows : List BlockSet) (costs : List K)
+pub record IsSolution {K : Type 0} (kind : Ghosts K) (rows : List BlockSet) (costs : List K)
     (partners : List ℕ) (left right : List K) : Type 0 where
   pub holders : Holders
   pub price : ℕ → ℤ

@@ -17,7 +17,7 @@ ghost use Rattle.pairing.specs.Largest.{Unpaired};
 ghost use Rattle.pairing.specs.Rows.{holds};
 ghost use Rattle.tables.specs.Lent.{lent};
 ghost use Rattle.assign.specs.Weighed.{SearchTables};
-ghost use Rattle.assign.specs.Prices.{Solution};
+ghost use Rattle.assign.specs.Prices.{IsSolution};
 ghost use Rattle.assign.specs.Answer.{Answers, Solved};
 
 mod limits;
@@ -110,7 +110,7 @@ fn solve<K: Cost>(
     requires lefts { length left.old ≡ length rows.now }
     requires rights { length right.old ≡ length rows.now }
     requires possible { (q : List ℕ) × Perfect (length rows.now) (holds rows.now) q }
-    ensures { Solution K.Cost rows.now costs.now partners.new left.new right.new }
+    ensures { IsSolution K.Cost rows.now costs.now partners.new left.new right.new }
 {
     let cheapest = price_cheapest(costs, rows, right);
     let first = pair_cheapest(rows.len(), &cheapest, partners);

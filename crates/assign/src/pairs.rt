@@ -7,7 +7,7 @@ ghost use Rattle.pairing.specs.Grid.{at, Perfect};
 ghost use Rattle.pairing.specs.Rows.{holds};
 ghost use Rattle.assign.specs.Weighed.{SearchTables};
 ghost use Rattle.matching.specs.Exchange.{without};
-ghost use Rattle.assign.specs.Pairs.{Chosen, PricedPairing};
+ghost use Rattle.assign.specs.Pairs.{so_far, IsPriced, AreChosen};
 
 use crate::prices::lower;
 use crate::search::grow_from;
@@ -22,8 +22,7 @@ pub fn pair_cheapest(n: usize, cheapest: &Cheapest, partners: &mut [u16]) -> Fir
     requires sized { length partners.old ≡ n }
     requires inside { (c : ℕ) → has cheapest.now.priced c ≡ true → (c < n)
         × (at cheapest.now.row c < n) }
-    ensures { Chosen n (has cheapest.now.priced) (at cheapest.now.row) (has result.out)
-        partners.new result.holders }
+    ensures { AreChosen n cheapest.now partners.new result }
 {
     let mut out = BlockSet::all(n);
     let mut held = BlockSet::empty();
@@ -62,10 +61,10 @@ pub fn pair_row<K: Cost>(
     requires room { k < length rows.now }
     requires unpaired { has out k ≡ true }
     requires possible { (q : List ℕ) × Perfect (length rows.now) (holds rows.now) q }
-    requires paired { PricedPairing K.Cost rows.now costs.now (has out) partners.old
-        holders.old right.old }
-    ensures { PricedPairing K.Cost rows.now costs.now (without (has out) k) partners.new
-        holders.new right.new }
+    requires paired { IsPriced K.Cost rows.now costs.now
+        (so_far (has out) partners.old holders.old right.old) }
+    ensures { IsPriced K.Cost rows.now costs.now
+        (so_far (without (has out) k) partners.new holders.new right.new) }
 {
     let tree = grow_from(k, costs, rows, holders, right, left);
     if let Some(goal) = tree.taken.goal {
@@ -89,9 +88,10 @@ pub fn pair_rest<K: Cost>(
     requires rights { length right.old ≡ length rows.now }
     requires inside { (l : ℕ) → has first.out l ≡ true → l < length rows.now }
     requires possible { (q : List ℕ) × Perfect (length rows.now) (holds rows.now) q }
-    requires paired { PricedPairing K.Cost rows.now costs.now (has first.out) partners.old
-        first.holders right.old }
-    ensures { PricedPairing K.Cost rows.now costs.now (λ _. false) partners.new result right.new }
+    requires paired { IsPriced K.Cost rows.now costs.now
+        (so_far (has first.out) partners.old first.holders right.old) }
+    ensures { IsPriced K.Cost rows.now costs.now
+        (so_far (λ _. false) partners.new result right.new) }
 {
     let FirstPairs {
         mut out,

@@ -11,7 +11,7 @@ ghost use Rattle.tables.specs.Said.{Bounded, columns_at};
 ghost use Rattle.assign.specs.declared.limits.TheConstants.{DISTANCE_LIMIT, LEFT_PRICE_LIMIT};
 ghost use Rattle.assign.specs.declared.limits.TheConstants.{INNER_PRICE_LIMIT};
 ghost use Rattle.assign.specs.Weighed.{weight_at, cost_weight, BoundedOn, SearchTables};
-ghost use Rattle.assign.specs.Pairs.{CheapestOf, PricedPairing};
+ghost use Rattle.assign.specs.Pairs.{so_far, IsPriced, AreCheapest};
 ghost use Rattle.assign.specs.Prices.{Topmost};
 
 use crate::search::{Offer, grow, offer_all};
@@ -33,9 +33,8 @@ fn clear<K: Cost>(table: &mut [K])
 pub fn price_cheapest<K: Cost>(costs: &[K], rows: &[BlockSet], right: &mut [K]) -> Cheapest
     requires lent { SearchTables K.Cost rows.now costs.now }
     requires rights { length right.old ≡ length rows.now }
-    ensures cheapest { CheapestOf (length rows.now) (length rows.now) (holds rows.now)
-        (cost_weight K.Cost (length rows.now) costs.now) (has result.priced) (at result.row)
-        (weight_at K.Cost right.new) }
+    ensures cheapest { AreCheapest (length rows.now) (length rows.now) (holds rows.now)
+        (cost_weight K.Cost (length rows.now) costs.now) result (weight_at K.Cost right.new) }
     ensures bound { Bounded K.Cost COST_LIMIT (length rows.now) right.new }
 {
     clear(right);
@@ -118,8 +117,8 @@ pub fn price_greatest<K: Cost>(
     requires partnered { length partners.now ≡ length rows.now }
     requires lefts { length left.old ≡ length rows.now }
     requires rights { length right.old ≡ length rows.now }
-    requires paired { PricedPairing K.Cost rows.now costs.now (λ _. false) partners.now
-        holders.now right.old }
+    requires paired { IsPriced K.Cost rows.now costs.now
+        (so_far (λ _. false) partners.now holders.now right.old) }
     ensures topmost { Topmost K.Cost rows.now costs.now partners.now holders.now
         (weight_at K.Cost right.old) left.new right.new }
     ensures lefts { Bounded K.Cost PRICE_LIMIT (length rows.now) left.new }

@@ -12,9 +12,9 @@ ghost use Rattle.tables.specs.Said.{Bounded};
 ghost use Rattle.assign.specs.declared.limits.TheConstants.{INNER_PRICE_LIMIT, REDUCED_LIMIT};
 ghost use Rattle.assign.specs.Weighed.{weight_at, BoundedOn, SearchTables};
 ghost use Rattle.assign.specs.Offers.{NearestWithKey};
-ghost use Rattle.assign.specs.Pairs.{PricedPairing};
-ghost use Rattle.assign.specs.Bids.{BestBid, FindsBid, PricedNear, Seated, BidOf, Reduced};
-ghost use Rattle.assign.specs.Bids.{GoesOn, FirstHadTurn};
+ghost use Rattle.assign.specs.Pairs.{so_far, IsPriced};
+ghost use Rattle.assign.specs.Bids.{IsBestBid, IsBidFound, IsPricedNear, IsSeated, HasNoBid};
+ghost use Rattle.assign.specs.Bids.{IsReduced, HasGoneOn, HasHadFirstTurn};
 
 use crate::search::{nearest, nearest_free_first, two_nearest};
 use crate::sums::{exact_difference, is_less};
@@ -29,10 +29,10 @@ fn bid_for_free<K: Cost>(to: BlockSet, held: BlockSet, costs: &[K], right: &[K])
     requires inside { (c : ℕ) → has to c ≡ true → c < length costs.now }
     requires modest { BoundedOn K.Cost COST_LIMIT (has to) costs.now }
     requires priced { Bounded K.Cost INNER_PRICE_LIMIT (length costs.now) right.now }
-    requires no_held { (j : ℕ) (w : ℤ) → has held j ≡ true → BestBid (has to) (has held)
+    requires no_held { (j : ℕ) (w : ℤ) → has held j ≡ true → IsBestBid (has to) (has held)
         (weight_at K.Cost right.now) (weight_at K.Cost costs.now) j w → ⊥ }
-    ensures bid { FindsBid K.Cost (has to) (has held) costs.now right.now result }
-    ensures bound { IfSome result (PricedNear K.Cost (length costs.now) right.now) }
+    ensures bid { IsBidFound K.Cost (has to) (has held) costs.now right.now result }
+    ensures bound { IfSome result (IsPricedNear K.Cost (length costs.now) right.now) }
 {
     let near = nearest_free_first(to, held, costs, right)?;
     let block = near.block;
@@ -59,10 +59,10 @@ fn bid_as_near<K: Cost>(
     requires modest { BoundedOn K.Cost COST_LIMIT (has to) costs.now }
     requires priced { Bounded K.Cost INNER_PRICE_LIMIT (length costs.now) right.now }
     requires near { NearestWithKey K.Cost (has to) right.now costs.now near }
-    requires no_held { (j : ℕ) (w : ℤ) → has held j ≡ true → BestBid (has to) (has held)
+    requires no_held { (j : ℕ) (w : ℤ) → has held j ≡ true → IsBestBid (has to) (has held)
         (weight_at K.Cost right.now) (weight_at K.Cost costs.now) j w → ⊥ }
-    ensures bid { FindsBid K.Cost (has to) (has held) costs.now right.now result }
-    ensures bound { IfSome result (PricedNear K.Cost (length costs.now) right.now) }
+    ensures bid { IsBidFound K.Cost (has to) (has held) costs.now right.now result }
+    ensures bound { IfSome result (IsPricedNear K.Cost (length costs.now) right.now) }
 {
     let free = nearest(to.difference(held), costs, right)?;
     if is_less(near.key, free.key) {
@@ -82,8 +82,8 @@ pub fn find_bid<K: Cost>(costs: &[K], to: BlockSet, held: BlockSet, right: &[K])
     requires inside { (c : ℕ) → has to c ≡ true → c < length costs.now }
     requires modest { BoundedOn K.Cost COST_LIMIT (has to) costs.now }
     requires priced { Bounded K.Cost INNER_PRICE_LIMIT (length costs.now) right.now }
-    ensures bid { FindsBid K.Cost (has to) (has held) costs.now right.now result }
-    ensures bound { IfSome result (PricedNear K.Cost (length costs.now) right.now) }
+    ensures bid { IsBidFound K.Cost (has to) (has held) costs.now right.now result }
+    ensures bound { IfSome result (IsPricedNear K.Cost (length costs.now) right.now) }
 {
     let Some(TwoNearest { near, next }) = two_nearest(to, costs, right) else {
         return bid_for_free(to, held, costs, right);
@@ -112,7 +112,7 @@ fn seat(l: usize, c: usize, out: &mut BlockSet, partners: &mut [u16], holders: &
     requires inside { (m : ℕ) → has out.old m ≡ true → m < length partners.old }
     requires distinct { GivesDistinct (length partners.old) partners.old (has out.old) }
     requires told { Holding 0 partners.old (has out.old) holders.old }
-    ensures seated { Seated (length partners.old) (has out.old) partners.old l c (has out.new)
+    ensures seated { IsSeated (length partners.old) (has out.old) partners.old l c (has out.new)
         partners.new }
     ensures told { Holding 0 partners.new (has out.new) holders.new }
     ensures held { (j : ℕ) → has holders.new.held j ≡ (j == c || has holders.old.held j) }
@@ -144,20 +144,19 @@ pub fn reduce_row<K: Cost>(
     requires rights { length right.old ≡ length rows.now }
     requires left_out { has out.old l ≡ true }
     requires inside { (m : ℕ) → has out.old m ≡ true → m < length rows.now }
-    requires paired { PricedPairing K.Cost rows.now costs.now (has out.old) partners.old
-        holders.old right.old }
+    requires paired { IsPriced K.Cost rows.now costs.now
+        (so_far (has out.old) partners.old holders.old right.old) }
     requires near { Bounded K.Cost REDUCED_LIMIT (length rows.now) right.old }
-    ensures reduced { MatchBool result
-        (Reduced K.Cost rows.now costs.now holders.old.held l (has out.old) partners.old
-        right.old (has out.new) partners.new right.new)
-        (((j : ℕ) (w : ℤ) → BidOf K.Cost rows.now costs.now holders.old.held right.old l j w → ⊥)
-        × (out.new ≡ out.old) × (partners.new ≡ partners.old) × (holders.new ≡ holders.old)
-        × (right.new ≡ right.old)) }
-    ensures goes_on { GoesOn (has holders.old.held) (has holders.new.held)
-        (weight_at K.Cost right.old) (weight_at K.Cost right.new) }
+    ensures reduced { let old = so_far (has out.old) partners.old holders.old right.old in
+        let new = so_far (has out.new) partners.new holders.new right.new in
+        MatchBool result (IsReduced K.Cost rows.now costs.now l old new)
+        (HasNoBid K.Cost rows.now costs.now old l × ((out.new ≡ out.old)
+        × (partners.new ≡ partners.old) × (holders.new ≡ holders.old) × (right.new ≡ right.old))) }
+    ensures goes_on { HasGoneOn K.Cost (so_far (has out.old) partners.old holders.old right.old)
+        (so_far (has out.new) partners.new holders.new right.new) }
     ensures inside { (m : ℕ) → has out.new m ≡ true → m < length rows.now }
-    ensures paired { PricedPairing K.Cost rows.now costs.now (has out.new) partners.new
-        holders.new right.new }
+    ensures paired { IsPriced K.Cost rows.now costs.now
+        (so_far (has out.new) partners.new holders.new right.new) }
     ensures bound { (b : ℕ) → Bounded K.Cost b (length rows.now) right.old → b ≤ REDUCED_LIMIT
         → Bounded K.Cost (b + 2 * COST_LIMIT) (length rows.now) right.new }
 {
@@ -186,16 +185,18 @@ pub fn reduce_rows<K: Cost>(
     requires partnered { length partners.old ≡ length rows.now }
     requires rights { length right.old ≡ length rows.now }
     requires inside { (l : ℕ) → has first.out l ≡ true → l < length rows.now }
-    requires paired { PricedPairing K.Cost rows.now costs.now (has first.out) partners.old
-        first.holders right.old }
+    requires paired { IsPriced K.Cost rows.now costs.now
+        (so_far (has first.out) partners.old first.holders right.old) }
     requires near { Bounded K.Cost COST_LIMIT (length rows.now) right.old }
-    ensures goes_on { GoesOn (has first.holders.held) (has result.holders.held)
-        (weight_at K.Cost right.old) (weight_at K.Cost right.new) }
-    ensures begun { FirstHadTurn K.Cost rows.now costs.now first.out first.holders.held right.old
-        result.holders.held right.new }
+    ensures goes_on { HasGoneOn K.Cost
+        (so_far (has first.out) partners.old first.holders right.old)
+        (so_far (has result.out) partners.new result.holders right.new) }
+    ensures begun { HasHadFirstTurn K.Cost rows.now costs.now first.out
+        (so_far (has first.out) partners.old first.holders right.old)
+        (so_far (has result.out) partners.new result.holders right.new) }
     ensures inside { (l : ℕ) → has result.out l ≡ true → l < length rows.now }
-    ensures paired { PricedPairing K.Cost rows.now costs.now (has result.out) partners.new
-        result.holders right.new }
+    ensures paired { IsPriced K.Cost rows.now costs.now
+        (so_far (has result.out) partners.new result.holders right.new) }
 {
     let FirstPairs {
         mut out,

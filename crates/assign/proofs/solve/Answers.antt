@@ -1,20 +1,14 @@
 -- The cheapest pairs go with the cheapest prices, and none of these is farther than a cost.
-use Rattle.std.proofs.Common.{length, ◌∙◌, arith}
+use Rattle.std.proofs.Common.{◌∙◌, arith}
 use Rattle.cost.specs.declared.TheConstants.{COST_LIMIT}
 use Rattle.cost.proofs.Exact.{within_more}
-use Rattle.blockset.specs.Has.{has}
-use Rattle.pairing.specs.Grid.{at}
-use Rattle.pairing.specs.Rows.{holds}
 use Rattle.tables.specs.Said.{columns_at}
 use Rattle.assign.specs.declared.limits.TheConstants.{INNER_PRICE_LIMIT}
-use Rattle.assign.specs.Weighed.{weight_at, cost_weight}
 use Rattle.assign.proofs.Cheaply.{cheaply_kept}
 use Rattle.assign.proofs.solve.Goals as goal
 
 pub reduce_rows-reduced-requires : goal.reduce_rows-reduced-requires
 reduce_rows-reduced-requires g c =
-    let kind = g.K.Cost in
-    let n = length c.args.rows.now in
     let cheapest = c.price_cheapest-cheapest in
     let first = c.pair_cheapest-first in
     let partnered = first.auto.partners ∙ c.requires.partnered in
@@ -25,10 +19,7 @@ reduce_rows-reduced-requires g c =
       inside = first.ensures.inside;
       near = cheapest.ensures.bound;
       paired = record {
-        kept = cheaply_kept n (holds c.args.rows.now) (cost_weight kind n c.args.costs.now)
-            (has cheapest.result.priced) (at cheapest.result.row)
-            (weight_at kind cheapest.new.right) cheapest.ensures.cheapest
-            (has first.result.out) first.new.partners first.result.holders partnered first.ensures;
+        kept = cheaply_kept cheapest.ensures.cheapest partnered first.ensures;
         priced = λ j h. within_more COST_LIMIT INNER_PRICE_LIMIT
             (columns_at g.K.Cost cheapest.new.right j) (omega arith)
             (cheapest.ensures.bound j h);

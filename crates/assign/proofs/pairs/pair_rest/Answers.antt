@@ -2,7 +2,7 @@
 use Rattle.std.proofs.Common.{false, sym, subst}
 use mathlib.Core.Path.{fun_ext}
 use Rattle.blockset.specs.Has.{has}
-use Rattle.assign.specs.Pairs.{PricedPairing}
+use Rattle.assign.specs.Pairs.{so_far, IsPriced}
 use Rattle.blockset.proofs.Removing.{still_in, fewer}
 use Rattle.assign.proofs.pairs.pair_rest.Goals as goal
 
@@ -11,16 +11,19 @@ loop-k-smaller g c = fewer (has c.loop-k.out) (has c.remove.new.self) c.in-Some.
     c.in-Some.ensures.0 c.in-Some.ensures.1
 
 pub loop-k-preserved : goal.loop-k-preserved
-loop-k-preserved g c = (
-  subst (λ out. PricedPairing g.K.Cost c.args.rows.now c.args.costs.now out c.pair_row.new.partners
-      c.pair_row.new.holders c.pair_row.new.right) (sym (fun_ext c.remove.ensures))
-      c.pair_row.ensures,
-  λ j t. c.loop-k.invariant.1 j
-      (still_in (has c.loop-k.out) (has c.remove.new.self) c.in-Some.k c.remove.ensures j t).0,
-)
+loop-k-preserved g c =
+    let new = c.pair_row.new in
+    record {
+      paired = subst (λ out. IsPriced g.K.Cost c.args.rows.now c.args.costs.now
+          (so_far out new.partners new.holders new.right)) (sym (fun_ext c.remove.ensures))
+          c.pair_row.ensures;
+      inside = λ j t. c.loop-k.invariant.inside j
+          (still_in (has c.loop-k.out) (has c.remove.new.self) c.in-Some.k c.remove.ensures j t).0;
+    }
 
 pub returns : goal.returns
 returns g c =
-    subst (λ out. PricedPairing g.K.Cost c.args.rows.now c.args.costs.now out c.loop-k.partners
-    c.loop-k.holders c.loop-k.right)
-    (fun_ext {f = has c.loop-k.out} {g = λ _. false} c.in_default.ensures) c.loop-k.invariant.0
+    let now = c.loop-k in
+    subst (λ out. IsPriced g.K.Cost c.args.rows.now c.args.costs.now
+    (so_far out now.partners now.holders now.right))
+    (fun_ext {f = has now.out} {g = λ _. false} c.in_default.ensures) now.invariant.paired

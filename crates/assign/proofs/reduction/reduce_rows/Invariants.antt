@@ -4,22 +4,23 @@ use Rattle.std.proofs.Common.{◌≡◌, ℕ, ◌+◌, ◌*◌, ◌<◌, ◌⊎�
 use Rattle.cost.specs.declared.TheConstants.{COST_LIMIT}
 use Rattle.blockset.specs.Has.{has, IsEmpty}
 use Rattle.tables.specs.Said.{Bounded}
-use Rattle.assign.specs.Weighed.{weight_at}
-use Rattle.assign.specs.Pairs.{PricedPairing}
-use Rattle.assign.specs.Bids.{GoesOn, FirstHadTurn}
+use Rattle.assign.specs.Pairs.{so_far, IsPriced}
+use Rattle.assign.specs.Bids.{HasGoneOn, HasHadFirstTurn}
 use Rattle.assign.proofs.reduction.reduce_rows.Given as goal
 
 abbrev pub invariant-loop-step : goal.invariant-loop-step
 invariant-loop-step g l =
     let kind = g.K.Cost in
     let first = l.fn.first in
-    ((m : ℕ) → has l.out m ≡ true → m < length l.rows)
-    × PricedPairing kind l.rows l.costs (has l.out) l.partners l.holders l.right
-    × Bounded kind (COST_LIMIT + l._step * (2 * COST_LIMIT)) (length l.rows) l.right
-    × (length l.partners ≡ length l.rows) × (length l.right ≡ length l.rows)
-    × GoesOn (has first.holders.held) (has l.holders.held) (weight_at kind l.initial.right)
-    (weight_at kind l.right)
-    × (((l._step ≡ 0) × (l.out ≡ first.out) × (l.holders ≡ first.holders)
-    × (l.right ≡ l.initial.right) × IsEmpty l.aside)
-    ⊎ FirstHadTurn kind l.rows l.costs first.out first.holders.held l.initial.right
-    l.holders.held l.right)
+    let was = so_far (has first.out) l.initial.partners first.holders l.initial.right in
+    let now = so_far (has l.out) l.partners l.holders l.right in
+    record {
+      inside : (m : ℕ) → has l.out m ≡ true → m < length l.rows;
+      paired : IsPriced kind l.rows l.costs now;
+      bound : Bounded kind (COST_LIMIT + l._step * (2 * COST_LIMIT)) (length l.rows) l.right;
+      partnered : length l.partners ≡ length l.rows;
+      rights : length l.right ≡ length l.rows;
+      goes_on : HasGoneOn kind was now;
+      begun : ((l._step ≡ 0) × (l.out ≡ first.out) × (now ≡ was) × IsEmpty l.aside)
+          ⊎ HasHadFirstTurn kind l.rows l.costs first.out was now
+    }
