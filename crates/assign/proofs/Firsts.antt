@@ -21,24 +21,16 @@ use Rattle.tables.proofs.Orderly.{sane_in_order}
 use Rattle.tables.proofs.Tightness.{pairs_optimum, pairings_are_optima}
 use Rattle.assign.specs.Answer.{Solved, Settled}
 
--- writing to the partners and the prices leaves tables usable
-pub usable_still : {K : Type 0} (kind : Ghosts K) (n : ℕ) (costs : List K)
-    (standing p p' : List ℕ) (l l' r r' : List K) → IsUsable kind (lent n costs standing p l r)
-    → length p' ≡ length p → length l' ≡ length l → length r' ≡ length r
-    → IsUsable kind (lent n costs standing p' l' r')
-usable_still kind n costs standing p p' l l' r r' u ep el er = record {
-  few = u.few;
-  lengths = record {
-    room = record {
-      costs_long = u.lengths.room.costs_long;
-      standing_long = u.lengths.room.standing_long;
-      left_long = el ∙ u.lengths.room.left_long;
-      right_long = er ∙ u.lengths.room.right_long;
-    };
-    partners_long = ep ∙ u.lengths.partners_long;
-  };
-  in_order = u.in_order;
-}
+-- tables that are usable and solved
+pub record AreSolved {K : Type 0} (kind : Ghosts K) (t : Lent K) : Type 0 where
+  pub usable : IsUsable kind t
+  pub solved : Solved kind t
+
+pub solved_still : {K : Type 0} (kind : Ghosts K) (t : Lent K) (p : List ℕ) (l r : List K)
+    → IsUsable kind t × Solved kind (written t p l r) → length p ≡ length t.partners
+    → length l ≡ length t.left → length r ≡ length t.right → AreSolved kind (written t p l r)
+solved_still kind t p l r w ep el er =
+    record { usable = usable_still kind t p l r w.0 ep el er; solved = w.1 }
 
 module _ {K : Type 0} (kind : Ghosts K) (wide : (x : K) → length (kind.meaning x) ≡ kind.columns)
     (t : Lent K) (usable : IsUsable kind t) where

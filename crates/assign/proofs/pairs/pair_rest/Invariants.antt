@@ -9,7 +9,7 @@ use Rattle.assign.proofs.pairs.pair_rest.Given as goal
 abbrev pub invariant-loop-k : goal.invariant-loop-k
 invariant-loop-k g l = record {
   paired : IsPriced g.K.Cost l.rows l.costs (so_far (has l.out) l.partners l.holders l.right);
-  inside : (j : ℕ) → has l.out j ≡ true → j < length l.rows
+  inside : (j : ℕ) → has l.out j ≡ true → j < length l.rows;
 }
 
 abbrev pub decreases-loop-k : goal.decreases-loop-k

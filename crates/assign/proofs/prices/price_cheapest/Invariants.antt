@@ -14,5 +14,5 @@ invariant-loop-l g l =
     record {
       cheapest : AreCheapest l.l n (holds l.rows) (cost_weight kind n l.costs)
           (record { priced = l.priced; row = l.row }) (weight_at kind l.right);
-      bound : Bounded kind COST_LIMIT n l.right
+      bound : Bounded kind COST_LIMIT n l.right;
     }

@@ -22,5 +22,5 @@ invariant-loop-step g l =
       rights : length l.right ≡ length l.rows;
       goes_on : HasGoneOn kind was now;
       begun : ((l._step ≡ 0) × (l.out ≡ first.out) × (now ≡ was) × IsEmpty l.aside)
-          ⊎ HasHadFirstTurn kind l.rows l.costs first.out was now
+          ⊎ HasHadFirstTurn kind l.rows l.costs first.out was now;
     }
