@@ -24,11 +24,11 @@ use Rattle.tables.specs.Lent.{lent}
 use Rattle.sheet.specs.Settling.{settle_needs, IsSettled}
 use Rattle.chost.specs.Answers.{call_needs, IsWritten, StepsOn, AnswersHost}
 use Rattle.chost.specs.Answers.{HasRoomFor}
-use Rattle.chost.specs.declared.answering.Call.{Call}
-use Rattle.chost.specs.declared.answering.Call.TheVariants.{First, After}
+use Rattle.chost.specs.declared.answering.HostCall.{HostCall}
+use Rattle.chost.specs.declared.answering.HostCall.TheVariants.{First, After}
 use Rattle.chost.proofs.Buffers.{front, behind, as_long}
 
-module _ (call : Call) (file out : List ℕ) (verdict : HasOneVerdict file) where
+module _ (call : HostCall) (file out : List ℕ) (verdict : HasOneVerdict file) where
   -- a file with a fault
   pub answers_faulty : (f : Fault) → FirstFault file f → AnswersHost call file out (Err f) out
   answers_faulty f h = record {
@@ -50,7 +50,7 @@ module _ (call : Call) (file out : List ℕ) (verdict : HasOneVerdict file) wher
   }
 
 -- the buffer is too short
-pub short_buffer : (o : Order) (out : List ℕ) → length out < o.size → (call : Call)
+pub short_buffer : (o : Order) (out : List ℕ) → length out < o.size → (call : HostCall)
     → IsFirstUnmet (call_needs (grid_stated o) out call) (fault ShortBuffer 0)
 short_buffer o out short First = inl ((λ room. absurd (omega (arith, short, room))), refl)
 short_buffer o out short After = inl ((λ room. absurd (omega (arith, short, room))), refl)
@@ -58,7 +58,7 @@ short_buffer o out short After = inl ((λ room. absurd (omega (arith, short, roo
 module _ (o : Order) (r : Result Sheet Fault) (costs : List Plain) (standing : List ℕ)
     (accepted : Accepted o r costs standing) (out : List ℕ) (room : o.size ≤ length out) where
   -- no pairing is perfect
-  pub unpaired : (call : Call)
+  pub unpaired : (call : HostCall)
       → ((p : List ℕ) × PerfectIn (plain_grid o.size costs standing) p → ⊥)
       → IsFirstUnmet (call_needs (grid_stated o) out call) (fault NoPerfectPairing 0)
   unpaired First none = inr (
@@ -148,7 +148,7 @@ module _ (o : Order) (r : Result Sheet Fault) (costs : List Plain) (standing : L
 
 -- ---- In tables with room for the sheet that the file states
 
-module _ (call : Call) (file out : List ℕ) (costs₀ costs : List Plain) (standing₀ standing : List ℕ)
+module _ (call : HostCall) (file out : List ℕ) (costs₀ costs : List Plain) (standing₀ standing : List ℕ)
     (partners list : List ℕ) (left right : List Plain) (sheet : Sheet)
     (loaded : Loaded file costs₀ standing₀ (Ok sheet) costs standing)
     (rooms : (o : Order) → States file o → HasRoomFor o.size (length costs₀) (length standing₀)

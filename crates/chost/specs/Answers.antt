@@ -17,8 +17,8 @@ use Rattle.sheet.specs.declared.fault.Fault.{Fault}
 use Rattle.orderfile.specs.Faults.{FirstFault}
 use Rattle.orderfile.specs.Format.{Order, States}
 use Rattle.orderfile.specs.Loading.{HasOneVerdict, grid_stated}
-use Rattle.chost.specs.declared.answering.Call.{Call}
-use Rattle.chost.specs.declared.answering.Call.TheVariants.{First, After}
+use Rattle.chost.specs.declared.answering.HostCall.{HostCall}
+use Rattle.chost.specs.declared.answering.HostCall.TheVariants.{First, After}
 
 module _ (g : Grid) (out : List ℕ) where
   -- a buffer with a byte for each left block, and a perfect pairing
@@ -27,18 +27,18 @@ module _ (g : Grid) (out : List ℕ) where
       (need ((p : List ℕ) × PerfectIn g p) NoPerfectPairing more)
 
   -- and, for the pairing that follows one, an optimum pairing at the front of the buffer
-  abbrev pub call_needs : Call → Needs
+  abbrev pub call_needs : HostCall → Needs
   call_needs First = settling_needs nothing
   call_needs After = settling_needs (need (Optimum g (take g.size out)) Inconsistent nothing)
 
   -- the front of the buffer is the first of all optimum pairings; or the one that follows it in
   -- dictionary order, and at the last one, where the step is the end, it stays
-  abbrev pub Writes : Call → (out' : List ℕ) → Step → Type 0
+  abbrev pub Writes : HostCall → (out' : List ℕ) → Step → Type 0
   Writes First out' step = (step ≡ Next) × IsNth (optima g) 0 (take g.size out')
   Writes After out' step = Follows (optima g) (take g.size out) (take g.size out') step
 
   -- the bytes behind it stay
-  pub record IsWritten (call : Call) (out' : List ℕ) (step : Step) : Type 0 where
+  pub record IsWritten (call : HostCall) (out' : List ℕ) (step : Step) : Type 0 where
     pub written : Writes call out' step
     pub behind : drop g.size out' ≡ drop g.size out
     pub long : length out' ≡ length out
@@ -51,7 +51,7 @@ StepsOn g out answer out' = MatchResult answer
 
 -- a call is refused for the file's first fault; else, on the sheet that the file states, for the
 -- first need that is not met; or it is done. On a refusal the buffer is as it was
-pub record AnswersHost (call : Call) (file out : List ℕ) (answer : Result Step Fault)
+pub record AnswersHost (call : HostCall) (file out : List ℕ) (answer : Result Step Fault)
     (out' : List ℕ) : Type 0 where
   pub verdict : HasOneVerdict file
   pub faulty : (f : Fault) → FirstFault file f → (answer ≡ Err f) × (out' ≡ out)
@@ -59,12 +59,12 @@ pub record AnswersHost (call : Call) (file out : List ℕ) (answer : Result Step
       Responds (call_needs g out call) answer (IsWritten g out call out') (out' ≡ out)
 
 -- what a host is told: 0 where a pairing was written, 100 at the end, else the refusal's number
-abbrev pub number_told : Result Step Fault → ℕ
-number_told (Ok step) = step_number step
-number_told (Err f) = cause_number f.cause
+abbrev pub host_number : Result Step Fault → ℕ
+host_number (Ok step) = step_number step
+host_number (Err f) = cause_number f.cause
 
-abbrev pub ForHost : Call → (file out : List ℕ) → ℕ → (out' : List ℕ) → Type 0
-ForHost call file out number out' = (answer : Result Step Fault) × (number ≡ number_told answer)
+abbrev pub TellsHost : HostCall → (file out : List ℕ) → ℕ → (out' : List ℕ) → Type 0
+TellsHost call file out number out' = (answer : Result Step Fault) × (number ≡ host_number answer)
     × AnswersHost call file out answer out'
 
 -- tables with a place for all that a sheet of n blocks a plane and a call on it need

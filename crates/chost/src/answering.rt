@@ -9,7 +9,7 @@ ghost use Rattle.tables.specs.Said.{grid_of};
 ghost use Rattle.tables.specs.Together.{Together};
 ghost use Rattle.sheet.specs.Size.{size_of};
 ghost use Rattle.orderfile.specs.Format.{Order, States};
-ghost use Rattle.chost.specs.Answers.{AnswersHost, ForHost, HasRoomFor, StepsOn};
+ghost use Rattle.chost.specs.Answers.{AnswersHost, TellsHost, HasRoomFor, StepsOn};
 
 use crate::blocks::{read_blocks, write_blocks};
 use cost::{Cost, Plain};
@@ -25,7 +25,7 @@ const MOST_PLACES: usize = MOST * MOST;
 
 /// Which of the two calls is made.
 #[derive(Clone, Copy, PartialEq, Eq, Debug)]
-pub enum Call {
+pub enum HostCall {
     /// For the first optimum pairing.
     First,
     /// For the one that follows the pairing in the buffer.
@@ -33,8 +33,8 @@ pub enum Call {
 }
 
 /// The answer to a call as the number that a host in C sees.
-pub fn answer_number(call: Call, file: &[u8], out: &mut [u8]) -> u32
-    ensures { ForHost call file.now out.old result out.new }
+pub fn answer_number(call: HostCall, file: &[u8], out: &mut [u8]) -> u32
+    ensures { TellsHost call file.now out.old result out.new }
 {
     match answer(call, file, out) {
         Ok(step) => u32::from(step.number()),
@@ -43,7 +43,7 @@ pub fn answer_number(call: Call, file: &[u8], out: &mut [u8]) -> u32
 }
 
 // Reads the file, and makes the call if the buffer is long enough.
-fn answer(call: Call, file: &[u8], out: &mut [u8]) -> Result<Step, Fault>
+fn answer(call: HostCall, file: &[u8], out: &mut [u8]) -> Result<Step, Fault>
     ensures { AnswersHost call file.now out.old result out.new }
 {
     let size = check(file)?;
@@ -54,7 +54,7 @@ fn answer(call: Call, file: &[u8], out: &mut [u8]) -> Result<Step, Fault>
 }
 
 // Lends the call tables for a sheet of so many blocks a plane.
-fn answer_for(call: Call, file: &[u8], size: u16, out: &mut [u8]) -> Result<Step, Fault>
+fn answer_for(call: HostCall, file: &[u8], size: u16, out: &mut [u8]) -> Result<Step, Fault>
     requires stated { (o : Order) × States file.now o × (o.size ≡ size) }
     requires few { size ≤ MOST_BLOCKS }
     requires places { places_of size ≤ MOST_PLACES }
@@ -84,7 +84,7 @@ fn answer_for(call: Call, file: &[u8], size: u16, out: &mut [u8]) -> Result<Step
 
 // Settles the sheet of a file in tables that fit it, and makes the call on the settled sheet.
 fn answer_over(
-    call: Call,
+    call: HostCall,
     file: &[u8],
     costs: &mut [Plain],
     standing: &mut [u8],
@@ -102,11 +102,11 @@ fn answer_over(
     let sheet = load(file, costs, standing)?;
     let settled = sheet.settle(costs, standing, partners, left, right)?;
     match call {
-        Call::First => {
+        HostCall::First => {
             write_blocks(partners, out);
             Ok(Step::Next)
         }
-        Call::After => step_on(settled, costs, standing, partners, left, right, list, out),
+        HostCall::After => step_on(settled, costs, standing, partners, left, right, list, out),
     }
 }
 

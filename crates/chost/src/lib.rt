@@ -5,13 +5,13 @@
 //! tables on its stack.
 #![tactic(auto)]
 
-ghost use Rattle.chost.specs.Answers.{ForHost};
-ghost use Rattle.chost.specs.declared.answering.Call.TheVariants.{First, After};
+ghost use Rattle.chost.specs.Answers.{TellsHost};
+ghost use Rattle.chost.specs.declared.answering.HostCall.TheVariants.{First, After};
 
 mod answering;
 mod blocks;
 
-use answering::{Call, answer_number};
+use answering::{HostCall, answer_number};
 
 /// Settles an order file and writes the first of its optimum pairings in dictionary order to the
 /// front of `out`: a byte for each left block, the number of its right block.
@@ -21,9 +21,9 @@ use answering::{Call, answer_number};
 /// perfect. On a refusal `out` is as it was; the bytes behind the pairing always are.
 #[unsafe(no_mangle)]
 pub extern "C" fn tulvasne_first(file: &[u8], out: &mut [u8]) -> u32
-    ensures { ForHost First file.now out.old result out.new }
+    ensures { TellsHost First file.now out.old result out.new }
 {
-    answer_number(Call::First, file, out)
+    answer_number(HostCall::First, file, out)
 }
 
 /// Settles an order file and writes over the optimum pairing at the front of `out` the one that
@@ -34,7 +34,7 @@ pub extern "C" fn tulvasne_first(file: &[u8], out: &mut [u8]) -> u32
 /// a refusal `out` is as it was; the bytes behind the pairing always are.
 #[unsafe(no_mangle)]
 pub extern "C" fn tulvasne_after(file: &[u8], out: &mut [u8]) -> u32
-    ensures { ForHost After file.now out.old result out.new }
+    ensures { TellsHost After file.now out.old result out.new }
 {
-    answer_number(Call::After, file, out)
+    answer_number(HostCall::After, file, out)
 }

@@ -89,7 +89,7 @@ left_all n costs standing first end m e = let all : end - first ≡ m = omega ar
 
 -- the loop: from an offset on the pairs of the places from `first` up to `end` are written; a front
 -- was written, and with the pairs that are left it makes the whole
-pub record Writing (n : ℕ) (costs : List Plain) (standing out₀ : List ℕ) (start first end k at : ℕ)
+pub record HasWritten (n : ℕ) (costs : List Plain) (standing out₀ : List ℕ) (start first end k at : ℕ)
     (out : List ℕ) : Type 0 where
   pub done : List ℕ
   pub held : out ≡ done ++ drop at out₀
@@ -99,13 +99,13 @@ pub record Writing (n : ℕ) (costs : List Plain) (standing out₀ : List ℕ) (
 
 -- the same place, said otherwise
 pub writing_at : (n : ℕ) (costs : List Plain) (standing out₀ : List ℕ) (start first end k j at : ℕ)
-    (out : List ℕ) → j ≡ k → Writing n costs standing out₀ start first end k at out
-    → Writing n costs standing out₀ start first end j at out
+    (out : List ℕ) → j ≡ k → HasWritten n costs standing out₀ start first end k at out
+    → HasWritten n costs standing out₀ start first end j at out
 writing_at n costs standing out₀ start first end k j at out e w =
-    subst (λ (i : ℕ). Writing n costs standing out₀ start first end i at out) (sym e) w
+    subst (λ (i : ℕ). HasWritten n costs standing out₀ start first end i at out) (sym e) w
 
 pub writing_start : (n : ℕ) (costs : List Plain) (standing out₀ : List ℕ) (start first end : ℕ)
-    → start ≤ length out₀ → Writing n costs standing out₀ start first end first start out₀
+    → start ≤ length out₀ → HasWritten n costs standing out₀ start first end first start out₀
 writing_start n costs standing out₀ start first end h =
     record {
       done = take start out₀;
@@ -116,7 +116,7 @@ writing_start n costs standing out₀ start first end h =
     }
 
 module _ (n : ℕ) (costs : List Plain) (standing out₀ : List ℕ) (start first end k at : ℕ)
-    (out : List ℕ) (w : Writing n costs standing out₀ start first end k at out) where
+    (out : List ℕ) (w : HasWritten n costs standing out₀ start first end k at out) where
   -- the pairs that are left have room
   writing_left : start + length (left_bytes n costs standing end first) ≤ length out₀
       → at + length (left_bytes n costs standing end k) ≤ length out₀
@@ -138,7 +138,7 @@ module _ (n : ℕ) (costs : List Plain) (standing out₀ : List ℕ) (start firs
 
   pub writing_yes : (out' : List ℕ) → k < end → says_stands (get_or standing k 0) ≡ true
       → out' ≡ take at out ++ (pair_field (pair_at n costs k) ++ drop (at + 13) out)
-      → Writing n costs standing out₀ start first end (k + 1) (at + 13) out'
+      → HasWritten n costs standing out₀ start first end (k + 1) (at + 13) out'
   writing_yes out' h e put = record {
     done = w.done ++ pair_field (pair_at n costs k);
     held = put_behind w.done (pair_field (pair_at n costs k)) out₀ out out' at w.held w.long put;
@@ -149,7 +149,7 @@ module _ (n : ℕ) (costs : List Plain) (standing out₀ : List ℕ) (start firs
   }
 
   pub writing_no : k < end → says_stands (get_or standing k 0) ≡ false
-      → Writing n costs standing out₀ start first end (k + 1) at out
+      → HasWritten n costs standing out₀ start first end (k + 1) at out
   writing_no h e = record {
     done = w.done;
     held = w.held;
@@ -178,7 +178,7 @@ module _ (n : ℕ) (costs : List Plain) (standing out₀ : List ℕ) (start firs
         → at' ≡ at + length (flat_map pair_field (pairs_listed n costs standing k m))
         → out' ≡ (take at out ++ flat_map pair_field (pairs_listed n costs standing k m))
         ++ drop at' out
-        → Writing n costs standing out₀ start first end (k + m) at' out'
+        → HasWritten n costs standing out₀ start first end (k + m) at' out'
     unfolding these
     writing_more at' out' moved put = record {
       done = w.done ++ these;
@@ -199,7 +199,7 @@ row_inside n left h =
 
 -- nothing is left at the end
 pub writing_end : (n : ℕ) (costs : List Plain) (standing out₀ : List ℕ) (start first end k at : ℕ)
-    (out : List ℕ) → Writing n costs standing out₀ start first end k at out → end ≤ k
+    (out : List ℕ) → HasWritten n costs standing out₀ start first end k at out → end ≤ k
     → start ≤ length out₀ → (m : ℕ) → end ≡ first + m
     → (at ≡ start + length (flat_map pair_field (pairs_listed n costs standing first m)))
     × (out ≡ (take start out₀ ++ flat_map pair_field (pairs_listed n costs standing first m))

@@ -13,7 +13,7 @@ use Rattle.tables.specs.PairTables.{HavePlaces, costs_entered, standing_entered,
 use Rattle.tables.proofs.Cells.{written, opened}
 use Rattle.pairing.specs.Places.{place_of, places_of}
 use Rattle.orderfile.specs.declared.record.StatedPair.{StatedPair}
-use Rattle.orderfile.specs.Format.{Order, SoundPair}
+use Rattle.orderfile.specs.Format.{Order, PairFits}
 use Rattle.orderfile.specs.Loading.{plain, plain_cell, costs_after, standing_after, or_else}
 use Rattle.orderfile.specs.Loading.{cost_stated}
 use Rattle.orderfile.specs.Loading.{Shows}
@@ -55,7 +55,7 @@ or_else_mapped (Some x) b c = refl
 or_else_mapped None b c = refl
 
 pub cells_after : (n : ℕ) (ps : List StatedPair) (costs : List Plain) (standing : List ℕ)
-    → AllByRecursion (SoundPair n) ps → HavePlaces n (length costs) (length standing) → (l r : ℕ)
+    → AllByRecursion (PairFits n) ps → HavePlaces n (length costs) (length standing) → (l r : ℕ)
     → l < n → r < n
     → plain_cell n (costs_after n ps costs) (standing_after n ps standing) l r ≡ or_else
     (option_map plain (cost_stated ps l r)) (plain_cell n costs standing l r)
@@ -80,7 +80,7 @@ or_else_none : (a : Option Plain) → or_else a None ≡ a
 or_else_none (Some x) = refl
 or_else_none None = refl
 
-pub shows_order : (order : Order) → AllByRecursion (SoundPair order.size) order.pairs
+pub shows_order : (order : Order) → AllByRecursion (PairFits order.size) order.pairs
     → Shows order
     (costs_after order.size order.pairs (replicate (places_of order.size) (plain (pos 0))))
     (standing_after order.size order.pairs (replicate (places_of order.size) 0))

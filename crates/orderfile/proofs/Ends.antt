@@ -15,16 +15,16 @@ use Rattle.sheet.specs.Opening.{open_needs, Opened}
 use Rattle.sheet.specs.Size.{Sheet, IsSize, sheet_of, size_of}
 use Rattle.sheet.specs.Refusals.{fault}
 use Rattle.sheet.proofs.Needs.{met_or_not}
-use Rattle.orderfile.specs.Format.{Order, Sound, States}
+use Rattle.orderfile.specs.Format.{Order, FitsSheet, States}
 use Rattle.orderfile.specs.Faults.{FirstFault}
 use Rattle.orderfile.specs.Loading.{plain, plain_kind, costs_after, standing_after, Shows}
-use Rattle.orderfile.specs.Loading.{Checked, Accepted, Loaded}
+use Rattle.orderfile.specs.Loading.{IsChecked, Accepted, Loaded}
 use Rattle.orderfile.proofs.Cells.{shows_order}
 use Rattle.orderfile.proofs.Grids.{same_grid, entered_tables}
 use Rattle.orderfile.proofs.Verdicts.{one_order, one_fault, not_both, verdict_order, verdict_fault}
 
 -- what an answer of `check` tells
-pub checked_err : (file : List ℕ) (f : Fault) → Checked file (Err f) → FirstFault file f
+pub checked_err : (file : List ℕ) (f : Fault) → IsChecked file (Err f) → FirstFault file f
 checked_err file f h =
     ⊎_elim
     (λ o. let e = h.states o.0 o.1 in let z : ◌≡◌ {A = ℕ} 0 1 = cc in absurd (omega arith))
@@ -32,7 +32,7 @@ checked_err file f h =
     subst (λ (x : Fault). FirstFault file x) same g.1)
     h.verdict.some
 
-pub checked_ok : (file : List ℕ) (n : ℕ) → Checked file (Ok n) → (order : Order) × States file order
+pub checked_ok : (file : List ℕ) (n : ℕ) → IsChecked file (Ok n) → (order : Order) × States file order
     × (order.size ≡ n)
 checked_ok file n h =
     ⊎_elim
@@ -83,17 +83,17 @@ module _ (file : List ℕ) (costs : List Plain) (standing : List ℕ) (r : Resul
       let shown : Shows order costs' standing' =
       subst (λ (xs : List Plain). Shows order xs standing') (sym ec)
       (subst (λ (bs : List ℕ). Shows order cs bs) (sym eb)
-      (shows_order order s.sound.pairs_sound)) in
+      (shows_order order s.fits.pairs_fit)) in
       let tables : ArePairTables plain_kind order.size costs' standing' =
       subst (λ (xs : List Plain). ArePairTables plain_kind order.size xs standing') (sym ec)
       (subst (λ (bs : List ℕ). ArePairTables plain_kind order.size cs bs) (sym eb)
-      (entered_tables order s.sound)) in
+      (entered_tables order s.fits)) in
       let here : Accepted order r costs' standing' = record {
         answers = e;
         enters_costs = ec;
         enters_standing = eb;
         shows = shown;
-        grid = same_grid order s.sound.pairs_sound costs' standing' tables.costs_long shown;
+        grid = same_grid order s.fits.pairs_fit costs' standing' tables.costs_long shown;
         pair_tables = tables;
       } in
       record {
@@ -109,7 +109,7 @@ module _ (file : List ℕ) (costs : List Plain) (standing : List ℕ) (r : Resul
       }
 
 -- what opening tells, for the size that the file states
-module _ (order : Order) (n : ℕ) (size : order.size ≡ n) (sound : Sound order) (costs : List Plain)
+module _ (order : Order) (n : ℕ) (size : order.size ≡ n) (sound : FitsSheet order) (costs : List Plain)
     (standing : List ℕ) (costs' : List Plain) (standing' : List ℕ) where
   is_size : IsSize n
   is_size = record { some = omega (arith, sound.some); few = omega (arith, sound.few) }

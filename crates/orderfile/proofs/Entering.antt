@@ -17,10 +17,10 @@ use Rattle.orderfile.specs.declared.record.Record.{Record}
 use Rattle.orderfile.specs.declared.record.Record.TheVariants.{Pair}
 use Rattle.orderfile.specs.declared.record.Stage.{Stage}
 use Rattle.orderfile.specs.declared.record.Stage.TheVariants.{Start, Sized, Ended}
-use Rattle.orderfile.specs.Format.{Order, Sound, SoundPair, pair_field, end_field, file_of}
+use Rattle.orderfile.specs.Format.{Order, FitsSheet, PairFits, pair_field, end_field, file_of}
 use Rattle.orderfile.specs.Format.{pair_in, value_of}
 use Rattle.orderfile.specs.Faults.{field_fault}
-use Rattle.orderfile.specs.Records.{record_next, stage_next, record_length}
+use Rattle.orderfile.specs.Records.{next_record, stage_next, record_length}
 use Rattle.orderfile.specs.Loading.{plain, costs_after, standing_after}
 use Rattle.orderfile.proofs.Fields.{size_sound, pair_sound, pair_stated, end_sound}
 
@@ -44,7 +44,7 @@ all_later P (x ∷ xs) ys h = all_later P xs ys h.1
 
 module _ (order : Order) (costs₀ : List Plain) (standing₀ : List ℕ) where
   -- some pairs of the order were entered, and the others are still to come
-  pub record Split (rest : List ℕ) (costs : List Plain) (standing : List ℕ) : Type 0 where
+  pub record IsSplit (rest : List ℕ) (costs : List Plain) (standing : List ℕ) : Type 0 where
     pub done : List StatedPair
     pub todo : List StatedPair
     pub all : order.pairs ≡ done ++ todo
@@ -53,38 +53,38 @@ module _ (order : Order) (costs₀ : List Plain) (standing₀ : List ℕ) where
     pub standing_are : standing ≡ standing_after order.size done standing₀
 
   -- all of them were
-  pub record Entered (costs : List Plain) (standing : List ℕ) : Type 0 where
+  pub record AreEntered (costs : List Plain) (standing : List ℕ) : Type 0 where
     pub costs_are : costs ≡ costs_after order.size order.pairs costs₀
     pub standing_are : standing ≡ standing_after order.size order.pairs standing₀
 
   -- what is left, and what the tables hold, where a reader of the order's file stands at a stage
-  abbrev pub Ahead : Stage → List ℕ → List Plain → List ℕ → Type 0
-  Ahead Start rest costs standing =
+  abbrev pub IsAhead : Stage → List ℕ → List Plain → List ℕ → Type 0
+  IsAhead Start rest costs standing =
       (rest ≡ file_of order) × (costs ≡ costs₀) × (standing ≡ standing₀)
-  Ahead (Sized n) rest costs standing = (n ≡ order.size) × Split rest costs standing
-  Ahead (Ended n) rest costs standing = (rest ≡ []) × Entered costs standing
+  IsAhead (Sized n) rest costs standing = (n ≡ order.size) × IsSplit rest costs standing
+  IsAhead (Ended n) rest costs standing = (rest ≡ []) × AreEntered costs standing
 
   -- what a step of the reader meets: no fault; and a pair that is entered, or another record, and
   -- then what is ahead again
   pub record Meets (stage : Stage) (rest : List ℕ) (costs : List Plain)
       (standing : List ℕ) : Type 0 where
     pub clear : (at : ℕ) → field_fault stage rest at ≡ None
-    pub sound : (p : StatedPair) → record_next stage rest ≡ Some (Pair p) → SoundPair order.size p
-    pub enters : (p : StatedPair) → record_next stage rest ≡ Some (Pair p)
-        → Ahead (stage_next stage rest) (drop (record_length stage rest) rest)
+    pub fits : (p : StatedPair) → next_record stage rest ≡ Some (Pair p) → PairFits order.size p
+    pub enters : (p : StatedPair) → next_record stage rest ≡ Some (Pair p)
+        → IsAhead (stage_next stage rest) (drop (record_length stage rest) rest)
         (costs_entered order.size p.left p.right (plain p.cost) costs)
         (standing_entered order.size p.left p.right standing)
-    pub passes : (next : Record) → record_next stage rest ≡ Some next
+    pub passes : (next : Record) → next_record stage rest ≡ Some next
         → ((p : StatedPair) → next ≡ Pair p → ⊥)
-        → Ahead (stage_next stage rest) (drop (record_length stage rest) rest) costs standing
+        → IsAhead (stage_next stage rest) (drop (record_length stage rest) rest) costs standing
 
-  module _ (sound : Sound order) (costs : List Plain) (standing : List ℕ) where
+  module _ (sound : FitsSheet order) (costs : List Plain) (standing : List ℕ) where
     -- before the size all pairs are still to come
     meets_size : costs ≡ costs₀ → standing ≡ standing₀ → Meets Start (file_of order) costs standing
     meets_size ec es = record {
       clear = λ at. size_sound order.size (flat_map pair_field order.pairs ++ end_field) at
           sound.some sound.few;
-      sound = λ p e. let z : ◌≡◌ {A = ℕ} 0 1 = cc in absurd (omega arith);
+      fits = λ p e. let z : ◌≡◌ {A = ℕ} 0 1 = cc in absurd (omega arith);
       enters = λ p e. let z : ◌≡◌ {A = ℕ} 0 1 = cc in absurd (omega arith);
       passes = λ next e other. (
         refl,
@@ -102,14 +102,14 @@ module _ (order : Order) (costs₀ : List Plain) (standing₀ : List ℕ) where
     module _ (done : List StatedPair) (costs_are : costs ≡ costs_after order.size done costs₀)
         (standing_are : standing ≡ standing_after order.size done standing₀) where
       meets_pair : (p : StatedPair) (todo : List StatedPair) → order.pairs ≡ done ++ p ∷ todo
-          → SoundPair order.size p
+          → PairFits order.size p
           → Meets (Sized order.size) (pair_field p ++ (flat_map pair_field todo ++ end_field)) costs
           standing
       meets_pair p todo all sound_pair =
           let more : List ℕ = flat_map pair_field todo ++ end_field in
           let stated : pair_in (value_of (pair_field p ++ more)) ≡ p =
           pair_stated p more sound_pair.cost_within in
-          let entered : Ahead (Sized order.size) more
+          let entered : IsAhead (Sized order.size) more
           (costs_entered order.size p.left p.right (plain p.cost) costs)
           (standing_entered order.size p.left p.right standing) = (
             refl,
@@ -127,9 +127,9 @@ module _ (order : Order) (costs₀ : List Plain) (standing₀ : List ℕ) where
           in
           record {
             clear = λ at. pair_sound order.size p more at sound_pair;
-            sound = λ q e. let same : p ≡ q = cc in subst (SoundPair order.size) same sound_pair;
+            fits = λ q e. let same : p ≡ q = cc in subst (PairFits order.size) same sound_pair;
             enters = λ q e. let same : p ≡ q = cc in
-                subst (λ (x : StatedPair). Ahead (Sized order.size) more
+                subst (λ (x : StatedPair). IsAhead (Sized order.size) more
                 (costs_entered order.size x.left x.right (plain x.cost) costs)
                 (standing_entered order.size x.left x.right standing)) same entered;
             passes = λ next e other. absurd (other (pair_in (value_of (pair_field p ++ more))) cc);
@@ -138,7 +138,7 @@ module _ (order : Order) (costs₀ : List Plain) (standing₀ : List ℕ) where
       meets_end : order.pairs ≡ done → Meets (Sized order.size) end_field costs standing
       meets_end all = record {
         clear = λ at. end_sound order.size [] at;
-        sound = λ p e. let z : ◌≡◌ {A = ℕ} 0 1 = cc in absurd (omega arith);
+        fits = λ p e. let z : ◌≡◌ {A = ℕ} 0 1 = cc in absurd (omega arith);
         enters = λ p e. let z : ◌≡◌ {A = ℕ} 0 1 = cc in absurd (omega arith);
         passes = λ next e other. (
           refl,
@@ -157,15 +157,15 @@ module _ (order : Order) (costs₀ : List Plain) (standing₀ : List ℕ) where
           subst (λ (r : List ℕ). Meets (Sized order.size) r costs standing) (sym left)
           (meets_end (all ∙ append-nil done))
       meets_next (p ∷ todo) rest all left =
-          let those : AllByRecursion (SoundPair order.size) (p ∷ todo) =
-          all_later (SoundPair order.size) done (p ∷ todo)
-          (subst (λ (ps : List StatedPair). AllByRecursion (SoundPair order.size) ps) all
-          sound.pairs_sound) in
+          let those : AllByRecursion (PairFits order.size) (p ∷ todo) =
+          all_later (PairFits order.size) done (p ∷ todo)
+          (subst (λ (ps : List StatedPair). AllByRecursion (PairFits order.size) ps) all
+          sound.pairs_fit) in
           subst (λ (r : List ℕ). Meets (Sized order.size) r costs standing)
           (sym (left ∙ append_assoc (pair_field p) (flat_map pair_field todo) end_field))
           (meets_pair p todo all those.0)
 
-    pub meets : (stage : Stage) (rest : List ℕ) → Ahead stage rest costs standing
+    pub meets : (stage : Stage) (rest : List ℕ) → IsAhead stage rest costs standing
         → Meets stage rest costs standing
     meets Start rest h = subst (λ (r : List ℕ). Meets Start r costs standing) (sym h.0)
         (meets_size h.1 h.2)
@@ -176,53 +176,53 @@ module _ (order : Order) (costs₀ : List Plain) (standing₀ : List ℕ) where
     meets (Ended n) rest h = subst (λ (r : List ℕ). Meets (Ended n) r costs standing) (sym h.0)
         (record {
           clear = λ at. refl;
-          sound = λ p e. let z : ◌≡◌ {A = ℕ} 0 1 = cc in absurd (omega arith);
+          fits = λ p e. let z : ◌≡◌ {A = ℕ} 0 1 = cc in absurd (omega arith);
           enters = λ p e. let z : ◌≡◌ {A = ℕ} 0 1 = cc in absurd (omega arith);
           passes = λ next e other. let z : ◌≡◌ {A = ℕ} 0 1 = cc in absurd (omega arith);
         })
 
 -- a call of `next` on a record reader that stands where this is ahead
-module _ (order : Order) (costs₀ : List Plain) (standing₀ : List ℕ) (sound : Sound order)
+module _ (order : Order) (costs₀ : List Plain) (standing₀ : List ℕ) (sound : FitsSheet order)
     (stage : Stage) (rest : List ℕ) (at : ℕ) (stage' : Stage) (rest' : List ℕ)
     (stages : stage' ≡ after (field_fault stage rest at) stage (stage_next stage rest))
     (passes : rest' ≡ after (field_fault stage rest at) rest (drop (record_length stage rest) rest))
     (costs : List Plain) (standing : List ℕ)
-    (ahead : Ahead order costs₀ standing₀ stage rest costs standing) where
+    (ahead : IsAhead order costs₀ standing₀ stage rest costs standing) where
   met : Meets order costs₀ standing₀ stage rest costs standing
   met = meets order costs₀ standing₀ sound costs standing stage rest ahead
 
   moved : (costs' : List Plain) (standing' : List ℕ)
-      → Ahead order costs₀ standing₀ (stage_next stage rest) (drop (record_length stage rest) rest)
+      → IsAhead order costs₀ standing₀ (stage_next stage rest) (drop (record_length stage rest) rest)
       costs' standing'
-      → Ahead order costs₀ standing₀ stage' rest' costs' standing'
+      → IsAhead order costs₀ standing₀ stage' rest' costs' standing'
   moved costs' standing' h =
       let e = met.clear at in
-      subst (λ (r : List ℕ). Ahead order costs₀ standing₀ stage' r costs' standing')
+      subst (λ (r : List ℕ). IsAhead order costs₀ standing₀ stage' r costs' standing')
       (renewed _ _ _ e ∙ sym passes)
-      (subst (λ (s : Stage). Ahead order costs₀ standing₀ s
+      (subst (λ (s : Stage). IsAhead order costs₀ standing₀ s
       (drop (record_length stage rest) rest) costs' standing') (renewed _ _ _ e ∙ sym stages) h)
 
   -- it is not refused
   pub never_refused : (f : Fault) → Err f ≡ answer (field_fault stage rest at)
-      (record_next stage rest) → ⊥
+      (next_record stage rest) → ⊥
   never_refused f e =
       let known = from_err _ _ f e in let clear = met.clear at in
       let z : ◌≡◌ {A = ℕ} 0 1 = cc in omega arith
 
   -- where it hands out a pair, the sheet takes it, and this is ahead once it was entered
   pub handed_next : (p : StatedPair) → Ok (Some (Pair p)) ≡ answer (field_fault stage rest at)
-      (record_next stage rest)
-      → SoundPair order.size p
-      × Ahead order costs₀ standing₀ stage' rest'
+      (next_record stage rest)
+      → PairFits order.size p
+      × IsAhead order costs₀ standing₀ stage' rest'
       (costs_entered order.size p.left p.right (plain p.cost) costs)
       (standing_entered order.size p.left p.right standing)
   handed_next p answers =
       let next = sym (from_ok _ _ _ answers).1 in
-      (met.sound p next, moved _ _ (met.enters p next))
+      (met.fits p next, moved _ _ (met.enters p next))
 
   -- where it hands out another record, this is ahead of the same tables
   pub passed_next : (next : Record) → ((p : StatedPair) → next ≡ Pair p → ⊥)
-      → Ok (Some next) ≡ answer (field_fault stage rest at) (record_next stage rest)
-      → Ahead order costs₀ standing₀ stage' rest' costs standing
+      → Ok (Some next) ≡ answer (field_fault stage rest at) (next_record stage rest)
+      → IsAhead order costs₀ standing₀ stage' rest' costs standing
   passed_next next other answers =
       moved _ _ (met.passes next (sym (from_ok _ _ _ answers).1) other)

@@ -14,15 +14,15 @@ use Rattle.std.proofs.lemmas.Bool.Decides.{nat_tests}
 use Rattle.sheet.proofs.Pairs.{blocks_from}
 use Rattle.orderfile.specs.declared.record.StatedPair.{StatedPair}
 use Rattle.orderfile.specs.declared.record.Stage.TheVariants.{Start, Sized}
-use Rattle.orderfile.specs.Format.{SoundPair, size_field, pair_field, end_field, eight_bytes}
+use Rattle.orderfile.specs.Format.{PairFits, size_field, pair_field, end_field, eight_bytes}
 use Rattle.orderfile.specs.Format.{tag_of, length_of, extent, value_of, overruns, pair_in}
 use Rattle.orderfile.specs.Faults.{field_fault}
 use Rattle.orderfile.specs.Records.{size_in}
 use Rattle.orderfile.proofs.Bytes.{spelled, bytes_spell, spelled_bytes}
 
 -- each number of a list is a byte
-abbrev pub Bytes : List ℕ → Type 0
-Bytes xs = (i : ℕ) → get_or xs i 0 < 256
+abbrev pub AreBytes : List ℕ → Type 0
+AreBytes xs = (i : ℕ) → get_or xs i 0 < 256
 
 -- sound fields have no fault
 
@@ -56,7 +56,7 @@ pair_stated p more small =
     (fits p.cost small) in
     ap (λ z. record { left = p.left; right = p.right; cost = z }) e
 
-pub pair_sound : (n : ℕ) (p : StatedPair) (more : List ℕ) (at : ℕ) → SoundPair n p
+pub pair_sound : (n : ℕ) (p : StatedPair) (more : List ℕ) (at : ℕ) → PairFits n p
     → field_fault (Sized n) (pair_field p ++ more) at ≡ None
 pair_sound n p more at s =
     let e = pair_stated p more s.cost_within in
@@ -119,7 +119,7 @@ module _ (rest : List ℕ) (whole : overruns rest ≡ false) where
       let front : firsts 3 0 rest ≡ end_field = cc (tag, two.0, two.1) in
       peel 3 0 rest header_fits ∙ ap (λ t. t ++ drop 3 rest) front
 
-  pub pair_bytes : Bytes rest → tag_of rest ≡ 2 → length (value_of rest) ≡ 10
+  pub pair_bytes : AreBytes rest → tag_of rest ≡ 2 → length (value_of rest) ≡ 10
       → rest ≡ pair_field (pair_in (value_of rest)) ++ drop 13 rest
   unfolding firsts
   pair_bytes bytes tag long =

@@ -17,25 +17,25 @@ use Rattle.sheet.proofs.Refused.{cleared, required}
 use Rattle.orderfile.specs.declared.record.StatedPair.{StatedPair}
 use Rattle.orderfile.specs.declared.record.Stage.{Stage}
 use Rattle.orderfile.specs.declared.record.Stage.TheVariants.{Start, Sized, Ended}
-use Rattle.orderfile.specs.Format.{Sound, SoundPair, size_field, pair_field, end_field, tag_of}
+use Rattle.orderfile.specs.Format.{FitsSheet, PairFits, size_field, pair_field, end_field, tag_of}
 use Rattle.orderfile.specs.Format.{extent, value_of, overruns, pair_in}
 use Rattle.orderfile.specs.Faults.{size_checks, pair_checks, end_checks, record_fault, field_fault}
-use Rattle.orderfile.specs.Faults.{front, SoundFront}
+use Rattle.orderfile.specs.Faults.{front, FrontFits}
 use Rattle.orderfile.specs.Records.{size_in, record_in, stage_after, stage_next, record_length}
-use Rattle.orderfile.proofs.Fields.{Bytes, value_length, size_bytes, pair_bytes, end_bytes}
+use Rattle.orderfile.proofs.Fields.{AreBytes, value_length, size_bytes, pair_bytes, end_bytes}
 
 differ_false : (a b : ℕ) → differ a b ≡ false → a ≡ b
 differ_false a b e = eqb-true a b (not-false (eqb a b) e)
 
 -- what a size field without a fault tells
-pub record SizeNext (rest : List ℕ) : Type 0 where
+pub record IsSizeField (rest : List ℕ) : Type 0 where
   pub whole : overruns rest ≡ false
   pub tag : tag_of rest ≡ 1
   pub long : length (value_of rest) ≡ 1
   pub some : 1 ≤ size_in (value_of rest)
   pub few : size_in (value_of rest) ≤ 64
 
-pub size_next : (rest : List ℕ) (at : ℕ) → field_fault Start rest at ≡ None → SizeNext rest
+pub size_next : (rest : List ℕ) (at : ℕ) → field_fault Start rest at ≡ None → IsSizeField rest
 size_next rest at e =
     let v = value_of rest in
     let whole = cleared (overruns rest) _ (record_fault Start (tag_of rest) v at) e in
@@ -53,19 +53,19 @@ size_next rest at e =
     }
 
 -- what a pair field or an end field without a fault tells
-pub record PairNext (n : ℕ) (rest : List ℕ) : Type 0 where
+pub record IsPairField (n : ℕ) (rest : List ℕ) : Type 0 where
   pub whole : overruns rest ≡ false
   pub tag : tag_of rest ≡ 2
   pub long : length (value_of rest) ≡ 10
-  pub sound : SoundPair n (pair_in (value_of rest))
+  pub fits : PairFits n (pair_in (value_of rest))
 
-pub record EndNext (rest : List ℕ) : Type 0 where
+pub record IsEndField (rest : List ℕ) : Type 0 where
   pub whole : overruns rest ≡ false
   pub tag : tag_of rest ≡ 3
   pub long : length (value_of rest) ≡ 0
 
 pair_checked : (n : ℕ) (rest : List ℕ) (at : ℕ) → overruns rest ≡ false → tag_of rest ≡ 2
-    → first_of (pair_checks n (value_of rest) at) ≡ None → PairNext n rest
+    → first_of (pair_checks n (value_of rest) at) ≡ None → IsPairField n rest
 pair_checked n rest at whole tag e =
     let v = value_of rest in
     let long = cleared (differ (length v) 10) _ _ e in
@@ -77,7 +77,7 @@ pair_checked n rest at whole tag e =
       whole = whole;
       tag = tag;
       long = differ_false _ _ long.0;
-      sound = record {
+      fits = record {
         left_below = below.0;
         right_below = below.1;
         cost_within = grind (arith, nat_tests, within);
@@ -85,7 +85,7 @@ pair_checked n rest at whole tag e =
     }
 
 pub pair_or_end : (n : ℕ) (rest : List ℕ) (at : ℕ) → field_fault (Sized n) rest at ≡ None
-    → PairNext n rest ⊎ EndNext rest
+    → IsPairField n rest ⊎ IsEndField rest
 pair_or_end n rest at e =
     let v = value_of rest in
     let whole = cleared (overruns rest) (fault Overrun at)
@@ -102,26 +102,26 @@ pair_or_end n rest at e =
     (cases_Bool (eqb (tag_of rest) 2))
 
 -- a front that grew by the next field, or by nothing at the end
-abbrev pub Grown : Stage → List StatedPair → List ℕ → Stage → Type 0
-Grown stage pairs rest stage' = (more : List StatedPair)
+abbrev pub GrowsFront : Stage → List StatedPair → List ℕ → Stage → Type 0
+GrowsFront stage pairs rest stage' = (more : List StatedPair)
     × (front stage pairs ++ rest ≡ front stage' more ++ drop (record_length stage rest) rest)
-    × SoundFront stage' more
+    × FrontFits stage' more
 
-grow_size : (pairs : List StatedPair) (rest : List ℕ) → SizeNext rest → Grown Start pairs rest
+grow_size : (pairs : List StatedPair) (rest : List ℕ) → IsSizeField rest → GrowsFront Start pairs rest
     (stage_next Start rest)
 grow_size pairs rest h =
     let n = size_in (value_of rest) in
     let e : stage_next Start rest ≡ Sized n =
     ap (λ t. stage_after Start (record_in t (value_of rest))) h.tag in
     let four : extent rest ≡ 4 = ap (λ k. 3 + k) (sym (value_length rest h.whole) ∙ h.long) in
-    subst (λ (s : Stage). Grown Start pairs rest s) (sym e) (
+    subst (λ (s : Stage). GrowsFront Start pairs rest s) (sym e) (
       [],
       size_bytes rest h.whole h.tag h.long ∙ ap (λ k. size_field n ++ drop k rest) (sym four),
-      record { some = h.some; few = h.few; pairs_sound = tt },
+      record { some = h.some; few = h.few; pairs_fit = tt },
     )
 
-grow_pair : (n : ℕ) (pairs : List StatedPair) (rest : List ℕ) → Bytes rest
-    → Sound (record { size = n; pairs = pairs }) → PairNext n rest → Grown (Sized n) pairs rest
+grow_pair : (n : ℕ) (pairs : List StatedPair) (rest : List ℕ) → AreBytes rest
+    → FitsSheet (record { size = n; pairs = pairs }) → IsPairField n rest → GrowsFront (Sized n) pairs rest
     (stage_next (Sized n) rest)
 grow_pair n pairs rest bytes s h =
     let p = pair_in (value_of rest) in
@@ -129,7 +129,7 @@ grow_pair n pairs rest bytes s h =
     ap (λ t. stage_after (Sized n) (record_in t (value_of rest))) h.tag in
     let thirteen : extent rest ≡ 13 = ap (λ k. 3 + k) (sym (value_length rest h.whole) ∙ h.long) in
     let before : List ℕ = size_field n ++ flat_map pair_field pairs in
-    subst (λ (t : Stage). Grown (Sized n) pairs rest t) (sym e) (
+    subst (λ (t : Stage). GrowsFront (Sized n) pairs rest t) (sym e) (
       pairs ++ p ∷ [],
       ap (λ t. before ++ t) (pair_bytes rest h.whole bytes h.tag h.long)
           ∙ sym (append_assoc before (pair_field p) (drop 13 rest))
@@ -139,20 +139,20 @@ grow_pair n pairs rest bytes s h =
       record {
         some = s.some;
         few = s.few;
-        pairs_sound =
-            All-push (SoundPair n) pairs p s.pairs_sound h.sound;
+        pairs_fit =
+            All-push (PairFits n) pairs p s.pairs_fit h.fits;
       },
     )
 
 grow_end : (n : ℕ) (pairs : List StatedPair) (rest : List ℕ)
-    → Sound (record { size = n; pairs = pairs }) → EndNext rest → Grown (Sized n) pairs rest
+    → FitsSheet (record { size = n; pairs = pairs }) → IsEndField rest → GrowsFront (Sized n) pairs rest
     (stage_next (Sized n) rest)
 grow_end n pairs rest s h =
     let e : stage_next (Sized n) rest ≡ Ended n =
     ap (λ t. stage_after (Sized n) (record_in t (value_of rest))) h.tag in
     let three : extent rest ≡ 3 = ap (λ k. 3 + k) (sym (value_length rest h.whole) ∙ h.long) in
     let before : List ℕ = size_field n ++ flat_map pair_field pairs in
-    subst (λ (t : Stage). Grown (Sized n) pairs rest t) (sym e) (
+    subst (λ (t : Stage). GrowsFront (Sized n) pairs rest t) (sym e) (
       pairs,
       ap (λ t. before ++ t) (end_bytes rest h.whole h.tag h.long)
           ∙ sym (append_assoc before end_field (drop 3 rest))
@@ -163,8 +163,8 @@ grow_end n pairs rest s h =
       s,
     )
 
-pub grow : (stage : Stage) (pairs : List StatedPair) (rest : List ℕ) (at : ℕ) → Bytes rest
-    → SoundFront stage pairs → field_fault stage rest at ≡ None → Grown stage pairs rest
+pub grow : (stage : Stage) (pairs : List StatedPair) (rest : List ℕ) (at : ℕ) → AreBytes rest
+    → FrontFits stage pairs → field_fault stage rest at ≡ None → GrowsFront stage pairs rest
     (stage_next stage rest)
 grow Start pairs rest at bytes s e = grow_size pairs rest (size_next rest at e)
 grow (Sized n) pairs rest at bytes s e = ⊎_elim (grow_pair n pairs rest bytes s)

@@ -20,7 +20,7 @@ use Rattle.tables.specs.Together.{ArePairTables}
 use Rattle.tables.proofs.Cells.{place_below}
 use Rattle.tables.proofs.Writing.{wrote_in_order, blank_in_order}
 use Rattle.orderfile.specs.declared.record.StatedPair.{StatedPair}
-use Rattle.orderfile.specs.Format.{Order, Sound, SoundPair}
+use Rattle.orderfile.specs.Format.{Order, FitsSheet, PairFits}
 use Rattle.orderfile.specs.Loading.{plain, plain_kind, plain_grid, costs_after, standing_after}
 use Rattle.orderfile.specs.Loading.{or_else, names_blocks, cost_stated, stated_columns, grid_stated}
 use Rattle.orderfile.specs.Loading.{Shows}
@@ -36,7 +36,7 @@ cond_some true x z e = cc
 cond_some false x z e = let z : ◌≡◌ {A = ℕ} 0 1 = cc in absurd (omega arith)
 
 -- they are within the limit
-stated_small : (n : ℕ) (ps : List StatedPair) → AllByRecursion (SoundPair n) ps → (l r : ℕ) (z : ℤ)
+stated_small : (n : ℕ) (ps : List StatedPair) → AllByRecursion (PairFits n) ps → (l r : ℕ) (z : ℤ)
     → cost_stated ps l r ≡ Some z → nat_abs z ≤ 1000000000
 stated_small n [] s l r z e = let z : ◌≡◌ {A = ℕ} 0 1 = cc in absurd (omega arith)
 stated_small n (p ∷ ps) s l r z e =
@@ -60,7 +60,7 @@ cell_cost true x (Some z) e h = (z, refl, cc)
 cell_cost true x None e h = let z : ◌≡◌ {A = ℕ} 0 1 = cc in absurd (omega arith)
 cell_cost false x o e h = let z : ◌≡◌ {A = ℕ} 0 1 = cc in absurd (omega arith)
 
-module _ (order : Order) (sound : AllByRecursion (SoundPair order.size) order.pairs)
+module _ (order : Order) (sound : AllByRecursion (PairFits order.size) order.pairs)
     (costs : List Plain) (standing : List ℕ) (long : length costs ≡ places_of order.size)
     (shows : Shows order costs standing) where
   byte_says : ℕ → ℕ → Bool
@@ -101,7 +101,7 @@ means_small z small =
     (subst (λ x. nat_abs x ≤ 1000000000) (sym (rail_of_same z (omega arith))) small, tt)
 
 after_in_order : (n : ℕ) (ps : List StatedPair) (costs : List Plain) (standing : List ℕ)
-    → AllByRecursion (SoundPair n) ps → length costs ≡ places_of n → length standing ≡ places_of n
+    → AllByRecursion (PairFits n) ps → length costs ≡ places_of n → length standing ≡ places_of n
     → IsInOrder plain_kind (places_of n) costs standing
     → (length (costs_after n ps costs) ≡ places_of n)
     × (length (standing_after n ps standing) ≡ places_of n)
@@ -115,13 +115,13 @@ after_in_order n (p ∷ ps) costs standing s ec eb o =
     (wrote_in_order plain_kind (places_of n) costs standing ec eb at 1 (plain p.cost) refl
     (λ _. means_small p.cost s.0.cost_within) o)
 
-pub entered_tables : (order : Order) → Sound order → ArePairTables plain_kind order.size
+pub entered_tables : (order : Order) → FitsSheet order → ArePairTables plain_kind order.size
     (costs_after order.size order.pairs (replicate (places_of order.size) (plain (pos 0))))
     (standing_after order.size order.pairs (replicate (places_of order.size) 0))
 entered_tables order s =
     let places = places_of order.size in
     let after = after_in_order order.size order.pairs (replicate places (plain (pos 0)))
-    (replicate places 0) s.pairs_sound (length-replicate places (plain (pos 0)))
+    (replicate places 0) s.pairs_fit (length-replicate places (plain (pos 0)))
     (length-replicate places 0) (blank_in_order plain_kind places
     (replicate places (plain (pos 0)))) in
     record { few = s.few; costs_long = after.0; standing_long = after.1; in_order = after.2 }

@@ -19,7 +19,7 @@ use Rattle.pairing.specs.Places.{place_of, places_of}
 use Rattle.tables.proofs.Orders.{in_order-at, in_order_cost, standing_more, standing_all}
 use Rattle.orderfile.specs.declared.record.StatedPair.{StatedPair}
 use Rattle.orderfile.specs.Loading.{plain, names_blocks}
-use Rattle.orderfile.specs.Saving.{plain_in_order, times, Standing, Names, pair_at, pairs_listed}
+use Rattle.orderfile.specs.Saving.{plain_in_order, times, StandsAtCost, AreStandingPairs, pair_at, pairs_listed}
 use Rattle.tables.proofs.Cells.{place_left, place_right}
 
 -- a place is that of its own pair
@@ -164,7 +164,7 @@ module _ (n : ℕ) (some : 1 ≤ n) (costs : List Plain) (standing : List ℕ)
     (ec : length costs ≡ places_of n)
     (eb : length standing ≡ places_of n) (good : plain_in_order costs standing ≡ true) where
   standing_at : (k : ℕ) → k < places_of n → says_stands (get_or standing k 0) ≡ true
-      → Standing n costs standing (pair_at n costs k)
+      → StandsAtCost n costs standing (pair_at n costs k)
   standing_at k h stands =
       let placed = place_is n k in
       let fine = in_order-at (λ p. rail_of p.0 ∷ []) costs standing (plain (pos 0)) k (omega arith)
@@ -173,7 +173,7 @@ module _ (n : ℕ) (some : 1 ≤ n) (costs : List Plain) (standing : List ℕ)
       true = in_order_cost (get_or standing k 0) (rail_of (get_or costs k (plain (pos 0))).0 ∷ [])
       fine stands in
       record {
-        sound = record {
+        fits = record {
           left_below = div_below k n n (omega arith) h;
           right_below =
               mod_below k n (omega arith);
@@ -186,19 +186,19 @@ module _ (n : ℕ) (some : 1 ≤ n) (costs : List Plain) (standing : List ℕ)
             None) placed ∙ cond-true _ _ _ stands;
       }
 
-  only_standing : (k m : ℕ) → k + m ≤ places_of n → AllByRecursion (Standing n costs standing)
+  only_standing : (k m : ℕ) → k + m ≤ places_of n → AllByRecursion (StandsAtCost n costs standing)
       (pairs_listed n costs standing k m)
   only_standing k zero h = tt
   only_standing k (suc m) h =
       ⊎_elim
-      (λ yes'. subst (λ (ps : List StatedPair). AllByRecursion (Standing n costs standing) ps)
+      (λ yes'. subst (λ (ps : List StatedPair). AllByRecursion (StandsAtCost n costs standing) ps)
       (sym (pairs_listed_yes n some costs standing k m yes'))
       (standing_at k (omega arith) yes', only_standing (k + 1) m (omega arith)))
-      (λ no'. subst (λ (ps : List StatedPair). AllByRecursion (Standing n costs standing) ps)
+      (λ no'. subst (λ (ps : List StatedPair). AllByRecursion (StandsAtCost n costs standing) ps)
       (sym (pairs_listed_no n some costs standing k m no')) (only_standing (k + 1) m (omega arith)))
       (cases_Bool (says_stands (get_or standing k 0)))
 
-  pub names_all : Names n costs standing (pairs_listed n costs standing 0 (places_of n))
+  pub names_all : AreStandingPairs n costs standing (pairs_listed n costs standing 0 (places_of n))
   names_all = record {
     once = λ l r hl hr. named_once n some costs standing l r hr 0 (places_of n) (omega arith)
         (omega (arith, mul-add-lt l n r n hl hr));

@@ -17,22 +17,22 @@ use Rattle.orderfile.specs.declared.record.Record.TheVariants.{Size, Pair, End}
 use Rattle.orderfile.specs.declared.record.Stage.{Stage}
 use Rattle.orderfile.specs.declared.record.Stage.TheVariants.{Start, Sized, Ended}
 use Rattle.orderfile.specs.Format.{Order, States, tag_of, value_of}
-use Rattle.orderfile.specs.Faults.{field_fault, front, SoundFront, FirstFault}
-use Rattle.orderfile.specs.Records.{record_in, record_next, stage_after, stage_next, record_length}
-use Rattle.orderfile.proofs.Fields.{Bytes, extent-fits}
+use Rattle.orderfile.specs.Faults.{field_fault, front, FrontFits, FirstFault}
+use Rattle.orderfile.specs.Records.{record_in, next_record, stage_after, stage_next, record_length}
+use Rattle.orderfile.proofs.Fields.{AreBytes, extent-fits}
 use Rattle.orderfile.proofs.Fronts.{grow, size_next, pair_or_end}
 
-pub record Reading (file : List ℕ) (stage : Stage) (rest : List ℕ) (at : ℕ) : Type 0 where
+pub record IsReadTo (file : List ℕ) (stage : Stage) (rest : List ℕ) (at : ℕ) : Type 0 where
   pub pairs : List StatedPair
   pub splits : file ≡ front stage pairs ++ rest
-  pub sound : SoundFront stage pairs
+  pub fits : FrontFits stage pairs
   pub placed : at ≡ length (front stage pairs)
 
 -- the size that is known at a stage
-abbrev pub Known : Stage → ℕ → Type 0
-Known Start size = size ≡ 0
-Known (Sized n) size = size ≡ n
-Known (Ended n) size = size ≡ n
+abbrev pub IsKnownSize : Stage → ℕ → Type 0
+IsKnownSize Start size = size ≡ 0
+IsKnownSize (Sized n) size = size ≡ n
+IsKnownSize (Ended n) size = size ≡ n
 
 -- a record that has no fault lies within what is left
 pub passed-fits : (stage : Stage) (rest : List ℕ) (at : ℕ) → field_fault stage rest at ≡ None
@@ -42,21 +42,21 @@ passed-fits (Sized n) rest at e = ⊎_elim (λ h. extent-fits rest h.whole)
     (λ h. extent-fits rest h.whole) (pair_or_end n rest at e)
 passed-fits (Ended n) rest at e = omega arith
 
-bytes_left : (file front' rest : List ℕ) → file ≡ front' ++ rest → Bytes file → Bytes rest
+bytes_left : (file front' rest : List ℕ) → file ≡ front' ++ rest → AreBytes file → AreBytes rest
 bytes_left file front' rest e bytes i =
     let same : get_or file (length front' + i) 0 ≡ get_or rest i 0 =
     ap (λ t. get_or t (length front' + i) 0) e ∙ get_or-append-add front' rest i 0 in
     omega (arith, same, bytes (length front' + i))
 
 module _ (file : List ℕ) (stage : Stage) (rest : List ℕ) (at : ℕ)
-    (reading : Reading file stage rest at) where
-  pub reading_more : Bytes file → field_fault stage rest at ≡ None
-      → Reading file (stage_next stage rest) (drop (record_length stage rest) rest)
+    (reading : IsReadTo file stage rest at) where
+  pub reading_more : AreBytes file → field_fault stage rest at ≡ None
+      → IsReadTo file (stage_next stage rest) (drop (record_length stage rest) rest)
       (at + record_length stage rest)
   reading_more bytes e =
       let grown =
       grow stage reading.pairs rest
-      at (bytes_left file (front stage reading.pairs) rest reading.splits bytes) reading.sound e
+      at (bytes_left file (front stage reading.pairs) rest reading.splits bytes) reading.fits e
       in
       let whole : length (front stage reading.pairs) + length rest ≡ length
       (front (stage_next stage rest) grown.0) + length (drop (record_length stage rest) rest) =
@@ -66,7 +66,7 @@ module _ (file : List ℕ) (stage : Stage) (rest : List ℕ) (at : ℕ)
       record {
         pairs = grown.0;
         splits = reading.splits ∙ grown.1;
-        sound = grown.2;
+        fits = grown.2;
         placed =
             omega (
               arith,
@@ -83,14 +83,14 @@ module _ (file : List ℕ) (stage : Stage) (rest : List ℕ) (at : ℕ)
     pairs = reading.pairs;
     rest = rest;
     splits = reading.splits;
-    sound = reading.sound;
+    fits = reading.fits;
     faulty = ap (field_fault stage rest) (sym reading.placed) ∙ e;
   }
 
 -- where no record is left, the whole file was read
 pub reading_done : (file : List ℕ) (stage : Stage) (rest : List ℕ) (at size : ℕ)
-    → Reading file stage rest at → Known stage size → field_fault stage rest at ≡ None
-    → record_next stage rest ≡ None
+    → IsReadTo file stage rest at → IsKnownSize stage size → field_fault stage rest at ≡ None
+    → next_record stage rest ≡ None
     → (order : Order) × States file order × (size ≡ order.size)
 reading_done file Start rest at size h known e none = let z : ◌≡◌ {A = ℕ} 0 1 = cc in
     absurd (omega arith)
@@ -102,13 +102,13 @@ reading_done file (Ended n) rest at size h known e none =
       record { size = n; pairs = h.pairs },
       record {
         is_file = h.splits ∙ ap (λ t. front (Ended n) h.pairs ++ t) empty ∙ append-nil _;
-        sound = h.sound;
+        fits = h.fits;
       },
       known,
     )
 
 -- the stage behind a record
-pub stage_is : (stage : Stage) (rest : List ℕ) (next : Record) → record_next stage rest ≡ Some next
+pub stage_is : (stage : Stage) (rest : List ℕ) (next : Record) → next_record stage rest ≡ Some next
     → stage_next stage rest ≡ stage_after stage next
 stage_is Start rest next e = let same : record_in (tag_of rest) (value_of rest) ≡ next = cc in
     ap (stage_after Start) same
@@ -117,7 +117,7 @@ stage_is (Sized n) rest next e = let same : record_in (tag_of rest) (value_of re
 stage_is (Ended n) rest next e = let z : ◌≡◌ {A = ℕ} 0 1 = cc in absurd (omega arith)
 
 pub known_still : (stage : Stage) (next : Record) (size : ℕ) → ((n : ℕ) → next ≡ Size n → ⊥)
-    → Known stage size → Known (stage_after stage next) size
+    → IsKnownSize stage size → IsKnownSize (stage_after stage next) size
 known_still stage (Size n) size other known = absurd (other n refl)
 known_still stage (Pair p) size other known = known
 known_still Start End size other known = known
@@ -125,7 +125,7 @@ known_still (Sized n) End size other known = known
 known_still (Ended n) End size other known = known
 
 -- a record takes up some bytes
-record_long : (stage : Stage) (rest : List ℕ) (next : Record) → record_next stage rest ≡ Some next
+record_long : (stage : Stage) (rest : List ℕ) (next : Record) → next_record stage rest ≡ Some next
     → 3 ≤ record_length stage rest
 record_long Start rest next e = omega arith
 record_long (Sized n) rest next e = omega arith
@@ -136,33 +136,33 @@ module _ (stage : Stage) (rest : List ℕ) (at : ℕ) (stage' : Stage) (rest' : 
     (stages : stage' ≡ after (field_fault stage rest at) stage (stage_next stage rest))
     (passes : rest' ≡ after (field_fault stage rest at) rest (drop (record_length stage rest) rest))
     (moves : at' ≡ after (field_fault stage rest at) at (at + record_length stage rest)) where
-  pub next_reads : (file : List ℕ) (o : Option Record) → Reading file stage rest at → Bytes file
-      → Ok o ≡ answer (field_fault stage rest at) (record_next stage rest)
-      → Reading file stage' rest' at'
+  pub next_reads : (file : List ℕ) (o : Option Record) → IsReadTo file stage rest at → AreBytes file
+      → Ok o ≡ answer (field_fault stage rest at) (next_record stage rest)
+      → IsReadTo file stage' rest' at'
   next_reads file o reading bytes answers =
-      let e = (from_ok (field_fault stage rest at) (record_next stage rest) o answers).0 in
-      let a : Reading file (stage_next stage rest) (drop (record_length stage rest) rest)
+      let e = (from_ok (field_fault stage rest at) (next_record stage rest) o answers).0 in
+      let a : IsReadTo file (stage_next stage rest) (drop (record_length stage rest) rest)
       (at + record_length stage rest) = reading_more file stage rest at reading bytes e in
-      let b : Reading file stage' (drop (record_length stage rest) rest)
+      let b : IsReadTo file stage' (drop (record_length stage rest) rest)
       (at + record_length stage rest) =
-      subst (λ (s : Stage). Reading file s (drop (record_length stage rest) rest)
+      subst (λ (s : Stage). IsReadTo file s (drop (record_length stage rest) rest)
       (at + record_length stage rest)) (renewed _ _ _ e ∙ sym stages) a in
-      let d : Reading file stage' rest' (at + record_length stage rest) =
-      subst (λ (r : List ℕ). Reading file stage' r (at + record_length stage rest))
+      let d : IsReadTo file stage' rest' (at + record_length stage rest) =
+      subst (λ (r : List ℕ). IsReadTo file stage' r (at + record_length stage rest))
       (renewed _ _ _ e ∙ sym passes) b in
-      subst (λ (k : ℕ). Reading file stage' rest' k) (renewed _ _ _ e ∙ sym moves) d
+      subst (λ (k : ℕ). IsReadTo file stage' rest' k) (renewed _ _ _ e ∙ sym moves) d
 
   pub next_stage : (next : Record) → Ok (Some next) ≡ answer (field_fault stage rest at)
-      (record_next stage rest) → stage' ≡ stage_after stage next
+      (next_record stage rest) → stage' ≡ stage_after stage next
   next_stage next answers =
-      let found = from_ok (field_fault stage rest at) (record_next stage rest) (Some next) answers
+      let found = from_ok (field_fault stage rest at) (next_record stage rest) (Some next) answers
       in
       stages ∙ sym (renewed _ _ _ found.0) ∙ stage_is stage rest next (sym found.1)
 
   pub next_shorter : (next : Record) → Ok (Some next) ≡ answer (field_fault stage rest at)
-      (record_next stage rest) → length rest' < length rest
+      (next_record stage rest) → length rest' < length rest
   next_shorter next answers =
-      let found = from_ok (field_fault stage rest at) (record_next stage rest) (Some next) answers
+      let found = from_ok (field_fault stage rest at) (next_record stage rest) (Some next) answers
       in
       let left : length rest' ≡ length rest - record_length stage rest =
       ap length (passes ∙ sym (renewed _ _ _ found.0))

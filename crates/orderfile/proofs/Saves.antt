@@ -23,7 +23,7 @@ use Rattle.sheet.specs.declared.fault.Fault.{Fault}
 use Rattle.sheet.specs.Refusals.{fault}
 use Rattle.sheet.proofs.Refused.{refused, accepted, cleared}
 use Rattle.orderfile.specs.declared.record.StatedPair.{StatedPair}
-use Rattle.orderfile.specs.Format.{Order, SoundPair, States, pair_field, end_field, size_field}
+use Rattle.orderfile.specs.Format.{Order, PairFits, States, pair_field, end_field, size_field}
 use Rattle.orderfile.specs.Format.{file_of}
 use Rattle.orderfile.specs.Loading.{plain, plain_cell, plain_grid, or_else, cost_stated}
 use Rattle.orderfile.specs.Loading.{grid_stated}
@@ -31,12 +31,12 @@ use Rattle.orderfile.proofs.Buffer.{put_behind}
 use Rattle.orderfile.proofs.Grids.{same_grid}
 use Rattle.orderfile.proofs.Listed.{pairs_listed_count, times-cons}
 use Rattle.orderfile.specs.Saving.{saved_length, plain_in_order, save_refusal, pairs_listed, times}
-use Rattle.orderfile.specs.Saving.{Standing, Names, Written, Reloads, Saved}
+use Rattle.orderfile.specs.Saving.{StandsAtCost, AreStandingPairs, HoldsFile, Reloads, Saved}
 
 -- what pairs that stand state of l and r: nothing where they name it never, else what the cell
 -- holds
 stated_is : (n : ℕ) (costs : List Plain) (standing : List ℕ) (l r : ℕ) (ps : List StatedPair)
-    → AllByRecursion (Standing n costs standing) ps
+    → AllByRecursion (StandsAtCost n costs standing) ps
     → ((cost_stated ps l r ≡ None) × (times l r ps ≡ 0))
     ⊎ ((z : ℤ) × (cost_stated ps l r ≡ Some z)
     × (plain_cell n costs standing l r ≡ Some (plain z)))
@@ -64,7 +64,7 @@ stated_is n costs standing l r (p ∷ ps) s =
     (stated_is n costs standing l r ps s.1)
 
 pub names_stated : (n : ℕ) (costs : List Plain) (standing : List ℕ) (pairs : List StatedPair)
-    → Names n costs standing pairs → (l r : ℕ) → l < n → r < n
+    → AreStandingPairs n costs standing pairs → (l r : ℕ) → l < n → r < n
     → option_map plain (cost_stated pairs l r) ≡ plain_cell n costs standing l r
 names_stated n costs standing pairs names l r hl hr =
     ⊎_elim
@@ -137,18 +137,18 @@ same_as_third n costs costs' standing standing' order a b = record {
 }
 
 module _ (n : ℕ) (some : 1 ≤ n) (few : n ≤ 64) (costs : List Plain) (standing out : List ℕ) where
-  reloads : (out' : List ℕ) → length costs ≡ places_of n → Written n costs standing out out'
+  reloads : (out' : List ℕ) → length costs ≡ places_of n → HoldsFile n costs standing out out'
       → Reloads n costs standing (take (saved_length standing) out')
   reloads out' long w costs₀ standing₀ r costs' standing' fit h =
       let order : Order = record { size = n; pairs = w.pairs } in
       let states : States (take (saved_length standing) out') order = record {
         is_file = ap (take (saved_length standing)) w.file ∙ take_at (file_of order)
             (drop (saved_length standing) out) (saved_length standing) w.long;
-        sound = record {
+        fits = record {
           some = some;
           few = few;
-          pairs_sound =
-              All-weaker (Standing n costs standing) (SoundPair n) (λ p s. s.sound) w.pairs
+          pairs_fit =
+              All-weaker (StandsAtCost n costs standing) (PairFits n) (λ p s. s.fits) w.pairs
               w.names.only;
         };
       } in
@@ -157,12 +157,12 @@ module _ (n : ℕ) (some : 1 ≤ n) (few : n ≤ 64) (costs : List Plain) (stand
         accepts.answers,
         λ l m hl hm. accepts.shows l m hl hm ∙ named l m hl hm,
         same_as_third n costs costs' standing standing' order
-            (same_grid order states.sound.pairs_sound costs standing long
+            (same_grid order states.fits.pairs_fit costs standing long
             (λ l m hl hm. sym (named l m hl hm))) accepts.grid,
       )
 
   pub saved : (r : Result ℕ Fault) (out' : List ℕ) → save_refusal n costs standing
-      (length out) ≡ None → r ≡ Ok (saved_length standing) → Written n costs standing out out'
+      (length out) ≡ None → r ≡ Ok (saved_length standing) → HoldsFile n costs standing out out'
       → Saved n costs standing out r out'
   saved r out' e er w = record {
     answers = er ∙ accepted _ _ e;

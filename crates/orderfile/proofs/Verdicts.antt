@@ -10,28 +10,28 @@ use Rattle.sheet.specs.declared.fault.Fault.{Fault}
 use Rattle.orderfile.specs.declared.record.StatedPair.{StatedPair}
 use Rattle.orderfile.specs.declared.record.Stage.{Stage}
 use Rattle.orderfile.specs.declared.record.Stage.TheVariants.{Start, Sized, Ended}
-use Rattle.orderfile.specs.Format.{Order, SoundPair, States, size_field, pair_field, end_field}
+use Rattle.orderfile.specs.Format.{Order, PairFits, States, size_field, pair_field, end_field}
 use Rattle.orderfile.specs.Format.{value_of, pair_in}
-use Rattle.orderfile.specs.Faults.{field_fault, front, SoundFront, FirstFault}
-use Rattle.orderfile.specs.Loading.{HasOneVerdict, Checked}
+use Rattle.orderfile.specs.Faults.{field_fault, front, FrontFits, FirstFault}
+use Rattle.orderfile.specs.Loading.{HasOneVerdict, IsChecked}
 use Rattle.orderfile.proofs.Fields.{size_sound, pair_sound, pair_stated, end_sound}
 
 -- the bytes do not begin with a sound pair
-NotPair : ℕ → List ℕ → Type 0
-NotPair n rest = (p : StatedPair) (more : List ℕ) → SoundPair n p → rest ≡ pair_field p ++ more → ⊥
+BeginsNoPair : ℕ → List ℕ → Type 0
+BeginsNoPair n rest = (p : StatedPair) (more : List ℕ) → PairFits n p → rest ≡ pair_field p ++ more → ⊥
 
 -- no sound field comes next
-Stuck : Stage → List ℕ → Type 0
-Stuck Start rest = (n : ℕ) (more : List ℕ) → 1 ≤ n → n ≤ 64 → rest ≡ size_field n ++ more → ⊥
-Stuck (Sized n) rest = NotPair n rest × ((more : List ℕ) → rest ≡ end_field ++ more → ⊥)
-Stuck (Ended n) rest = Unit {0}
+CannotGoOn : Stage → List ℕ → Type 0
+CannotGoOn Start rest = (n : ℕ) (more : List ℕ) → 1 ≤ n → n ≤ 64 → rest ≡ size_field n ++ more → ⊥
+CannotGoOn (Sized n) rest = BeginsNoPair n rest × ((more : List ℕ) → rest ≡ end_field ++ more → ⊥)
+CannotGoOn (Ended n) rest = Unit {0}
 
 never : (f : Fault) → Some f ≡ None → ⊥
 never f e = let z : ◌≡◌ {A = ℕ} 0 1 = cc in omega arith
 
 stuck_at : (stage : Stage) (rest : List ℕ) (at : ℕ) (f : Fault) → field_fault stage rest at ≡ Some f
-    → Stuck stage rest
-unfolding Stuck NotPair
+    → CannotGoOn stage rest
+unfolding CannotGoOn BeginsNoPair
 stuck_at Start rest at f h = λ n more some few e. never f
     (sym h ∙ ap (λ t. field_fault Start t at) e ∙ size_sound n more at some few)
 stuck_at (Sized n) rest at f h = (
@@ -40,15 +40,15 @@ stuck_at (Sized n) rest at f h = (
 )
 stuck_at (Ended n) rest at f h = tt
 
-end_not_pair : (n : ℕ) (rest : List ℕ) → NotPair n (end_field ++ rest)
-unfolding NotPair
+end_not_pair : (n : ℕ) (rest : List ℕ) → BeginsNoPair n (end_field ++ rest)
+unfolding BeginsNoPair
 end_not_pair n rest p more s e = let tags : ◌≡◌ {A = ℕ} 3 2 = ap (λ t. get_or t 0 0) e in
     omega arith
 
-same_pairs : (n : ℕ) (ps qs : List StatedPair) (r s : List ℕ) → AllByRecursion (SoundPair n) ps
-    → AllByRecursion (SoundPair n) qs → NotPair n r → NotPair n s
+same_pairs : (n : ℕ) (ps qs : List StatedPair) (r s : List ℕ) → AllByRecursion (PairFits n) ps
+    → AllByRecursion (PairFits n) qs → BeginsNoPair n r → BeginsNoPair n s
     → flat_map pair_field ps ++ r ≡ flat_map pair_field qs ++ s → (ps ≡ qs) × (r ≡ s)
-unfolding NotPair
+unfolding BeginsNoPair
 same_pairs n [] [] r s hp hq stop-r stop-s e = (refl, e)
 same_pairs n [] (q ∷ qs) r s hp hq stop-r stop-s e =
     absurd (stop-r q (flat_map pair_field qs ++ s) hq.0 e)
@@ -62,17 +62,17 @@ same_pairs n (p ∷ ps) (q ∷ qs) r s hp hq stop-r stop-s e =
     let tail : ps ≡ qs = others.0 in
     (cc, others.1)
 
-abbrev Same : Stage → List StatedPair → List ℕ → Stage → List StatedPair → List ℕ → Type 0
-Same a ps r b qs s = (a ≡ b) × (ps ≡ qs) × (r ≡ s)
+abbrev AreSameReadings : Stage → List StatedPair → List ℕ → Stage → List StatedPair → List ℕ → Type 0
+AreSameReadings a ps r b qs s = (a ≡ b) × (ps ≡ qs) × (r ≡ s)
 
 size_first : (n m : ℕ) (r s : List ℕ) → size_field n ++ r ≡ size_field m ++ s → (n ≡ m) × (r ≡ s)
 size_first n m r s e = (ap (λ t. get_or t 3 0) e, ap (drop 4) e)
 
 -- two readings that cannot go on are the same
-one_reading : (a b : Stage) (ps qs : List StatedPair) (r s : List ℕ) → SoundFront a ps
-    → SoundFront b qs → Stuck a r → Stuck b s → front a ps ++ r ≡ front b qs ++ s
-    → Same a ps r b qs s
-unfolding Stuck
+one_reading : (a b : Stage) (ps qs : List StatedPair) (r s : List ℕ) → FrontFits a ps
+    → FrontFits b qs → CannotGoOn a r → CannotGoOn b s → front a ps ++ r ≡ front b qs ++ s
+    → AreSameReadings a ps r b qs s
+unfolding CannotGoOn
 one_reading Start Start ps qs r s hp hq stop-r stop-s e = (refl, hp ∙ sym hq, e)
 one_reading Start (Sized m) ps qs r s hp hq stop-r stop-s e =
     absurd (stop-r m (flat_map pair_field qs ++ s) hq.some hq.few e)
@@ -84,30 +84,30 @@ one_reading (Ended n) Start ps qs r s hp hq stop-r stop-s e =
     absurd (stop-s n ((flat_map pair_field ps ++ end_field) ++ r) hp.some hp.few (sym e))
 one_reading (Sized n) (Sized m) ps qs r s hp hq stop-r stop-s e =
     let size = size_first n m _ _ e in
-    let stop : NotPair n s = subst (λ (k : ℕ). NotPair k s) (sym size.0) stop-s.0 in
-    let sound : AllByRecursion (SoundPair n) qs = subst (λ (k : ℕ). AllByRecursion (SoundPair k) qs)
-    (sym size.0) hq.pairs_sound in
-    let same = same_pairs n ps qs r s hp.pairs_sound sound stop-r.0 stop size.1 in
+    let stop : BeginsNoPair n s = subst (λ (k : ℕ). BeginsNoPair k s) (sym size.0) stop-s.0 in
+    let sound : AllByRecursion (PairFits n) qs = subst (λ (k : ℕ). AllByRecursion (PairFits k) qs)
+    (sym size.0) hq.pairs_fit in
+    let same = same_pairs n ps qs r s hp.pairs_fit sound stop-r.0 stop size.1 in
     (ap Sized size.0, same.0, same.1)
 one_reading (Sized n) (Ended m) ps qs r s hp hq stop-r stop-s e =
     let size = size_first n m _ _ e in
-    let sound : AllByRecursion (SoundPair n) qs = subst (λ (k : ℕ). AllByRecursion (SoundPair k) qs)
-    (sym size.0) hq.pairs_sound in
-    let same = same_pairs n ps qs r (end_field ++ s) hp.pairs_sound sound stop-r.0
+    let sound : AllByRecursion (PairFits n) qs = subst (λ (k : ℕ). AllByRecursion (PairFits k) qs)
+    (sym size.0) hq.pairs_fit in
+    let same = same_pairs n ps qs r (end_field ++ s) hp.pairs_fit sound stop-r.0
     (end_not_pair n s) (size.1 ∙ append_assoc (flat_map pair_field qs) end_field s) in
     absurd (stop-r.1 s same.1)
 one_reading (Ended n) (Sized m) ps qs r s hp hq stop-r stop-s e =
     let size = size_first n m _ _ e in
-    let sound : AllByRecursion (SoundPair m) ps = subst (λ (k : ℕ). AllByRecursion (SoundPair k) ps)
-    size.0 hp.pairs_sound in
-    let same = same_pairs m ps qs (end_field ++ r) s sound hq.pairs_sound (end_not_pair m r)
+    let sound : AllByRecursion (PairFits m) ps = subst (λ (k : ℕ). AllByRecursion (PairFits k) ps)
+    size.0 hp.pairs_fit in
+    let same = same_pairs m ps qs (end_field ++ r) s sound hq.pairs_fit (end_not_pair m r)
     stop-s.0 (sym (append_assoc (flat_map pair_field ps) end_field r) ∙ size.1) in
     absurd (stop-s.1 r (sym same.1))
 one_reading (Ended n) (Ended m) ps qs r s hp hq stop-r stop-s e =
     let size = size_first n m _ _ e in
-    let sound : AllByRecursion (SoundPair n) qs = subst (λ (k : ℕ). AllByRecursion (SoundPair k) qs)
-    (sym size.0) hq.pairs_sound in
-    let same = same_pairs n ps qs (end_field ++ r) (end_field ++ s) hp.pairs_sound sound
+    let sound : AllByRecursion (PairFits n) qs = subst (λ (k : ℕ). AllByRecursion (PairFits k) qs)
+    (sym size.0) hq.pairs_fit in
+    let same = same_pairs n ps qs (end_field ++ r) (end_field ++ s) hp.pairs_fit sound
     (end_not_pair n r) (end_not_pair n s)
     (sym (append_assoc (flat_map pair_field ps) end_field r) ∙ size.1
     ∙ append_assoc (flat_map pair_field qs) end_field s) in
@@ -118,9 +118,9 @@ module _ (file : List ℕ) where
   whole order s = s.is_file ∙ sym (append-nil _)
 
   pub one_order : (o p : Order) → States file o → States file p → o ≡ p
-  unfolding Stuck
+  unfolding CannotGoOn
   one_order o p s t =
-      let same = one_reading (Ended o.size) (Ended p.size) o.pairs p.pairs [] [] s.sound t.sound tt
+      let same = one_reading (Ended o.size) (Ended p.size) o.pairs p.pairs [] [] s.fits t.fits tt
       tt (sym (whole o s) ∙ whole p t) in
       let size : o.size ≡ p.size = let e = same.0 in cc in
       ap (λ n. record { size = n; pairs = o.pairs }) size
@@ -128,7 +128,7 @@ module _ (file : List ℕ) where
 
   pub one_fault : (f g : Fault) → FirstFault file f → FirstFault file g → f ≡ g
   one_fault f g s t =
-      let same = one_reading s.stage t.stage s.pairs t.pairs s.rest t.rest s.sound t.sound
+      let same = one_reading s.stage t.stage s.pairs t.pairs s.rest t.rest s.fits t.fits
       (stuck_at _ _ _ f s.faulty) (stuck_at _ _ _ g t.faulty) (sym s.splits ∙ t.splits) in
       let e : Some f ≡ Some g =
       sym s.faulty ∙ ap (λ a. field_fault a s.rest (length (front a s.pairs))) same.0
@@ -137,9 +137,9 @@ module _ (file : List ℕ) where
       cc
 
   pub not_both : (o : Order) (f : Fault) → States file o → FirstFault file f → ⊥
-  unfolding Stuck
+  unfolding CannotGoOn
   not_both o f s t =
-      let same = one_reading (Ended o.size) t.stage o.pairs t.pairs [] t.rest s.sound t.sound tt
+      let same = one_reading (Ended o.size) t.stage o.pairs t.pairs [] t.rest s.fits t.fits tt
       (stuck_at _ _ _ f t.faulty) (sym (whole o s) ∙ t.splits) in
       never f (sym t.faulty ∙ ap (λ a. field_fault a t.rest (length (front t.stage t.pairs)))
       (sym same.0) ∙ ap (λ r. field_fault (Ended o.size) r (length (front t.stage t.pairs)))
@@ -162,7 +162,7 @@ module _ (file : List ℕ) where
   }
 
   pub checked_states : (order : Order) (r : Result ℕ Fault) → States file order → r ≡ Ok order.size
-      → Checked file r
+      → IsChecked file r
   checked_states order r s e = record {
     verdict = verdict_order order s;
     states = λ o t. e ∙ ap (λ x. Ok x.size) (one_order order o s t);
@@ -170,7 +170,7 @@ module _ (file : List ℕ) where
   }
 
   pub checked_faulty : (f : Fault) (r : Result ℕ Fault) → FirstFault file f → r ≡ Err f
-      → Checked file r
+      → IsChecked file r
   checked_faulty f r s e = record {
     verdict = verdict_fault f s;
     states = λ o t. absurd (not_both o f t s);

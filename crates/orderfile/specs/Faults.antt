@@ -13,11 +13,11 @@ use Rattle.sheet.specs.declared.fault.Cause.TheVariants.{FieldLength}
 use Rattle.orderfile.specs.declared.record.Stage.{Stage}
 use Rattle.orderfile.specs.declared.record.Stage.TheVariants.{Start, Sized, Ended}
 use Rattle.orderfile.specs.declared.record.StatedPair.{StatedPair}
-use Rattle.orderfile.specs.Format.{Sound, size_field, pair_field, file_of, tag_of, value_of}
+use Rattle.orderfile.specs.Format.{FitsSheet, size_field, pair_field, file_of, tag_of, value_of}
 use Rattle.orderfile.specs.Format.{overruns, pair_in}
 
 -- the field that begins `rest`, which stands at the offset `at`, handed out as a part of the file
-pub record Handed (rest : List ℕ) (at : ℕ) (tag : ℕ) (value : List ℕ) (place : ℕ) : Type 0 where
+pub record IsHandedOut (rest : List ℕ) (at : ℕ) (tag : ℕ) (value : List ℕ) (place : ℕ) : Type 0 where
   pub whole : overruns rest ≡ false
   pub tag_is : tag ≡ tag_of rest
   pub value_is : value ≡ value_of rest
@@ -68,10 +68,10 @@ front (Sized n) pairs = size_field n ++ flat_map pair_field pairs
 front (Ended n) pairs = file_of (record { size = n; pairs = pairs })
 
 -- the front has no fault
-abbrev pub SoundFront : Stage → List StatedPair → Type 0
-SoundFront Start pairs = pairs ≡ []
-SoundFront (Sized n) pairs = Sound (record { size = n; pairs = pairs })
-SoundFront (Ended n) pairs = Sound (record { size = n; pairs = pairs })
+abbrev pub FrontFits : Stage → List StatedPair → Type 0
+FrontFits Start pairs = pairs ≡ []
+FrontFits (Sized n) pairs = FitsSheet (record { size = n; pairs = pairs })
+FrontFits (Ended n) pairs = FitsSheet (record { size = n; pairs = pairs })
 
 -- the first fault of a file: it begins with fields that have none, and the next field has this one
 pub record FirstFault (file : List ℕ) (f : Fault) : Type 0 where
@@ -79,5 +79,5 @@ pub record FirstFault (file : List ℕ) (f : Fault) : Type 0 where
   pub pairs : List StatedPair
   pub rest : List ℕ
   pub splits : file ≡ front stage pairs ++ rest
-  pub sound : SoundFront stage pairs
+  pub fits : FrontFits stage pairs
   pub faulty : field_fault stage rest (length (front stage pairs)) ≡ Some f

@@ -36,20 +36,20 @@ abbrev pub file_of : Order → List ℕ
 file_of order = size_field order.size ++ (flat_map pair_field order.pairs ++ end_field)
 
 -- a pair that a sheet of n blocks takes
-pub record SoundPair (n : ℕ) (p : StatedPair) : Type 0 where
+pub record PairFits (n : ℕ) (p : StatedPair) : Type 0 where
   pub left_below : p.left < n
   pub right_below : p.right < n
   pub cost_within : unsigned_abs p.cost ≤ COST_LIMIT
 
-pub record Sound (order : Order) : Type 0 where
+pub record FitsSheet (order : Order) : Type 0 where
   pub some : 1 ≤ order.size
   pub few : order.size ≤ MOST_BLOCKS
-  pub pairs_sound : AllByRecursion (SoundPair order.size) order.pairs
+  pub pairs_fit : AllByRecursion (PairFits order.size) order.pairs
 
 -- a file states an order if it is the order's file, and a sheet takes all of it
 pub record States (file : List ℕ) (order : Order) : Type 0 where
   pub is_file : file ≡ file_of order
-  pub sound : Sound order
+  pub fits : FitsSheet order
 
 -- the parts of the field that begins a list of bytes
 abbrev pub tag_of : List ℕ → ℕ

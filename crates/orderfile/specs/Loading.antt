@@ -27,7 +27,7 @@ pub record HasOneVerdict (file : List ℕ) : Type 0 where
   pub not_both : (o : Order) (f : Fault) → States file o → FirstFault file f → ⊥
 
 -- checking a file answers its size or its first fault
-pub record Checked (file : List ℕ) (r : Result ℕ Fault) : Type 0 where
+pub record IsChecked (file : List ℕ) (r : Result ℕ Fault) : Type 0 where
   pub verdict : HasOneVerdict file
   pub states : (order : Order) → States file order → r ≡ Ok order.size
   pub faulty : (f : Fault) → FirstFault file f → r ≡ Err f
@@ -93,7 +93,7 @@ abbrev pub Shows : Order → List Plain → List ℕ → Type 0
 Shows order costs standing = (l r : ℕ) → l < order.size → r < order.size
     → plain_cell order.size costs standing l r ≡ option_map plain (cost_stated order.pairs l r)
 
-pub record Refused (f : Fault) (costs : List Plain) (standing : List ℕ) (r : Result Sheet Fault)
+pub record RefusesLoad (f : Fault) (costs : List Plain) (standing : List ℕ) (r : Result Sheet Fault)
     (costs' : List Plain) (standing' : List ℕ) : Type 0 where
   pub answers : r ≡ Err f
   pub costs_stay : costs' ≡ costs
@@ -119,10 +119,10 @@ pub record Accepted (order : Order) (r : Result Sheet Fault) (costs' : List Plai
 pub record Loaded (file : List ℕ) (costs : List Plain) (standing : List ℕ) (r : Result Sheet Fault)
     (costs' : List Plain) (standing' : List ℕ) : Type 0 where
   pub verdict : HasOneVerdict file
-  pub faulty : (f : Fault) → FirstFault file f → Refused f costs standing r costs' standing'
+  pub faulty : (f : Fault) → FirstFault file f → RefusesLoad f costs standing r costs' standing'
   pub misfits : (order : Order) → States file order
       → (HavePlaces order.size (length costs) (length standing) → ⊥)
-      → Refused (fault TableLength 0) costs standing r costs' standing'
+      → RefusesLoad (fault TableLength 0) costs standing r costs' standing'
   pub loads : (order : Order) → States file order
       → HavePlaces order.size (length costs) (length standing)
       → Accepted order r costs' standing'

@@ -19,10 +19,10 @@ record_in tag value = (if tag == 1 then Size (size_in value) else
     (if tag == 2 then Pair (pair_in value) else End))
 
 -- the record that comes next, where `rest` is left: none after the end
-abbrev pub record_next : Stage → List ℕ → Option Record
-record_next Start rest = Some (record_in (tag_of rest) (value_of rest))
-record_next (Sized n) rest = Some (record_in (tag_of rest) (value_of rest))
-record_next (Ended n) rest = None
+abbrev pub next_record : Stage → List ℕ → Option Record
+next_record Start rest = Some (record_in (tag_of rest) (value_of rest))
+next_record (Sized n) rest = Some (record_in (tag_of rest) (value_of rest))
+next_record (Ended n) rest = None
 
 -- the stage behind a record
 abbrev pub stage_after : Stage → Record → Stage
@@ -48,7 +48,7 @@ record_length (Ended n) rest = 0
 -- answers the fault of the next field and stays, or else answers its record and stands behind it
 pub record StepsFrom (stage : Stage) (rest : List ℕ) (at : ℕ) (r : Result (Option Record) Fault)
     (stage' : Stage) (rest' : List ℕ) (at' : ℕ) : Type 0 where
-  pub answers : r ≡ answer (field_fault stage rest at) (record_next stage rest)
+  pub answers : r ≡ answer (field_fault stage rest at) (next_record stage rest)
   pub stages : stage' ≡ after (field_fault stage rest at) stage (stage_next stage rest)
   pub passes : rest' ≡ after (field_fault stage rest at) rest (drop (record_length stage rest) rest)
   pub moves : at' ≡ after (field_fault stage rest at) at (at + record_length stage rest)

@@ -13,7 +13,7 @@ use Rattle.sheet.specs.Refusals.{fault, first_of, answer}
 use Rattle.sheet.specs.declared.fault.Cause.TheVariants.{TableLength, Inconsistent, ShortBuffer}
 use Rattle.sheet.specs.declared.fault.Fault.{Fault}
 use Rattle.orderfile.specs.declared.record.StatedPair.{StatedPair}
-use Rattle.orderfile.specs.Format.{SoundPair, file_of}
+use Rattle.orderfile.specs.Format.{PairFits, file_of}
 use Rattle.orderfile.specs.Loading.{plain, plain_kind, plain_cell, plain_grid, names_blocks}
 use Rattle.orderfile.specs.Loading.{Loaded}
 
@@ -37,21 +37,21 @@ abbrev pub times : ℕ → ℕ → List StatedPair → ℕ
 times l r pairs = count_by (names_blocks l r) pairs
 
 -- a pair that stands in the tables at this cost
-pub record Standing (n : ℕ) (costs : List Plain) (standing : List ℕ) (p : StatedPair) : Type 0 where
-  pub sound : SoundPair n p
+pub record StandsAtCost (n : ℕ) (costs : List Plain) (standing : List ℕ) (p : StatedPair) : Type 0 where
+  pub fits : PairFits n p
   pub stands : plain_cell n costs standing p.left p.right ≡ Some (plain p.cost)
 
 -- the pairs are the standing ones, each named once and with its cost; their order is free
-pub record Names (n : ℕ) (costs : List Plain) (standing : List ℕ)
+pub record AreStandingPairs (n : ℕ) (costs : List Plain) (standing : List ℕ)
     (pairs : List StatedPair) : Type 0 where
   pub once : (l r : ℕ) → l < n → r < n → times l r pairs
       ≡ (if says_stands (byte_of n standing l r) then 1 else 0)
-  pub only : AllByRecursion (Standing n costs standing) pairs
+  pub only : AllByRecursion (StandsAtCost n costs standing) pairs
 
 -- the buffer begins with the file of such pairs, and is as it was behind it
-pub record Written (n : ℕ) (costs : List Plain) (standing out out' : List ℕ) : Type 0 where
+pub record HoldsFile (n : ℕ) (costs : List Plain) (standing out out' : List ℕ) : Type 0 where
   pub pairs : List StatedPair
-  pub names : Names n costs standing pairs
+  pub names : AreStandingPairs n costs standing pairs
   pub long : length (file_of (record { size = n; pairs = pairs })) ≡ saved_length standing
   pub file : out' ≡ file_of (record { size = n; pairs = pairs }) ++ drop (saved_length standing) out
 
@@ -72,7 +72,7 @@ pub record Saved (n : ℕ) (costs : List Plain) (standing out : List ℕ) (r : R
     (out' : List ℕ) : Type 0 where
   pub answers : r ≡ answer (save_refusal n costs standing (length out)) (saved_length standing)
   pub stays : (f : Fault) → save_refusal n costs standing (length out) ≡ Some f → out' ≡ out
-  pub writes : save_refusal n costs standing (length out) ≡ None → Written n costs standing out out'
+  pub writes : save_refusal n costs standing (length out) ≡ None → HoldsFile n costs standing out out'
   pub reloads : save_refusal n costs standing (length out) ≡ None
       → Reloads n costs standing
       (take (saved_length standing) out')

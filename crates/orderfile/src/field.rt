@@ -2,7 +2,7 @@
 
 ghost use Rattle.std.specs.Prelude.{◌≡◌, ◌+◌, ◌^◌, ◌<◌, length, drop, if◌then◌else◌, MatchResult};
 ghost use Rattle.std.specs.Prelude.{◌==◌};
-ghost use Rattle.orderfile.specs.Faults.{Handed, RunsPast};
+ghost use Rattle.orderfile.specs.Faults.{IsHandedOut, RunsPast};
 ghost use Rattle.orderfile.specs.Format.{overruns, extent};
 
 use sheet::{Cause, Fault};
@@ -60,7 +60,7 @@ impl<'a> FieldReader<'a> {
     /// then stays before it.
     pub fn next(&mut self) -> Result<Field<'a>, Fault>
         ensures hands { MatchResult result
-            (λ field. Handed (rest_of self.old) (offset_of self.old) field.tag field.value.now
+            (λ field. IsHandedOut (rest_of self.old) (offset_of self.old) field.tag field.value.now
             field.place) (RunsPast (rest_of self.old) (offset_of self.old)) }
         ensures passes { let rest = rest_of self.old in
             rest_of self.new ≡ (if overruns rest then rest else drop (extent rest) rest) }

@@ -3,7 +3,7 @@
 ghost use Rattle.std.specs.Prelude.{◌≡◌, length};
 ghost use Rattle.tables.specs.PairTables.{HavePlaces};
 ghost use Rattle.orderfile.specs.Format.{Order, States};
-ghost use Rattle.orderfile.specs.Loading.{Checked, costs_after, standing_after, Loaded};
+ghost use Rattle.orderfile.specs.Loading.{IsChecked, costs_after, standing_after, Loaded};
 
 use crate::record::Record;
 use crate::record_reader::RecordReader;
@@ -13,7 +13,7 @@ use tables::enter_pair;
 
 /// The size that a file states, once all of the file has been read; or its first fault.
 pub fn check(file: &[u8]) -> Result<u16, Fault>
-    ensures { Checked file.now result }
+    ensures { IsChecked file.now result }
 {
     let mut records = RecordReader::new(file);
     let mut size = 0;

@@ -8,7 +8,7 @@ use Rattle.sheet.specs.declared.fault.Cause.TheVariants.{ShortBuffer}
 use Rattle.orderfile.specs.Loading.{grid_stated}
 use Rattle.orderfile.proofs.Ends.{checked_err, checked_ok}
 use Rattle.chost.specs.Answers.{AnswersHost, call_needs}
-use Rattle.chost.specs.declared.answering.Call.{Call}
+use Rattle.chost.specs.declared.answering.HostCall.{HostCall}
 use Rattle.chost.proofs.Stated.{answers_faulty, answers_stated, short_buffer}
 use Rattle.chost.proofs.answering.answer.Goals as goal
 
@@ -39,11 +39,11 @@ answer_for-requires-clause-stated c =
 pub answer_for-requires-clause-few : goal.answer_for-requires-clause-few
 answer_for-requires-clause-few c =
     let o = checked_ok c.args.file.now c.in_ok-size.size c.in_ok-size.ensures in
-    omega (arith, o.2, o.1.sound.few)
+    omega (arith, o.2, o.1.fits.few)
 
 pub answer_for-requires-clause-places : goal.answer_for-requires-clause-places
 answer_for-requires-clause-places c =
     let o = checked_ok c.args.file.now c.in_ok-size.size c.in_ok-size.ensures in
     let n = c.in_ok-size.size in
-    let few : n ≤ 64 = omega (arith, o.2, o.1.sound.few) in
+    let few : n ≤ 64 = omega (arith, o.2, o.1.fits.few) in
     mul-le n n 64 64 few few

@@ -7,7 +7,7 @@ use Rattle.tables.specs.Lent.{lent, grid}
 use Rattle.orderfile.specs.Loading.{plain_kind, plain_grid}
 use Rattle.orderfile.proofs.LoadedGrid.{loaded_err}
 use Rattle.chost.specs.Answers.{AnswersHost}
-use Rattle.chost.specs.declared.answering.Call.TheVariants.{First, After}
+use Rattle.chost.specs.declared.answering.HostCall.TheVariants.{First, After}
 use Rattle.matching.specs.declared.stepping.Step.TheVariants.{Next}
 use Rattle.chost.proofs.Buffers.{are_bytes}
 use Rattle.chost.proofs.Stated.{answers_faulty, list_fits, out_fits, settle_refused, partners_fit}

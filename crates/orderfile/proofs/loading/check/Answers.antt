@@ -5,8 +5,8 @@ use Rattle.sheet.specs.Refusals.{answer}
 use Rattle.sheet.proofs.Refused.{from_err, from_ok}
 use Rattle.orderfile.specs.declared.record.Stage.{Stage}
 use Rattle.orderfile.specs.Faults.{field_fault}
-use Rattle.orderfile.specs.Records.{record_next}
-use Rattle.orderfile.proofs.Reading.{Known, reading_fault, reading_done, next_reads, next_stage}
+use Rattle.orderfile.specs.Records.{next_record}
+use Rattle.orderfile.proofs.Reading.{IsKnownSize, reading_fault, reading_done, next_reads, next_stage}
 use Rattle.orderfile.proofs.Reading.{known_still}
 use Rattle.orderfile.proofs.Verdicts.{checked_states, checked_faulty}
 use Rattle.orderfile.proofs.loading.check.Goals as goal
@@ -25,13 +25,13 @@ loop-record-preserved c =
     let now' = c.next.new.self in
     let answers : Ok (Some c.in-Some.record) ≡ answer
     (field_fault was.stage was.fields.rest.now was.fields.at)
-    (record_next was.stage was.fields.rest.now) = ap Ok (sym c.in-Some.is)
+    (next_record was.stage was.fields.rest.now) = ap Ok (sym c.in-Some.is)
     ∙ c.in_ok-record.ensures.answers in (
       next_reads was.stage was.fields.rest.now was.fields.at now'.stage now'.fields.rest.now
           now'.fields.at c.next.ensures.stages c.next.ensures.passes c.next.ensures.moves
           c.args.file.now (Some c.in-Some.record) c.loop-record.invariant.0
           (λ i. omega (arith, c.type_inv.file i)) answers,
-      subst (λ (s : Stage). Known s c.loop-record.size)
+      subst (λ (s : Stage). IsKnownSize s c.loop-record.size)
           (sym (next_stage was.stage was.fields.rest.now was.fields.at now'.stage
           now'.fields.rest.now
           now'.fields.at c.next.ensures.stages c.next.ensures.passes c.next.ensures.moves
@@ -44,7 +44,7 @@ pub returns : goal.returns
 returns c =
     let was = c.loop-record.records in
     let found = from_ok (field_fault was.stage was.fields.rest.now was.fields.at)
-    (record_next was.stage was.fields.rest.now) None
+    (next_record was.stage was.fields.rest.now) None
     (ap Ok (sym c.in_default.is) ∙ c.in_ok-record.ensures.answers) in
     let done = reading_done c.args.file.now was.stage was.fields.rest.now
     was.fields.at c.loop-record.size c.loop-record.invariant.0 c.loop-record.invariant.1 found.0

@@ -9,7 +9,7 @@ use Rattle.sheet.specs.Refusals.{answer}
 use Rattle.orderfile.specs.declared.record.Record.TheVariants.{Pair}
 use Rattle.orderfile.specs.Faults.{field_fault}
 use Rattle.orderfile.specs.Loading.{plain}
-use Rattle.orderfile.specs.Records.{record_next}
+use Rattle.orderfile.specs.Records.{next_record}
 use Rattle.orderfile.proofs.Fields.{fits}
 use Rattle.orderfile.proofs.Reading.{next_shorter}
 use Rattle.orderfile.proofs.Entering.{never_refused, handed_next, passed_next}
@@ -39,9 +39,9 @@ loop-record-preserved-in-Pair c order s =
     ∙ ap (λ k. place_of order.size pair.left k) c.from-right.ensures in
     let answers : Ok (Some (Pair pair)) ≡ answer
     (field_fault was.stage was.fields.rest.now was.fields.at)
-    (record_next was.stage was.fields.rest.now) = ap (λ r. Ok (Some r)) (sym c.in-Pair.is)
+    (next_record was.stage was.fields.rest.now) = ap (λ r. Ok (Some r)) (sym c.in-Pair.is)
     ∙ ap Ok (sym c.in-Ok-Some.field-0-is) ∙ sym c.in-Ok-Some.is ∙ c.next.ensures.answers in
-    let handed = handed_next order c.args.costs.now c.args.standing.now s.sound was.stage
+    let handed = handed_next order c.args.costs.now c.args.standing.now s.fits was.stage
     was.fields.rest.now was.fields.at now'.stage now'.fields.rest.now c.next.ensures.stages
     c.next.ensures.passes c.loop-record.costs c.loop-record.standing
     (c.loop-record.invariant order s) pair answers in
@@ -62,7 +62,7 @@ pub loop-record-preserved : goal.loop-record-preserved
 loop-record-preserved c order s =
     let was = c.loop-record.records in
     let now' = c.next.new.self in
-    passed_next order c.args.costs.now c.args.standing.now s.sound was.stage
+    passed_next order c.args.costs.now c.args.standing.now s.fits was.stage
     was.fields.rest.now was.fields.at now'.stage now'.fields.rest.now c.next.ensures.stages
     c.next.ensures.passes c.loop-record.costs c.loop-record.standing
     (c.loop-record.invariant order s) c.in-Ok-Some.record c.in_default-record.not-Pair
@@ -71,7 +71,7 @@ loop-record-preserved c order s =
 pub returns-in_default-2 : goal.returns-in_default-2
 returns-in_default-2 c order s =
     let was = c.loop-record.records in
-    absurd (never_refused order c.args.costs.now c.args.standing.now s.sound was.stage
+    absurd (never_refused order c.args.costs.now c.args.standing.now s.fits was.stage
     was.fields.rest.now was.fields.at c.next.new.self.stage c.next.new.self.fields.rest.now
     c.next.ensures.stages c.next.ensures.passes c.loop-record.costs c.loop-record.standing
     (c.loop-record.invariant order s) c.in_default.field-0

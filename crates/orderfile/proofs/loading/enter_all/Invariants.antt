@@ -2,12 +2,12 @@
 -- that came; each record leaves less of the file.
 use Rattle.std.proofs.Common.{length}
 use Rattle.orderfile.specs.Format.{Order, States}
-use Rattle.orderfile.proofs.Entering.{Ahead}
+use Rattle.orderfile.proofs.Entering.{IsAhead}
 use Rattle.orderfile.proofs.loading.enter_all.Given as goal
 
 abbrev pub invariant-loop-record : goal.invariant-loop-record
 invariant-loop-record l = (order : Order) → States l.file order
-    → Ahead order l.initial.costs l.initial.standing l.records.stage l.records.fields.rest.now
+    → IsAhead order l.initial.costs l.initial.standing l.records.stage l.records.fields.rest.now
     l.costs l.standing
 
 abbrev pub decreases-loop-record : goal.decreases-loop-record

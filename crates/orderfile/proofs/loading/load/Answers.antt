@@ -24,9 +24,9 @@ returns-in_err-sheet c =
     let f = c.in_err-sheet.field-0.0 in
     let o = checked_ok c.args.file.now c.in_ok-n.n c.in_ok-n.ensures in
     let h = c.in_err-sheet.ensures.call in
-    let stay = open_kept o.0 _ o.2 o.1.sound _ _ _ _ f h in
-    loaded_misfit _ _ _ _ _ _ o.0 o.1 (open_unfit o.0 _ o.2 o.1.sound _ _ _ _ f h)
-    (p.1 ∙ ap Err (p.2 ∙ open_fault o.0 _ o.2 o.1.sound _ _ _ _ f h)) stay.0 stay.1
+    let stay = open_kept o.0 _ o.2 o.1.fits _ _ _ _ f h in
+    loaded_misfit _ _ _ _ _ _ o.0 o.1 (open_unfit o.0 _ o.2 o.1.fits _ _ _ _ f h)
+    (p.1 ∙ ap Err (p.2 ∙ open_fault o.0 _ o.2 o.1.fits _ _ _ _ f h)) stay.0 stay.1
 
 pub enter_all-requires : goal.enter_all-requires
 enter_all-requires c =

@@ -6,7 +6,7 @@ use Rattle.orderfile.specs.Format.{file_of}
 use Rattle.tables.specs.PairTables.{have_places, says_stands}
 use Rattle.pairing.specs.Places.{places_of}
 use Rattle.tables.proofs.Lengths.{places_told}
-use Rattle.orderfile.specs.Saving.{saved_length, Written, pairs_listed}
+use Rattle.orderfile.specs.Saving.{saved_length, HoldsFile, pairs_listed}
 use Rattle.orderfile.proofs.Listed.{pairs_listed_count, names_all}
 use Rattle.orderfile.proofs.Saves.{file_length, saved, not_saved, save_misfits, save_disturbed}
 use Rattle.orderfile.proofs.Saves.{save_short, save_accepts}
@@ -59,7 +59,7 @@ returns c =
     pairs_listed_count n c.size-n.ensures.range.some costs standing 0 (places_of n)
     (omega (arith, long.standing))
     in
-    let wrote : Written n costs standing c.args.out.now c.write_file.new.out = record {
+    let wrote : HoldsFile n costs standing c.args.out.now c.write_file.new.out = record {
       pairs = pairs_listed n costs standing 0 (places_of n);
       names = names_all n c.size-n.ensures.range.some costs standing long.costs long.standing good;
       long = file_length n (pairs_listed n costs standing 0 (places_of n))
