@@ -13,7 +13,7 @@ ghost use Rattle.chost.specs.Answers.{AnswersHost, TellsHost, HasRoomFor, StepsO
 
 use crate::blocks::{read_blocks, write_blocks};
 use cost::{Cost, Plain};
-use orderfile::loading::{check, load};
+use orderfile::{check, load};
 use sheet::{Cause, Fault, SettledSheet, Step};
 use tables::{MOST_BLOCKS, places};
 
@@ -42,7 +42,7 @@ pub fn answer_number(call: HostCall, file: &[u8], out: &mut [u8]) -> u32
     }
 }
 
-// Reads the file, and makes the call if the buffer is long enough.
+/// Reads the file, and makes the call if the buffer is long enough.
 fn answer(call: HostCall, file: &[u8], out: &mut [u8]) -> Result<Step, Fault>
     ensures { AnswersHost call file.now out.old result out.new }
 {
@@ -53,7 +53,7 @@ fn answer(call: HostCall, file: &[u8], out: &mut [u8]) -> Result<Step, Fault>
     answer_for(call, file, size, out)
 }
 
-// Lends the call tables for a sheet of so many blocks a plane.
+/// Lends the call tables for a sheet of so many blocks a plane.
 fn answer_for(call: HostCall, file: &[u8], size: u16, out: &mut [u8]) -> Result<Step, Fault>
     requires stated { (o : Order) × States file.now o × (o.size ≡ size) }
     requires few { size ≤ MOST_BLOCKS }
@@ -82,7 +82,7 @@ fn answer_for(call: HostCall, file: &[u8], size: u16, out: &mut [u8]) -> Result<
     )
 }
 
-// Settles the sheet of a file in tables that fit it, and makes the call on the settled sheet.
+/// Settles the sheet of a file in tables that fit it, and makes the call on the settled sheet.
 fn answer_over(
     call: HostCall,
     file: &[u8],
@@ -110,7 +110,7 @@ fn answer_over(
     }
 }
 
-// Writes over the optimum pairing at the front of the buffer the one that follows it.
+/// Writes over the optimum pairing at the front of the buffer the one that follows it.
 fn step_on<K: Cost>(
     settled: SettledSheet,
     costs: &[K],

@@ -22,6 +22,7 @@ use Rattle.sheet.specs.declared.fault.Cause.TheVariants.{TableLength, Inconsiste
 use Rattle.sheet.specs.declared.fault.Fault.{Fault}
 use Rattle.sheet.specs.Refusals.{fault}
 use Rattle.sheet.proofs.Refused.{refused, accepted, cleared}
+use Rattle.orderfile.specs.declared.format.TheConstants.{SIZE_FIELD, PAIR_FIELD, END_FIELD}
 use Rattle.orderfile.specs.declared.record.StatedPair.{StatedPair}
 use Rattle.orderfile.specs.Format.{Order, PairFits, States, pair_field, end_field, size_field}
 use Rattle.orderfile.specs.Format.{file_of}
@@ -83,7 +84,7 @@ joined_length (p ∷ ps) = let rest : length (flat_map pair_field ps) ≡ 13 * l
     joined_length ps in length-append (pair_field p) (flat_map pair_field ps) ∙ omega (arith, rest)
 
 pub file_length : (n : ℕ) (ps : List StatedPair)
-    → length (file_of (record { size = n; pairs = ps })) ≡ 7 + 13 * length ps
+    → length (file_of (record { size = n; pairs = ps })) ≡ SIZE_FIELD + PAIR_FIELD * length ps + END_FIELD
 file_length n ps =
     let tail : length (flat_map pair_field ps ++ end_field) ≡ length (flat_map pair_field ps) + 3 =
     length-append (flat_map pair_field ps) end_field in

@@ -10,6 +10,8 @@ use Rattle.sheet.specs.Refusals.{fault, first_of, differ}
 use Rattle.sheet.specs.declared.fault.Fault.{Fault}
 use Rattle.sheet.specs.declared.fault.Cause.TheVariants.{Size, Block, CostRange, Overrun, Tag}
 use Rattle.sheet.specs.declared.fault.Cause.TheVariants.{FieldLength}
+use Rattle.orderfile.specs.declared.format.TheConstants.{SIZE_TAG, PAIR_TAG, END_TAG}
+use Rattle.orderfile.specs.declared.format.TheConstants.{SIZE_LENGTH, PAIR_LENGTH, END_LENGTH}
 use Rattle.orderfile.specs.declared.record.Stage.{Stage}
 use Rattle.orderfile.specs.declared.record.Stage.TheVariants.{Start, Sized, Ended}
 use Rattle.orderfile.specs.declared.record.StatedPair.{StatedPair}
@@ -30,26 +32,26 @@ pub record RunsPast (rest : List ℕ) (at : ℕ) (f : Fault) : Type 0 where
 
 -- the checks of each kind of field behind its tag; a pair field is checked in a file of size n
 abbrev pub size_checks : List ℕ → ℕ → List (Bool × Fault)
-size_checks value at = (differ (length value) 1, fault FieldLength at)
+size_checks value at = (differ (length value) SIZE_LENGTH, fault FieldLength at)
     ∷ (slice_index value 0 == 0 || nat_lt MOST_BLOCKS (slice_index value 0), fault Size at) ∷ []
 
 abbrev pub pair_checks : ℕ → List ℕ → ℕ → List (Bool × Fault)
 pair_checks n value at =
-    (differ (length value) 10, fault FieldLength at)
+    (differ (length value) PAIR_LENGTH, fault FieldLength at)
     ∷ (not (are_blocks n (pair_in value).left (pair_in value).right), fault Block at)
     ∷ (nat_lt COST_LIMIT (unsigned_abs (pair_in value).cost), fault CostRange at) ∷ []
 
 abbrev pub end_checks : List ℕ → ℕ → List (Bool × Fault)
-end_checks value at = (differ (length value) 0, fault FieldLength at) ∷ []
+end_checks value at = (differ (length value) END_LENGTH, fault FieldLength at) ∷ []
 
 -- the first fault of a whole field, by what came before it: a size comes first, then pairs, then
 -- the end
 abbrev pub record_fault : Stage → ℕ → List ℕ → ℕ → Option Fault
 record_fault Start tag value at =
-    (if tag == 1 then first_of (size_checks value at) else Some (fault Tag at))
+    (if tag == SIZE_TAG then first_of (size_checks value at) else Some (fault Tag at))
 record_fault (Sized n) tag value at =
-    (if tag == 2 then first_of (pair_checks n value at) else
-    (if tag == 3 then first_of (end_checks value at) else Some (fault Tag at)))
+    (if tag == PAIR_TAG then first_of (pair_checks n value at) else
+    (if tag == END_TAG then first_of (end_checks value at) else Some (fault Tag at)))
 record_fault (Ended n) tag value at = Some (fault Tag at)
 
 -- the first fault of the field that begins `rest`, which stands at the offset `at`: after the end

@@ -6,6 +6,8 @@ use Rattle.std.proofs.Common.{of_z, to_z}
 use Rattle.std.specs.List.{flat_map, AllByRecursion}
 use Rattle.cost.specs.declared.TheConstants.{COST_LIMIT}
 use Rattle.blockset.specs.declared.TheConstants.{MOST_BLOCKS}
+use Rattle.orderfile.specs.declared.format.TheConstants.{HEADER_LENGTH, SIZE_TAG, PAIR_TAG, END_TAG}
+use Rattle.orderfile.specs.declared.format.TheConstants.{SIZE_LENGTH, PAIR_LENGTH, END_LENGTH}
 use Rattle.orderfile.specs.declared.record.StatedPair.{StatedPair}
 
 -- a number below 2^64 as eight bytes, the high byte first
@@ -18,13 +20,14 @@ eight_bytes x =
 -- the three kinds of field: a tag, a length of two bytes with the high byte first, a value.
 -- of_z w64 is the number's 64 bits in two's complement
 abbrev pub size_field : ℕ → List ℕ
-size_field n = 1 ∷ 0 ∷ 1 ∷ n ∷ []
+size_field n = SIZE_TAG ∷ 0 ∷ SIZE_LENGTH ∷ n ∷ []
 
 abbrev pub pair_field : StatedPair → List ℕ
-pair_field p = 2 ∷ 0 ∷ 10 ∷ p.left ∷ p.right ∷ eight_bytes (of_z w64 p.cost)
+pair_field p =
+    PAIR_TAG ∷ 0 ∷ PAIR_LENGTH ∷ p.left ∷ p.right ∷ eight_bytes (of_z w64 p.cost)
 
 abbrev pub end_field : List ℕ
-end_field = 3 ∷ 0 ∷ 0 ∷ []
+end_field = END_TAG ∷ 0 ∷ END_LENGTH ∷ []
 
 -- what a whole file states: a size, and pairs in the order in which they stand in the file
 pub record Order : Type 0 where
@@ -59,14 +62,14 @@ abbrev pub length_of : List ℕ → ℕ
 length_of bytes = slice_index bytes 1 * 256 + slice_index bytes 2
 
 abbrev pub extent : List ℕ → ℕ
-extent bytes = 3 + length_of bytes
+extent bytes = HEADER_LENGTH + length_of bytes
 
 abbrev pub value_of : List ℕ → List ℕ
-value_of bytes = take (length_of bytes) (drop 3 bytes)
+value_of bytes = take (length_of bytes) (drop HEADER_LENGTH bytes)
 
 -- the field runs past the end of the bytes
 abbrev pub overruns : List ℕ → Bool
-overruns bytes = nat_lt (length bytes) 3 || nat_lt (length bytes) (extent bytes)
+overruns bytes = nat_lt (length bytes) HEADER_LENGTH || nat_lt (length bytes) (extent bytes)
 
 -- the pair that the value of a pair field states: to_z w64 reads 64 bits in two's complement
 abbrev pub pair_in : List ℕ → StatedPair

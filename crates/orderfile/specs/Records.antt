@@ -3,6 +3,7 @@ use Rattle.std.specs.Prelude.{◌≡◌, ℕ, ◌+◌, List, drop, Some, None, O
 use Rattle.std.specs.Prelude.{◌==◌, if◌then◌else◌, slice_index}
 use Rattle.sheet.specs.Refusals.{answer, after}
 use Rattle.sheet.specs.declared.fault.Fault.{Fault}
+use Rattle.orderfile.specs.declared.format.TheConstants.{SIZE_TAG, PAIR_TAG}
 use Rattle.orderfile.specs.declared.record.Record.{Record}
 use Rattle.orderfile.specs.declared.record.Record.TheVariants.{Size, Pair, End}
 use Rattle.orderfile.specs.declared.record.Stage.{Stage}
@@ -15,8 +16,8 @@ size_in value = slice_index value 0
 
 -- what a field with this tag and value states
 abbrev pub record_in : ℕ → List ℕ → Record
-record_in tag value = (if tag == 1 then Size (size_in value) else
-    (if tag == 2 then Pair (pair_in value) else End))
+record_in tag value = (if tag == SIZE_TAG then Size (size_in value) else
+    (if tag == PAIR_TAG then Pair (pair_in value) else End))
 
 -- the record that comes next, where `rest` is left: none after the end
 abbrev pub next_record : Stage → List ℕ → Option Record

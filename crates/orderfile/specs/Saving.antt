@@ -12,6 +12,7 @@ use Rattle.sheet.specs.Size.{Sheet, sheet_of}
 use Rattle.sheet.specs.Refusals.{fault, first_of, answer}
 use Rattle.sheet.specs.declared.fault.Cause.TheVariants.{TableLength, Inconsistent, ShortBuffer}
 use Rattle.sheet.specs.declared.fault.Fault.{Fault}
+use Rattle.orderfile.specs.declared.format.TheConstants.{SIZE_FIELD, PAIR_FIELD, END_FIELD}
 use Rattle.orderfile.specs.declared.record.StatedPair.{StatedPair}
 use Rattle.orderfile.specs.Format.{PairFits, file_of}
 use Rattle.orderfile.specs.Loading.{plain, plain_kind, plain_cell, plain_grid, names_blocks}
@@ -19,7 +20,7 @@ use Rattle.orderfile.specs.Loading.{Loaded}
 
 -- the length of a saved file: a size field, a field for each standing pair, an end field
 abbrev pub saved_length : List ℕ → ℕ
-saved_length standing = 7 + 13 * count_by says_stands standing
+saved_length standing = SIZE_FIELD + PAIR_FIELD * count_by says_stands standing + END_FIELD
 
 -- the tables are in order: no byte is above 1, and each standing cost is within 10^9
 abbrev pub plain_in_order : List Plain → List ℕ → Bool

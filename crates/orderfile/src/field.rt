@@ -5,14 +5,8 @@ ghost use Rattle.std.specs.Prelude.{◌==◌};
 ghost use Rattle.orderfile.specs.Faults.{IsHandedOut, RunsPast};
 ghost use Rattle.orderfile.specs.Format.{overruns, extent};
 
+use crate::format::HEADER_LENGTH;
 use sheet::{Cause, Fault};
-
-// The lengths of the three kinds of field.
-pub(crate) const SIZE_FIELD: usize = 4;
-
-pub(crate) const PAIR_FIELD: usize = 13;
-
-pub(crate) const END_FIELD: usize = 3;
 
 /// A field as a part of the file: its tag, its value, and the offset of its tag.
 #[derive(Clone, Copy)]
@@ -68,13 +62,13 @@ impl<'a> FieldReader<'a> {
             offset_of self.new ≡ (if overruns rest then at else at + extent rest) }
     {
         let rest = self.rest;
-        if rest.len() < 3 {
+        if rest.len() < HEADER_LENGTH {
             return Err(Cause::Overrun.at(self.at));
         }
         // Where the next field begins waits for the length, which is therefore the last thing that
         // is added.
         let length = u16::from_be_bytes([rest[1], rest[2]]) as usize;
-        let behind = &rest[3..];
+        let behind = &rest[HEADER_LENGTH..];
         if behind.len() < length {
             return Err(Cause::Overrun.at(self.at));
         }
@@ -85,7 +79,7 @@ impl<'a> FieldReader<'a> {
         };
         *self = FieldReader {
             rest: &behind[length..],
-            at: self.at + 3 + length,
+            at: self.at + HEADER_LENGTH + length,
         };
         Ok(field)
     }

@@ -7,15 +7,17 @@ ghost use Rattle.orderfile.specs.Faults.{size_checks, pair_checks, end_checks, r
 ghost use Rattle.orderfile.specs.Format.{pair_in};
 ghost use Rattle.orderfile.specs.Records.{size_in, record_in, stage_after};
 ghost use Rattle.orderfile.specs.Readers.{rest_of, offset_of, fields_of, stage_of, ReadsOn};
+ghost use Rattle.orderfile.specs.declared.format.TheConstants.{PAIR_LENGTH};
 ghost use Rattle.orderfile.specs.declared.record.Record.TheVariants.{End as EndRecord};
 ghost use Rattle.orderfile.specs.declared.record.Stage.TheVariants.{Start as AtStart};
 
 use crate::field::{Field, FieldReader};
+use crate::format::{END_LENGTH, END_TAG, PAIR_LENGTH, PAIR_TAG, SIZE_LENGTH, SIZE_TAG};
 use crate::record::{Record, Stage, StatedPair};
 use sheet::{Cause, Fault};
 use tables::{COST_LIMIT, MOST_BLOCKS};
 
-// The largest cost of a pair.
+/// The largest cost of a pair.
 const LARGEST_COST: i64 = COST_LIMIT as i64;
 
 /// Moves over the records of a file.
@@ -51,14 +53,14 @@ impl<'a> RecordReader<'a> {
         }
         let mut fields = self.fields;
         let record = interpret(self.stage, fields.next()?)?;
-        self.stage = followed(self.stage, record);
+        self.stage = stage_after(self.stage, record);
         self.fields = fields;
         Ok(Some(record))
     }
 }
 
-// The stage behind a record that has no fault.
-fn followed(stage: Stage, by: Record) -> Stage
+/// The stage behind a record that has no fault.
+fn stage_after(stage: Stage, by: Record) -> Stage
     ensures { result ≡ stage_after stage by }
 {
     match (stage, by) {
@@ -68,26 +70,26 @@ fn followed(stage: Stage, by: Record) -> Stage
     }
 }
 
-// What a field states where this stage is reached, or its first fault.
+/// What a field states where this stage is reached, or its first fault.
 fn interpret(stage: Stage, field: Field<'_>) -> Result<Record, Fault>
     ensures { result ≡ answer
         (record_fault stage field.entry.tag field.entry.value.now field.entry.place)
         (record_in field.entry.tag field.entry.value.now) }
 {
     match (stage, field.tag) {
-        (Stage::Start, 1) => Ok(Record::Size(size(field)?)),
-        (Stage::Sized(n), 2) => Ok(Record::Pair(pair(n, field)?)),
-        (Stage::Sized(_), 3) => end(field),
+        (Stage::Start, SIZE_TAG) => Ok(Record::Size(size(field)?)),
+        (Stage::Sized(n), PAIR_TAG) => Ok(Record::Pair(pair(n, field)?)),
+        (Stage::Sized(_), END_TAG) => end(field),
         _ => Err(Cause::Tag.at(field.place)),
     }
 }
 
-// The size that a size field states.
+/// The size that a size field states.
 fn size(field: Field<'_>) -> Result<u8, Fault>
     ensures { result ≡ answer (first_of (size_checks field.entry.value.now field.entry.place))
         (size_in field.entry.value.now) }
 {
-    if field.value.len() != 1 {
+    if field.value.len() != SIZE_LENGTH as usize {
         return Err(Cause::FieldLength.at(field.place));
     }
     let n = field.value[0];
@@ -97,12 +99,12 @@ fn size(field: Field<'_>) -> Result<u8, Fault>
     Ok(n)
 }
 
-// The pair that a pair field states in a file of size n.
+/// The pair that a pair field states in a file of size n.
 fn pair(n: u8, field: Field<'_>) -> Result<StatedPair, Fault>
     ensures { result ≡ answer (first_of (pair_checks n field.entry.value.now field.entry.place))
         (pair_in field.entry.value.now) }
 {
-    if field.value.len() != 10 {
+    if field.value.len() != PAIR_LENGTH as usize {
         return Err(Cause::FieldLength.at(field.place));
     }
     let pair = stated_pair(field.value);
@@ -115,17 +117,17 @@ fn pair(n: u8, field: Field<'_>) -> Result<StatedPair, Fault>
     Ok(pair)
 }
 
-// Whether a cost is not within 10^9. It is compared with both ends, since its absolute value would
-// take two instructions more, for each pair of a file.
+/// Whether a cost is not within 10^9. It is compared with both ends, since its absolute value would
+/// take two instructions more, for each pair of a file.
 fn is_beyond(cost: i64) -> bool
     ensures { result ≡ nat_lt COST_LIMIT (unsigned_abs cost) }
 {
     cost < -LARGEST_COST || cost > LARGEST_COST
 }
 
-// The pair in the ten bytes of a value.
+/// The pair in the bytes of a value.
 fn stated_pair(value: &[u8]) -> StatedPair
-    requires { length value.now ≡ 10 }
+    requires { length value.now ≡ PAIR_LENGTH }
     ensures { result ≡ pair_in value.now }
 {
     let cost = u64::from_be_bytes([
@@ -138,12 +140,12 @@ fn stated_pair(value: &[u8]) -> StatedPair
     }
 }
 
-// The end, which has no value.
+/// The end, which has no value.
 fn end(field: Field<'_>) -> Result<Record, Fault>
     ensures { result ≡ answer (first_of (end_checks field.entry.value.now field.entry.place))
         EndRecord }
 {
-    if field.value.len() != 0 {
+    if field.value.len() != END_LENGTH as usize {
         return Err(Cause::FieldLength.at(field.place));
     }
     Ok(Record::End)

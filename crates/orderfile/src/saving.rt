@@ -8,10 +8,14 @@ ghost use Rattle.blockset.specs.declared.TheConstants.{MOST_BLOCKS};
 ghost use Rattle.pairing.specs.Places.{place_of, places_of};
 ghost use Rattle.tables.specs.PairTables.{HavePlaces};
 ghost use Rattle.sheet.specs.Size.{size_of};
+ghost use Rattle.orderfile.specs.declared.format.TheConstants.{SIZE_FIELD, PAIR_FIELD};
 ghost use Rattle.orderfile.specs.Format.{pair_field, eight_bytes, file_of};
 ghost use Rattle.orderfile.specs.Saving.{saved_length, pair_at, pairs_listed, Saved};
 
-use crate::field::{END_FIELD, PAIR_FIELD, SIZE_FIELD};
+use crate::format::{
+    END_FIELD, END_LENGTH, END_TAG, PAIR_FIELD, PAIR_LENGTH, PAIR_TAG, SIZE_FIELD, SIZE_LENGTH,
+    SIZE_TAG,
+};
 use crate::record::StatedPair;
 use cost::Plain;
 use sheet::{Cause, Fault, OpenSheet};
@@ -45,7 +49,7 @@ pub fn save(
     Ok(length)
 }
 
-// Writes the whole file.
+/// Writes the whole file.
 fn write_file(n: u16, costs: &[Plain], standing: &[u8], out: &mut [u8])
     requires some { 1 ≤ n }
     requires few { n ≤ MOST_BLOCKS }
@@ -55,23 +59,23 @@ fn write_file(n: u16, costs: &[Plain], standing: &[u8], out: &mut [u8])
         (record { size = n; pairs = pairs_listed n costs.now standing.now 0 (places_of n) })
         ++ drop (saved_length standing.now) out.old }
 {
-    put(out, 0, &[1, 0, 1, n as u8]);
+    put(out, 0, &[SIZE_TAG, 0, SIZE_LENGTH, n as u8]);
     let at = write_pairs(n, costs, standing, out);
-    put(out, at, &[3, 0, 0]);
+    put(out, at, &[END_TAG, 0, END_LENGTH]);
 }
 
-// Writes the standing pairs behind the size field, by left and then by right block, and answers the
-// offset behind them.
+/// Writes the standing pairs behind the size field, by left and then by right block, and answers the
+/// offset behind them.
 fn write_pairs(n: u16, costs: &[Plain], standing: &[u8], out: &mut [u8]) -> usize
     requires some { 1 ≤ n }
     requires few { n ≤ MOST_BLOCKS }
     requires places { HavePlaces n (length costs.now) (length standing.now) }
     requires room { let pairs = pairs_listed n costs.now standing.now 0 (places_of n) in
-        4 + length (flat_map pair_field pairs) ≤ length out.old }
+        SIZE_FIELD + length (flat_map pair_field pairs) ≤ length out.old }
     ensures behind { let pairs = pairs_listed n costs.now standing.now 0 (places_of n) in
-        result ≡ 4 + length (flat_map pair_field pairs) }
+        result ≡ SIZE_FIELD + length (flat_map pair_field pairs) }
     ensures writes { let pairs = pairs_listed n costs.now standing.now 0 (places_of n) in
-        out.new ≡ (take 4 out.old ++ flat_map pair_field pairs) ++ drop result out.old }
+        out.new ≡ (take SIZE_FIELD out.old ++ flat_map pair_field pairs) ++ drop result out.old }
 {
     let mut at = SIZE_FIELD;
     for left in 0..n {
@@ -80,8 +84,8 @@ fn write_pairs(n: u16, costs: &[Plain], standing: &[u8], out: &mut [u8]) -> usiz
     at
 }
 
-// Writes the standing pairs of a left block at an offset, by right block, and answers the offset
-// behind them.
+/// Writes the standing pairs of a left block at an offset, by right block, and answers the offset
+/// behind them.
 fn write_row(
     n: u16,
     left: u16,
@@ -110,7 +114,7 @@ fn write_row(
     at
 }
 
-// The pair of two blocks, with its cost in the table.
+/// The pair of two blocks, with its cost in the table.
 fn pair_at(n: u16, costs: &[Plain], left: u16, right: u16) -> StatedPair
     requires few { n ≤ MOST_BLOCKS }
     requires places { length costs.now ≡ places_of n }
@@ -125,24 +129,24 @@ fn pair_at(n: u16, costs: &[Plain], left: u16, right: u16) -> StatedPair
     }
 }
 
-// Writes the field of a pair at an offset, in parts that are a store each.
+/// Writes the field of a pair at an offset, in parts that are a store each.
 fn put_pair(out: &mut [u8], at: usize, pair: StatedPair)
-    requires { at + 13 ≤ length out.old }
-    ensures { out.new ≡ take at out.old ++ (pair_field pair ++ drop (at + 13) out.old) }
+    requires { at + PAIR_FIELD ≤ length out.old }
+    ensures { out.new ≡ take at out.old ++ (pair_field pair ++ drop (at + PAIR_FIELD) out.old) }
 {
-    put(out, at, &[2, 0, 10, pair.left]);
+    put(out, at, &[PAIR_TAG, 0, PAIR_LENGTH, pair.left]);
     put(out, at + 4, &[pair.right]);
     put(out, at + 5, &cost_bytes(pair));
 }
 
-// The bytes of a pair's cost, the high byte first.
+/// The bytes of a pair's cost, the high byte first.
 fn cost_bytes(pair: StatedPair) -> [u8; 8]
     ensures { result ≡ eight_bytes (of_z w64 pair.cost) }
 {
     pair.cost.cast_unsigned().to_be_bytes()
 }
 
-// Writes bytes at an offset.
+/// Writes bytes at an offset.
 fn put(out: &mut [u8], at: usize, bytes: &[u8])
     requires { at + length bytes.now ≤ length out.old }
     ensures { out.new ≡ take at out.old ++ (bytes.now ++ drop (at + length bytes.now) out.old) }

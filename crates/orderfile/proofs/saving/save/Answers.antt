@@ -3,6 +3,7 @@ use Rattle.std.proofs.Common.{◌≡◌, ℕ, ◌+◌, ◌*◌, count_by, Bool, 
 use Rattle.std.proofs.Common.{refl, ap}
 use Rattle.std.proofs.Common.{◌∙◌, arith}
 use Rattle.orderfile.specs.Format.{file_of}
+use Rattle.orderfile.specs.declared.format.TheConstants.{SIZE_FIELD, PAIR_FIELD, END_FIELD}
 use Rattle.tables.specs.PairTables.{have_places, says_stands}
 use Rattle.pairing.specs.Places.{places_of}
 use Rattle.tables.proofs.Lengths.{places_told}
@@ -63,7 +64,7 @@ returns c =
       pairs = pairs_listed n costs standing 0 (places_of n);
       names = names_all n c.size-n.ensures.range.some costs standing long.costs long.standing good;
       long = file_length n (pairs_listed n costs standing 0 (places_of n))
-          ∙ ap (λ k. 7 + 13 * k) count;
+          ∙ ap (λ k. SIZE_FIELD + PAIR_FIELD * k + END_FIELD) count;
       file = c.write_file.ensures
           ∙ ap (λ k. file_of
           (record { size = k; pairs = pairs_listed k costs standing 0 (places_of k) })

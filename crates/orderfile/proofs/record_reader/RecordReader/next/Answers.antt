@@ -36,7 +36,7 @@ returns c =
       answers = ap (λ t. Ok (Some t)) found.1
           ∙ ap Ok (sym (handed_record _ _ _ _ _ whole stage c.in_default.not-Ended))
           ∙ accepted _ _ e;
-      stages = c.followed-self.ensures ∙ ap (stage_after stage) found.1
+      stages = c.stage_after-self.ensures ∙ ap (stage_after stage) found.1
           ∙ sym (handed_stage _ _ _ _ _ whole stage c.in_default.not-Ended) ∙ renewed _ _ _ e;
       passes = c.next.ensures.passes ∙ cond-false _ _ _ whole.whole ∙ ap (λ k. drop k rest) long
           ∙ renewed _ _ _ e;
