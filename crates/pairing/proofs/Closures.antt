@@ -12,7 +12,7 @@ use Rattle.std.proofs.lemmas.Bool.{and_from, eqb-true, eq-eqb, ne_eqb, both_ways
 use Rattle.std.proofs.lemmas.Bool.{not_from_false, not_from_true, cond-true, cond-false}
 use Rattle.blockset.specs.Sets.{members}
 use Rattle.blockset.proofs.Members.{members_with}
-use Rattle.pairing.proofs.Members.{some_below, some_tells}
+use Rattle.pairing.proofs.Members.{some_two}
 
 module _ (n : ℕ) (start : ℕ → Bool) (edge : ℕ → ℕ → Bool) where
   -- y is of the start, or one step behind an x of smaller rank
@@ -36,27 +36,18 @@ module _ (n : ℕ) (start : ℕ → Bool) (edge : ℕ → ℕ → Bool) where
   leaves : (ℕ → Bool) → ℕ → ℕ → Bool
   leaves C x y = C x && (edge x y && not (C y))
 
-  leaving : (C : ℕ → Bool) → some_below n (λ x. some_below n (leaves C x)) ≡ true → (x y : ℕ)
-      × (x < n) × (y < n) × (C x ≡ true) × (edge x y ≡ true) × (C y ≡ false)
+  leaving : (C : ℕ → Bool) (x y : ℕ) → leaves C x y ≡ true
+      → (C x ≡ true) × (edge x y ≡ true) × (C y ≡ false)
   unfolding leaves
-  leaving C e =
-      let w = (some_tells n (λ x. some_below n (leaves C x))).0 e in
-      let v = (some_tells n (leaves C w.0)).0 w.2 in
-      let a = and_parts (C w.0) (edge w.0 v.0 && not (C v.0)) v.2 in
-      let b = and_parts (edge w.0 v.0) (not (C v.0)) a.1 in
-      (w.0, v.0, w.1, v.1, a.0, b.0, not-true (C v.0) b.1)
+  leaving C x y e =
+      let a = and_parts (C x) (edge x y && not (C y)) e in
+      let b = and_parts (edge x y) (not (C y)) a.1 in
+      (a.0, b.0, not-true (C y) b.1)
 
-  staying : (C : ℕ → Bool) → some_below n (λ x. some_below n (leaves C x)) ≡ false → (x y : ℕ)
-      → x < n → y < n → C x ≡ true → edge x y ≡ true → C y ≡ true
+  staying : (C : ℕ → Bool) (x y : ℕ) → leaves C x y ≡ false → C x ≡ true → edge x y ≡ true
+      → C y ≡ true
   unfolding leaves
-  staying C e x y i j a t =
-      elim (cases_Bool (C y)) [
-        | inl h ↦ h
-        | inr h ↦
-            let v = (some_tells n (leaves C x)).1
-            (y, j, and_from _ _ a (and_from _ _ t (not_from_false (C y) h))) in
-            absurd (both_ways _ e ((some_tells n (λ x. some_below n (leaves C x))).1 (x, i, v)))
-      ]
+  staying C x y e a t = grind arith
 
   module _ (C : ℕ → Bool) (rank : ℕ → ℕ) (t : ℕ) (g : Growing C rank t) (x y : ℕ) (i : x < n)
       (j : y < n) (a : C x ≡ true) (e : edge x y ≡ true) (out : C y ≡ false) where
@@ -128,16 +119,22 @@ module _ (n : ℕ) (start : ℕ → Bool) (edge : ℕ → ℕ → Bool) where
   grow : (k : ℕ) (C : ℕ → Bool) (rank : ℕ → ℕ) (t : ℕ) → Growing C rank t
       → members n (λ z. not (C z)) < k → (D : ℕ → Bool) × (rank' : ℕ → ℕ) × Closure D rank'
   grow zero C rank t g small = absurd (omega arith)
-  grow (suc k) C rank t g small =
-      elim (cases_Bool (some_below n (λ x. some_below n (leaves C x)))) [
-        | inr e ↦ (C, rank, record { has = g.has; closed = staying C e; back = g.back })
-        | inl e ↦
-            let w = leaving C e in
-            let f = fewer C rank t g w.0 w.1 w.2 w.3 w.4 w.5 w.6 in
-            grow k (C' C rank t g w.0 w.1 w.2 w.3 w.4 w.5 w.6)
-            (rank' C rank t g w.0 w.1 w.2 w.3 w.4 w.5 w.6) (suc t)
-            (grown C rank t g w.0 w.1 w.2 w.3 w.4 w.5 w.6) (omega arith)
-      ]
+  grow (suc k) C rank t g small = elim (some_two n (leaves C)) [
+    | inr none ↦ (
+      C,
+      rank,
+      record {
+        has = g.has;
+        closed = λ x y i j. staying C x y (none x y i j);
+        back = g.back;
+      },
+    )
+    | inl (x, y, i, j, e) ↦
+        let l = leaving C x y e in
+        let f = fewer C rank t g x y i j l.0 l.1 l.2 in
+        grow k (C' C rank t g x y i j l.0 l.1 l.2) (rank' C rank t g x y i j l.0 l.1 l.2) (suc t)
+        (grown C rank t g x y i j l.0 l.1 l.2) (omega arith)
+  ]
 
   pub closure : (D : ℕ → Bool) × (rank : ℕ → ℕ) × Closure D rank
   closure = grow (suc (members n (λ z. not (start z)))) start (λ _. 0) 1

@@ -22,7 +22,7 @@ use Rattle.pairing.specs.Grid.{at, Perfect}
 use Rattle.pairing.specs.Largest.{Partial, Largest, IsInCrowd, CrowdSet, around}
 use Rattle.pairing.specs.Chains.{Reached, free, onward, Held, Stuck, Shut}
 use Rattle.pairing.specs.Theorems.{LeavesOut, Hall, LargestIfStuck, ShortBy}
-use Rattle.pairing.proofs.Members.{some_below, some_tells, pairs_and_out}
+use Rattle.pairing.proofs.Members.{some_below, some_tells, some_two, pairs_and_out}
 use Rattle.pairing.proofs.Closures.{Closure, closure, reached_all}
 use Rattle.pairing.proofs.Filling.{fill}
 
@@ -381,21 +381,16 @@ module _ (n : ℕ) (stands : ℕ → ℕ → Bool) (p : List ℕ) (out : ℕ →
   better_or_stuck : ((q : List ℕ) × (out' : ℕ → Bool) × Partial n stands q out'
       × (members n out ≡ suc (members n out'))) ⊎ Stuck n stands p out
   unfolding open_step
-  better_or_stuck = elim (cases_Bool (some_below n (λ l. some_below n (open_step l)))) [
-    | inl e ↦
-        let w = (some_tells n (λ l. some_below n (open_step l))).0 e in
-        let v = (some_tells n (open_step w.0)).0 w.2 in
-        let a = and_parts (D w.0 && stands w.0 v.0) _ v.2 in
-        let b = and_parts (D w.0) (stands w.0 v.0) a.0 in
-        inl (larger w.0 v.0 (in_reached w.0 w.1 b.0) v.1 b.1 (not-true _ a.1))
-    | inr e ↦ inr (λ l r w j t. elim (cases_Bool (is_held n stands p out r)) [
-          | inl h ↦ (held_tells n stands p out r).0 h
-          | inr h ↦
-              let step = and_from _ _ (and_from _ _ (reached_in l w) t) (not_from_false _ h) in
-              let some = (some_tells n (open_step l)).1 (r, j, step) in
-              absurd (both_ways _ e ((some_tells n (λ l. some_below n (open_step l))).1
-              (l, reached_inside n stands p out l w, some)))
-        ])
+  better_or_stuck = elim (some_two n open_step) [
+    | inl (l, r, i, j, e) ↦
+        let a = and_parts (D l && stands l r) (not (is_held n stands p out r)) e in
+        let b = and_parts (D l) (stands l r) a.0 in
+        inl (larger l r (in_reached l i b.0) j b.1 (not-true _ a.1))
+    | inr none ↦ inr (λ l r w j t. elim (cases_Bool (is_held n stands p out r)) [
+      | inl h ↦ (held_tells n stands p out r).0 h
+      | inr h ↦ absurd (both_ways _ (none l r (reached_inside n stands p out l w) j)
+          (and_from _ _ (and_from _ _ (reached_in l w) t) (not_from_false _ h)))
+    ])
   ]
 
 -- ---- the theorems

@@ -2,8 +2,10 @@
 -- left blocks that are left out are all left blocks.
 -- Idea: at place k of the list of these numbers stands k; and a left block is either paired or left
 -- out.
-use Rattle.std.proofs.Common.{◌≡◌, ℕ, ◌+◌, ◌<◌, Bool, true, Decides, get_or, sym, ap, ◌∙◌, arith}
+use Rattle.std.proofs.Common.{◌≡◌, ℕ, ◌+◌, ◌<◌, Bool, true, false, Decides, ◌⊎◌, get_or, sym, ap}
+use Rattle.std.proofs.Common.{◌∙◌, inl, inr, arith}
 use Rattle.std.specs.List.{list_any, list_all}
+use Rattle.std.proofs.lemmas.Bool.{cases_Bool, both_ways}
 use Rattle.std.proofs.lemmas.List.Folds.{Any-from_list_any, list_any_at}
 use Rattle.std.proofs.lemmas.List.FromFn.{length-range_with_len, get_or-range_with_len}
 use Rattle.std.proofs.lemmas.List.Sums.{AllPass-from_list_all, list_all-from_AllPass}
@@ -33,6 +35,23 @@ some_tells n t =
       λ w. list_any_at t (numbers n) w.0 0 (omega (arith, w.1))
           (ap t (number_at n w.0 0 w.1) ∙ w.2),
     )
+
+-- some two numbers below n pass a test, or none do
+pub some_two : (n : ℕ) (t : ℕ → ℕ → Bool)
+    → ((x : ℕ) × (y : ℕ) × (x < n) × (y < n) × (t x y ≡ true))
+    ⊎ ((x y : ℕ) → x < n → y < n → t x y ≡ false)
+some_two n t =
+    let outer = some_tells n (λ x. some_below n (t x)) in
+    elim (cases_Bool (some_below n (λ x. some_below n (t x)))) [
+      | inl e ↦
+          let w = outer.0 e in
+          let v = (some_tells n (t w.0)).0 w.2 in
+          inl (w.0, v.0, w.1, v.1, v.2)
+      | inr e ↦ inr (λ x y i j. elim (cases_Bool (t x y)) [
+        | inl h ↦ absurd (both_ways _ e (outer.1 (x, i, (some_tells n (t x)).1 (y, j, h))))
+        | inr f ↦ f
+      ])
+    ]
 
 pub all_tells : (n : ℕ) (t : ℕ → Bool) (P : ℕ → Type 0) → ((k : ℕ) → Decides (t k) (P k))
     → Decides (all_below n t) ((k : ℕ) → k < n → P k)
