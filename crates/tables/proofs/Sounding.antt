@@ -31,7 +31,7 @@ use Rattle.tables.specs.PairTables.{byte_of, says_stands, says_disturbed, part_o
 use Rattle.tables.specs.Said.{columns_at}
 use Rattle.tables.specs.Lent.{Lent, left_price, right_price, HasRoom}
 use Rattle.tables.specs.PairRows.{HoldsPassing, AreTightRows}
-use Rattle.tables.specs.Sound.{adds_up, is_tight_in, IsSoundPair, IsSoundRow, IsSound}
+use Rattle.tables.specs.Sound.{Edge, adds_up, edge_in, IsSoundEdge, IsSoundRow, IsSound}
 use Rattle.tables.proofs.Filling.{Made, put_if, passing_like, row_made, value_at, part_at}
 use Rattle.tables.proofs.Filling.{columns_at-part_of}
 use Rattle.tables.proofs.Orderly.{columns_sized}
@@ -55,81 +55,75 @@ fine_both : (small beyond : Bool) → not (not small || beyond) ≡ (small && no
 fine_both true beyond = refl
 fine_both false beyond = refl
 
--- two prices and a cost tell whether their pair is sound if it stands, and whether it is tight
-module _ (left right cost : List ℤ) where
-  order : Ordering
-  order = lex (plus left right) cost
+-- what is read tells whether the pair is sound if it stands, and whether it is tight
+module _ (p : Edge) where
+  abbrev order : Ordering
+  order = lex (plus p.left p.right) p.cost
 
   abbrev pub wrong : Bool
-  wrong = not (within COST_LIMIT cost) || is_gt (lex (plus left right) cost)
+  wrong = not (within COST_LIMIT p.cost) || is_gt order
 
-  pub pair_tells : (byte : ℕ) → IsTrue (is_fine byte (not wrong)) ↔ IsSoundPair byte left right cost
-  unfolding order
-  pair_tells byte = Decides-like (is_fine byte (not wrong))
+  pub pair_tells : IsTrue (is_fine p.byte (not wrong)) ↔ IsSoundEdge p
+  pair_tells = Decides-like (is_fine p.byte (not wrong))
       (λ h. record { calm = h.0; small = λ s. (h.1 s).0; feasible = λ s. (h.1 s).1 })
       (λ s. (s.calm, λ t. (s.small t, s.feasible t)))
-      (fine_tells byte (not wrong)
-      (Decides-at (not wrong) (within COST_LIMIT cost && not (is_gt order))
-      (fine_both (within COST_LIMIT cost) (is_gt order))
-      (Decides-and (within COST_LIMIT cost) (not (is_gt order)) (within_tells COST_LIMIT cost)
+      (fine_tells p.byte (not wrong)
+      (Decides-at (not wrong) (within COST_LIMIT p.cost && not (is_gt order))
+      (fine_both (within COST_LIMIT p.cost) (is_gt order))
+      (Decides-and (within COST_LIMIT p.cost) (not (is_gt order)) (within_tells COST_LIMIT p.cost)
       (greater_tells order))))
 
   -- where the byte was not disturbed
-  sound_tight : (byte : ℕ) → says_disturbed byte ≡ false
-      → not (bit_and byte (bool_byte (is_eq (lex (plus left right) cost))) == 0)
-      ≡ adds_up (says_stands byte) left right cost
-  sound_tight byte calm =
-      let tight = is_eq (lex (plus left right) cost) in
-      ap (λ m. not (m == 0)) (and_byte byte tight (calm_byte byte calm))
-      ∙ byte_some (says_stands byte && tight)
+  sound_tight : says_disturbed p.byte ≡ false
+      → not (bit_and p.byte (bool_byte (is_eq order)) == 0) ≡ adds_up p
+  sound_tight calm =
+      ap (λ m. not (m == 0)) (and_byte p.byte (is_eq order) (calm_byte p.byte calm))
+      ∙ byte_some (adds_up p)
 
 -- ---- A row
 
 module _ {K : Type 0} (kind : Ghosts K) (costs : List K) (standing : List ℕ) (left : List ℤ)
     (right : List K) where
+  abbrev Each : ℕ → Type 0
+  Each = IsSoundRow kind costs standing left right
+
+  abbrev edge : ℕ → Edge
+  edge = edge_in kind costs standing left right
+
   -- what was gathered of the first k pairs tells whether they are sound, and if they are, the row
   -- has just the tight ones
   pub record IsGathered (k seen faults : ℕ) (row : BlockSet) : Type 0 where
     pub told : IsTrue (faultless seen faults) ↔ IsSoundRow kind costs standing left right k
     pub tight : IsSoundRow kind costs standing left right k
-        → HoldsPassing k (is_tight_in kind costs standing left right) row
+        → HoldsPassing k (λ r. adds_up (edge_in kind costs standing left right r)) row
 
-  -- one pair more, whose byte, price and cost were read from their tables
-  pub gathered_more : (r seen faults : ℕ) (row new : BlockSet) (byte : ℕ) (price cost : List ℤ)
-      (fault tight : ℕ) → IsGathered r seen faults row
-      → byte ≡ slice_index standing r → price ≡ columns_at kind right r
-      → cost ≡ columns_at kind costs r → fault ≡ bool_byte (wrong left price cost)
-      → tight ≡ bool_byte (is_eq (lex (plus left price) cost))
-      → ((j : ℕ) → has new j ≡ ((not (bit_and byte tight == 0) && j == r) || has row j))
-      → IsGathered (r + 1) (bit_or seen byte) (bit_or faults (bit_and byte fault)) new
-  gathered_more r seen faults row new byte price cost fault tight before read priced costed faulty
-      even put =
-      let off = wrong left price cost in
-      let same : ◌≡◌ {A = ℕ × (List ℤ × List ℤ)} (byte, (price, cost))
-      (slice_index standing r, (columns_at kind right r, columns_at kind costs r)) = cc in
-      let pair = λ (p : ℕ × (List ℤ × List ℤ)). IsSoundPair p.0 left p.1.0 p.1.1 in
-      let Each = IsSoundRow kind costs standing left right in
-      record {
-        told = Decides-at (faultless (bit_or seen byte) (bit_or faults (bit_and byte fault)))
-            (faultless seen faults && is_fine byte (not off))
-            (ap (λ x. faultless (bit_or seen byte) (bit_or faults (bit_and byte x)))
-            (faulty ∙ ap bool_byte (sym (not-not off))) ∙ gathered seen faults byte (not off))
-            (Decides-like (faultless seen faults && is_fine byte (not off))
-            (λ (h : Each r × IsSoundPair byte left price cost). below_more (λ j.
-            pair (slice_index standing j, (columns_at kind right j, columns_at kind costs j))) r
-            h.0 (subst pair same h.1))
-            (λ (s : Each (r + 1)). (
-              λ j i. s j (omega arith),
-              subst pair (sym same) (s r (omega arith)),
-            ))
-            (Decides-and (faultless seen faults) (is_fine byte (not off)) before.told
-            (pair_tells left price cost byte)));
-        tight = λ s. put_if row new r (is_tight_in kind costs standing left right)
-            (not (bit_and byte tight == 0)) (before.tight (λ j i. s j (omega arith)))
-            (ap (λ x. not (bit_and byte x == 0)) even
-            ∙ sound_tight left price cost byte (subst pair (sym same) (s r (omega arith))).calm
-            ∙ ap (λ p. adds_up (says_stands p.0) left p.1.0 p.1.1) same) put;
-      }
+  -- one pair more
+  pub gathered_more : (r seen faults : ℕ) (row new : BlockSet) (p : Edge) (fault tight : ℕ)
+      → IsGathered r seen faults row → p ≡ edge_in kind costs standing left right r
+      → fault ≡ bool_byte (wrong p) → tight ≡ bool_byte (is_eq (lex (plus p.left p.right) p.cost))
+      → ((j : ℕ) → has new j ≡ ((not (bit_and p.byte tight == 0) && j == r) || has row j))
+      → IsGathered (r + 1) (bit_or seen p.byte) (bit_or faults (bit_and p.byte fault)) new
+  gathered_more r seen faults row new p fault tight before read faulty even put = record {
+    told = Decides-at (faultless (bit_or seen p.byte) (bit_or faults (bit_and p.byte fault)))
+        (faultless seen faults && is_fine p.byte (not (wrong p)))
+        (ap (λ x. faultless (bit_or seen p.byte) (bit_or faults (bit_and p.byte x)))
+        (faulty ∙ ap bool_byte (sym (not-not (wrong p))))
+        ∙ gathered seen faults p.byte (not (wrong p)))
+        (Decides-like (faultless seen faults && is_fine p.byte (not (wrong p)))
+        (λ (h : Each r × IsSoundEdge p). below_more (λ j. IsSoundEdge (edge j)) r h.0
+        (subst IsSoundEdge read h.1))
+        (λ (s : Each (r + 1)). (
+          λ j i. s j (omega arith),
+          subst IsSoundEdge (sym read) (s r (omega arith)),
+        ))
+        (Decides-and (faultless seen faults) (is_fine p.byte (not (wrong p))) before.told
+        (pair_tells p)));
+    tight = λ s. put_if row new r (λ j. adds_up (edge j))
+        (not (bit_and p.byte tight == 0)) (before.tight (λ j i. s j (omega arith)))
+        (ap (λ x. not (bit_and p.byte x == 0)) even
+        ∙ sound_tight p (subst IsSoundEdge (sym read) (s r (omega arith))).calm
+        ∙ ap adds_up read) put;
+  }
 
 -- ---- All rows
 
@@ -143,28 +137,19 @@ each_place (suc m) P each k h =
     subst P e (each (k / suc m) ((div-lt_iff_lt-mul (omega arith)).1 h) (k % suc m) (omega arith))
 
 module _ {K : Type 0} (kind : Ghosts K) (t : Lent K) where
-  -- what the tables say of the pair of l and r: whether it is sound, and whether it is tight
-  abbrev pub IsSoundAt : ℕ → ℕ → Type 0
-  IsSoundAt l r = IsSoundPair (byte_of t.size t.standing l r) (left_price kind t l)
-      (right_price kind t r) (columns_at kind t.costs (place_of t.size l r))
-
-  abbrev pub is_tight_at : ℕ → ℕ → Bool
-  is_tight_at l r = adds_up (says_stands (byte_of t.size t.standing l r)) (left_price kind t l)
-      (right_price kind t r) (columns_at kind t.costs (place_of t.size l r))
-
-  abbrev sum : ℕ → ℕ → List ℤ
-  sum l r = plus (left_price kind t l) (right_price kind t r)
-
-  abbrev cost : ℕ → ℕ → List ℤ
-  cost l r = columns_at kind t.costs (place_of t.size l r)
-
-  abbrev even : ℕ → ℕ → Bool
-  even l r = is_eq (lex (sum l r) (cost l r))
+  -- what the tables say of the pair of l and r
+  abbrev pub edge_at : ℕ → ℕ → Edge
+  edge_at l r = record {
+    byte = byte_of t.size t.standing l r;
+    left = left_price kind t l;
+    right = right_price kind t r;
+    cost = columns_at kind t.costs (place_of t.size l r);
+  }
 
   -- the pairs of the left blocks below k are sound, and their rows hold what is tight
   pub record AreFilled (k : ℕ) (rows : List BlockSet) : Type 0 where
-    pub sound : (l : ℕ) → l < k → (r : ℕ) → r < rights_of t.size → IsSoundAt l r
-    pub tight : Made k (rights_of t.size) is_tight_at rows
+    pub sound : (l : ℕ) → l < k → (r : ℕ) → r < rights_of t.size → IsSoundEdge (edge_at l r)
+    pub tight : Made k (rights_of t.size) (λ l r. adds_up (edge_at l r)) rows
 
   module _ (room : HasRoom t) where
     -- one left block more, whose price was read from its table, by its parts of the pair tables
@@ -172,17 +157,12 @@ module _ {K : Type 0} (kind : Ghosts K) (t : Lent K) where
         (read : price ≡ slice_index_or t.left l price)
         (costs_are : costs ≡ part_of t.size l t.costs)
         (standing_are : standing ≡ part_of t.size l t.standing) where
-      -- a byte, a left price and a cost, as the parts say and as the tables say
-      pair_read : (r : ℕ) → r < rights_of t.size
-          → ◌≡◌ {A = ℕ × (List ℤ × List ℤ)}
-          (slice_index standing r, (kind.meaning price, columns_at kind costs r)) (
-            byte_of t.size t.standing l r,
-            (
-              left_price kind t l,
-              columns_at kind t.costs (place_of t.size l r),
-            ),
-          )
-      pair_read r i =
+      abbrev own : ℕ → Edge
+      own = edge_in kind costs standing (kind.meaning price) t.right
+
+      -- the parts say what the tables say
+      own_is : (r : ℕ) → r < rights_of t.size → own r ≡ edge_at l r
+      own_is r i =
           let e : slice_index standing r ≡ byte_of t.size t.standing l r =
           ap (λ xs. slice_index xs r) standing_are
           ∙ part_at t.size l t.standing inside room.standing_long r 0 i in
@@ -195,20 +175,17 @@ module _ {K : Type 0} (kind : Ghosts K) (t : Lent K) where
       pub filled_more : (rows : List BlockSet) (row : BlockSet) → l < length rows → AreFilled l rows
           → IsSoundRow kind costs standing (kind.meaning price) t.right (length t.right)
           → HoldsPassing (length t.right)
-          (is_tight_in kind costs standing (kind.meaning price) t.right) row
+          (λ r. adds_up (edge_in kind costs standing (kind.meaning price) t.right r)) row
           → AreFilled (l + 1) (slice_set rows l row)
       filled_more rows row in_rows before sound tight = record {
-        sound = below_more (λ k. (r : ℕ) → r < rights_of t.size → IsSoundAt k r) l before.sound
-            (λ r i. subst (λ p. IsSoundPair p.0 p.1.0 (right_price kind t r) p.1.1)
-            (pair_read r i) (sound r (omega (arith, room.right_long))));
-        tight = row_made (rights_of t.size) l is_tight_at rows row in_rows before.tight
-            (passing_like (rights_of t.size)
-            (is_tight_in kind costs standing (kind.meaning price) t.right) (is_tight_at l) row
-            (λ r i. ap (λ p. adds_up (says_stands p.0) p.1.0 (right_price kind t r) p.1.1)
-            (pair_read r i))
-            (subst (λ k. HoldsPassing k
-            (is_tight_in kind costs standing (kind.meaning price) t.right) row)
-            room.right_long tight));
+        sound = below_more (λ k. (r : ℕ) → r < rights_of t.size → IsSoundEdge (edge_at k r)) l
+            before.sound
+            (λ r i. subst IsSoundEdge (own_is r i) (sound r (omega (arith, room.right_long))));
+        tight = row_made (rights_of t.size) l (λ k r. adds_up (edge_at k r)) rows row in_rows
+            before.tight
+            (passing_like (rights_of t.size) (λ r. adds_up (own r))
+            (λ r. adds_up (edge_at l r)) row (λ r i. ap adds_up (own_is r i))
+            (subst (λ k. HoldsPassing k (λ r. adds_up (own r)) row) room.right_long tight));
       }
 
       pub row_of_sound : IsSound kind t
@@ -216,8 +193,7 @@ module _ {K : Type 0} (kind : Ghosts K) (t : Lent K) where
       row_of_sound s r i =
           let j : r < rights_of t.size = omega (arith, room.right_long) in
           let place = mul-add-lt l t.size r t.size inside j in
-          subst (λ p. IsSoundPair p.0 p.1.0 (right_price kind t r) p.1.1) (sym (pair_read r j))
-          (record {
+          subst IsSoundEdge (sym (own_is r j)) (record {
             calm = s.in_order.bytes (place_of t.size l r) place;
             small = s.in_order.small (place_of t.size l r) place;
             feasible = s.feasible l r inside j;
@@ -249,28 +225,31 @@ module _ {K : Type 0} (kind : Ghosts K) (t : Lent K) where
           → AreTightRows kind t rows
       tight_rows wide long = record {
         long = long;
-        held = λ l r i. (
-          λ e.
-              let there = and_parts (nat_lt r (rights_of t.size)) (is_tight_at l r)
-              (sym (filled.tight l r i) ∙ e) in
-              let j = ltb-true r (rights_of t.size) there.0 in
-              let both = and_parts (says_stands (byte_of t.size t.standing l r)) (even l r) there.1
-              in
-              record {
-                inside = j;
-                stands = both.0;
-                tight = lex_same (sum l r) (cost l r) (sized l r i j)
-                    ((Equal-is (lex (sum l r) (cost l r))).0 both.1);
-              },
-          λ edge. filled.tight l r i ∙ and_from (nat_lt r (rights_of t.size)) (is_tight_at l r)
-              (lt-ltb r (rights_of t.size) edge.inside)
-              (and_from (says_stands (byte_of t.size t.standing l r)) (even l r) edge.stands
-              (ap (λ x. is_eq (lex x (cost l r))) edge.tight ∙ ap is_eq (lex_refl (cost l r)))),
-        );
+        held = λ l r i.
+            let p = edge_at l r in
+            let sum = plus p.left p.right in
+            let even = is_eq (lex sum p.cost) in (
+              λ e.
+                  let there = and_parts (nat_lt r (rights_of t.size)) (adds_up p)
+                  (sym (filled.tight l r i) ∙ e) in
+                  let j = ltb-true r (rights_of t.size) there.0 in
+                  let both = and_parts (says_stands p.byte) even there.1 in
+                  record {
+                    inside = j;
+                    stands = both.0;
+                    tight = lex_same sum p.cost (sized l r i j)
+                        ((Equal-is (lex sum p.cost)).0 both.1);
+                  },
+              λ edge. filled.tight l r i ∙ and_from (nat_lt r (rights_of t.size)) (adds_up p)
+                  (lt-ltb r (rights_of t.size) edge.inside)
+                  (and_from (says_stands p.byte) even edge.stands
+                  (ap (λ x. is_eq (lex x p.cost)) edge.tight ∙ ap is_eq (lex_refl p.cost))),
+            );
       }
         where
           sized : (l r : ℕ) → l < t.size → r < rights_of t.size
-              → length (sum l r) ≡ length (cost l r)
+              → length (plus (left_price kind t l) (right_price kind t r))
+              ≡ length (columns_at kind t.costs (place_of t.size l r))
           sized l r i j =
               let a = columns_sized kind wide t.left l (omega (arith, room.left_long)) in
               let b = columns_sized kind wide t.right r (omega (arith, room.right_long)) in

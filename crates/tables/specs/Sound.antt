@@ -22,26 +22,36 @@ pub record IsSound {K : Type 0} (kind : Ghosts K) (t : Lent K) : Type 0 where
 
 -- ---- The pairs of one left block
 
--- one pair is sound, by its standing byte, its two prices and its cost
-pub record IsSoundPair (byte : ℕ) (left right cost : List ℤ) : Type 0 where
-  pub calm : says_disturbed byte ≡ false
-  pub small : says_stands byte ≡ true → Within COST_LIMIT cost
-  pub feasible : says_stands byte ≡ true → Upto (plus left right) cost
+-- an edge as lent tables show it: the standing byte of the pair, the columns of its two prices and
+-- of its cost
+pub record Edge : Type 0 where
+  pub byte : ℕ
+  pub left : List ℤ
+  pub right : List ℤ
+  pub cost : List ℤ
+
+-- the edge is sound
+pub record IsSoundEdge (p : Edge) : Type 0 where
+  pub calm : says_disturbed p.byte ≡ false
+  pub small : says_stands p.byte ≡ true → Within COST_LIMIT p.cost
+  pub feasible : says_stands p.byte ≡ true → Upto (plus p.left p.right) p.cost
 
 -- it stands and costs just its two prices
-abbrev pub adds_up : Bool → (left right cost : List ℤ) → Bool
-adds_up stands left right cost = stands && is_eq (lex (plus left right) cost)
+abbrev pub adds_up : Edge → Bool
+adds_up p = says_stands p.byte && is_eq (lex (plus p.left p.right) p.cost)
 
--- what is told of each pair of a left block, by its price, its parts of the pair tables and the
--- right prices
 module _ {K : Type 0} (kind : Ghosts K) (costs : List K) (standing : List ℕ) (left : List ℤ)
     (right : List K) where
-  -- the first k pairs are sound
-  abbrev pub IsSoundRow : ℕ → Type 0
-  IsSoundRow k = (r : ℕ) → r < k → IsSoundPair (slice_index standing r) left
-      (columns_at kind right r) (columns_at kind costs r)
+  -- the edge of a left block and right block r, by the left price, the left block's parts of the
+  -- pair tables and the right prices
+  abbrev pub edge_in : ℕ → Edge
+  edge_in r = record {
+    byte = slice_index standing r;
+    left = left;
+    right = columns_at kind right r;
+    cost = columns_at kind costs r;
+  }
 
-  -- the pair is tight
-  abbrev pub is_tight_in : ℕ → Bool
-  is_tight_in r = adds_up (says_stands (slice_index standing r)) left (columns_at kind right r)
-      (columns_at kind costs r)
+  -- its first k pairs are sound
+  abbrev pub IsSoundRow : ℕ → Type 0
+  IsSoundRow k = (r : ℕ) → r < k → IsSoundEdge (edge_in r)

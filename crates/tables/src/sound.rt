@@ -10,7 +10,7 @@ ghost use Rattle.cost.specs.Columns.{Within, plus, lex};
 ghost use Rattle.tables.specs.Said.{Bounded};
 ghost use Rattle.tables.specs.Lent.{ArePriced};
 ghost use Rattle.tables.specs.PairRows.{HoldsPassing, AreTightRows};
-ghost use Rattle.tables.specs.Sound.{IsSound, IsSoundRow, is_tight_in};
+ghost use Rattle.tables.specs.Sound.{IsSound, IsSoundRow, edge_in, adds_up};
 
 use crate::lent::Tables;
 use crate::pair_tables::part_of;
@@ -44,7 +44,7 @@ fn sound_row<K: Cost>(costs: &[K], standing: &[u8], left: K, right: &[K]) -> Opt
     ensures sound { IfSome result (λ _. IsSoundRow K.Cost costs.now standing.now
         (K.meaning left) right.now (length right.now)) }
     ensures tight { IfSome result (HoldsPassing (length right.now)
-        (is_tight_in K.Cost costs.now standing.now (K.meaning left) right.now)) }
+        (λ r. adds_up (edge_in K.Cost costs.now standing.now (K.meaning left) right.now r))) }
 {
     // Each bit that some byte has, and not 0 if a standing pair has a fault.
     let mut seen = 0;
