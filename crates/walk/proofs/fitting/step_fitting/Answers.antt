@@ -1,14 +1,24 @@
 -- The pairings over the rows are the optimum ones, so what is none there is no optimum pairing, and
 -- a step there is one among them.
-use Rattle.std.proofs.Common.{sym, refl, subst}
+use Rattle.std.proofs.Common.{List, ℕ, ◌+◌, sym, refl, ap, ◌∙◌, subst}
 use Rattle.std.proofs.lemmas.Bool.{false≢true}
 use Rattle.std.proofs.lemmas.Bool.Decides.{not_from_Decides}
+use Rattle.pairing.specs.Grid.{Grid, Optimum}
+use Rattle.pairing.specs.Optima.{optima}
 use Rattle.pairing.specs.Rows.{Pairs, pairings}
 use Rattle.matching.specs.Answers.{Follows}
+use Rattle.matching.specs.declared.stepping.Step.{Step}
+use Rattle.matching.specs.declared.stepping.Step.TheVariants.{Next, End}
+use Rattle.matching.proofs.Nth.{nth_optimum}
 use Rattle.tables.specs.Lent.{grid}
 use Rattle.walk.proofs.Judging.{optimum_over}
-use Rattle.walk.proofs.Walking.{follows, step_optimum}
 use Rattle.walk.proofs.fitting.step_fitting.Goals as goal
+
+-- what a step leaves in its list is an optimum pairing
+step_optimum : (g : Grid) (before after : List ℕ) (s : Step)
+    → Follows (optima g) before after s → Optimum g after
+step_optimum g before after Next h = nth_optimum g (h.0 + 1) after h.2
+step_optimum g before after End h = subst (Optimum g) (sym h.3) (nth_optimum g h.0 before h.1)
 
 pub returns-then-not-pairs_each_row-clause-accepted :
     goal.returns-then-not-pairs_each_row-clause-accepted
@@ -36,10 +46,9 @@ returns-clause-accepted g c =
 
 pub returns-clause-steps : goal.returns-clause-steps
 returns-clause-steps g c =
-    follows g.K.Cost c.args.tables.now c.in-Some.rows c.in-Some.ensures.certified c.args.walk.now
-    c.advance.new.p c.advance.result
-    (subst (λ rs. Follows (pairings rs) c.args.walk.now c.advance.new.p c.advance.result)
-    c.as_slice-2.ensures.rows c.advance.ensures)
+    subst (λ ps. Follows ps c.args.walk.now c.advance.new.p c.advance.result)
+    (ap pairings c.as_slice-2.ensures.rows ∙ c.in-Some.ensures.certified.optima_are)
+    c.advance.ensures
 
 pub returns-clause-optimum : goal.returns-clause-optimum
 returns-clause-optimum g c = step_optimum (grid g.K.Cost c.args.tables.now) c.args.walk.now
