@@ -2,7 +2,8 @@
 -- Idea: the count from a place on is that of the place and of what is left past it, and a test of
 -- all places holds at each.
 use Rattle.std.proofs.Common.{◌≡◌, ℕ, ◌+◌, ◌<◌, ◌≤◌, true, if◌then◌else◌, not, ◌||◌, Bool, zip}
-use Rattle.std.proofs.Common.{List, length, get_or, drop, ℤ, sym, ap, ◌∙◌, count_by, arith}
+use Rattle.std.specs.Prelude.{slice_index, slice_index_or}
+use Rattle.std.proofs.Common.{List, length, drop, ℤ, sym, ap, ◌∙◌, count_by, arith}
 use Rattle.std.proofs.lemmas.List.Elements.{All-get_or}
 use Rattle.std.proofs.lemmas.List.Sums.{sum_by-cons, AllPass-from_list_all}
 use Rattle.std.proofs.lemmas.List.{drop_more, drop_all}
@@ -14,10 +15,10 @@ use Rattle.tables.specs.PairTables.{is_place_in_order, in_order, says_stands, sa
 
 -- the pairs that stand from a place on
 pub standing_more : (bytes : List ℕ) (k : ℕ) → k < length bytes
-    → count_by says_stands (drop k bytes) ≡ (if says_stands (get_or bytes k 0) then 1 else 0)
+    → count_by says_stands (drop k bytes) ≡ (if says_stands (slice_index bytes k) then 1 else 0)
     + count_by says_stands (drop (k + 1) bytes)
 standing_more bytes k h = ap (count_by says_stands) (drop_more bytes k 0 h)
-    ∙ sum_by-cons (λ byte. if says_stands byte then 1 else 0) (get_or bytes k 0)
+    ∙ sum_by-cons (λ byte. if says_stands byte then 1 else 0) (slice_index bytes k)
     (drop (k + 1) bytes)
 
 pub standing_all : (bytes : List ℕ) (k : ℕ) → length bytes ≤ k
@@ -27,7 +28,7 @@ standing_all bytes k h = ap (count_by says_stands) (drop_all k bytes h)
 -- what tables that are in order tell of a place
 pub in_order-at : {K : Type 0} (meaning : K → List ℤ) (costs : List K) (bytes : List ℕ) (d : K)
     (k : ℕ) → k < length costs → k < length bytes → in_order meaning costs bytes ≡ true
-    → is_place_in_order (meaning (get_or costs k d)) (get_or bytes k 0) ≡ true
+    → is_place_in_order (meaning (slice_index_or costs k d)) (slice_index bytes k) ≡ true
 in_order-at {K} meaning costs bytes d k h i e =
     let test : K × ℕ → Bool = λ place. is_place_in_order (meaning place.0) place.1 in
     ap test (sym (get_or-zip costs bytes k (d, 0) h i))
