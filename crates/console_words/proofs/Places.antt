@@ -3,6 +3,7 @@
 use Rattle.std.proofs.Common.{◌≡◌, ◌≢◌, ℕ, List, [], ◌∷◌, ◌++◌, ap, sym, ◌∙◌, refl}
 use Rattle.std.proofs.Common.{append_assoc, ⊎_elim, false, subst, arith}
 use Rattle.std.proofs.lemmas.Bool.{cases_Bool, cond-false, eqb-true}
+use Rattle.std.proofs.lemmas.List.{map-append}
 use Rattle.std.specs.Prelude.{ℤ, pos, neg_ℤ, map, ◌==◌}
 use Rattle.std.specs.Str.Parse.{IsNumeral, digits_value}
 use Rattle.std.specs.Str.Parse.{without_leading_plus, without_leading_sign}
@@ -18,18 +19,13 @@ all_fit_more [] ts (x ∷ xs) ys a b = absurd a
 all_fit_more (s ∷ ss) ts [] ys a b = absurd a
 all_fit_more (s ∷ ss) ts (x ∷ xs) ys a b = (a.0, all_fit_more ss ts xs ys a.1 b)
 
-map_more : (xs ys : List (List ℕ))
-    → map integer_in (xs ++ ys) ≡ map integer_in xs ++ map integer_in ys
-map_more [] ys = refl
-map_more (x ∷ xs) ys = ap (λ zs. integer_in x ∷ zs) (map_more xs ys)
-
 pub takes_more : (ss ts : List Slot) (old mid new : List (List ℕ)) (xs ys : List ℤ)
     → Takes ss old mid xs → Takes ts mid new ys → Takes (ss ++ ts) old new (xs ++ ys)
 takes_more ss ts old mid new xs ys a b = (
   a.0 ++ b.0,
   a.1 ∙ ap (λ ws. a.0 ++ ws) b.1 ∙ sym (append_assoc a.0 b.0 new),
   all_fit_more ss ts a.0 b.0 a.2 b.2,
-  ap (λ zs. zs ++ ys) a.3 ∙ ap (λ zs. map integer_in a.0 ++ zs) b.3 ∙ sym (map_more a.0 b.0),
+  ap (λ zs. zs ++ ys) a.3 ∙ ap (λ zs. map integer_in a.0 ++ zs) b.3 ∙ sym (map-append integer_in a.0 b.0),
 )
 
 long : (form : List ℕ) (ss : List Slot) (xs ws : List (List ℕ)) (c : Complaint)

@@ -70,7 +70,7 @@ returns g c =
           w.as_slice.ensures.value step.0.2 in
           let takes = subst (λ n. TakesLine (n + 1) line c.loop-k.console w.in_ok-next.next
           w.in_ok-next.turn) step.1 w.in_ok-next.ensures in
-          ends_when_asked known left left' old new number c.loop-k.console w.in_ok-next.next line
-          c.loop-k.invariant.1 taken (subst (λ t. TakesLine number line c.loop-k.console
+          ends_when_asked known left old new number c.loop-k.console c.loop-k.invariant.1 left'
+          w.in_ok-next.next line taken (subst (λ t. TakesLine number line c.loop-k.console
           w.in_ok-next.next t) w.in-Over.is takes)
     ]
