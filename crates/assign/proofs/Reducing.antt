@@ -148,7 +148,7 @@ pub step_of : {K : Type 0} {kind : Ghosts K} {rows : List BlockSet} {costs : Lis
     → Bounded kind REDUCED_LIMIT (length rows) before.right
     → {out' : ℕ → Bool} {p' : List ℕ}
     → IsSeated (length rows) before.out before.partners l taken.block out' p' → (o' : Holders)
-    → Holding 0 (length rows) p' out' (has o'.held) o'.row
+    → Holding 0 p' out' o'
     → ((c : ℕ) → has o'.held c ≡ (eqb c taken.block || has before.holders.held c))
     → IsStep kind rows costs l before
     (so_far out' p' o' (set before.right taken.block taken.price))
