@@ -84,8 +84,8 @@ module _ (order : Order) (costs₀ : List Plain) (standing₀ : List ℕ) where
     meets_size ec es = record {
       clear = λ at. size_sound order.size (flat_map pair_field order.pairs ++ end_field) at
           sound.some sound.few;
-      fits = λ p e. let z : ◌≡◌ {A = ℕ} 0 1 = cc in absurd (omega arith);
-      enters = λ p e. let z : ◌≡◌ {A = ℕ} 0 1 = cc in absurd (omega arith);
+      fits = λ p e. cc;
+      enters = λ p e. cc;
       passes = λ next e other. (
         refl,
         record {
@@ -138,8 +138,8 @@ module _ (order : Order) (costs₀ : List Plain) (standing₀ : List ℕ) where
       meets_end : order.pairs ≡ done → Meets (Sized order.size) end_field costs standing
       meets_end all = record {
         clear = λ at. end_sound order.size [] at;
-        fits = λ p e. let z : ◌≡◌ {A = ℕ} 0 1 = cc in absurd (omega arith);
-        enters = λ p e. let z : ◌≡◌ {A = ℕ} 0 1 = cc in absurd (omega arith);
+        fits = λ p e. cc;
+        enters = λ p e. cc;
         passes = λ next e other. (
           refl,
           record {
@@ -176,9 +176,9 @@ module _ (order : Order) (costs₀ : List Plain) (standing₀ : List ℕ) where
     meets (Ended n) rest h = subst (λ (r : List ℕ). Meets (Ended n) r costs standing) (sym h.0)
         (record {
           clear = λ at. refl;
-          fits = λ p e. let z : ◌≡◌ {A = ℕ} 0 1 = cc in absurd (omega arith);
-          enters = λ p e. let z : ◌≡◌ {A = ℕ} 0 1 = cc in absurd (omega arith);
-          passes = λ next e other. let z : ◌≡◌ {A = ℕ} 0 1 = cc in absurd (omega arith);
+          fits = λ p e. cc;
+          enters = λ p e. cc;
+          passes = λ next e other. cc;
         })
 
 -- a call of `next` on a record reader that stands where this is ahead
@@ -207,7 +207,7 @@ module _ (order : Order) (costs₀ : List Plain) (standing₀ : List ℕ) (sound
       (next_record stage rest) → ⊥
   never_refused f e =
       let known = from_err _ _ f e in let clear = met.clear at in
-      let z : ◌≡◌ {A = ℕ} 0 1 = cc in omega arith
+      cc
 
   -- where it hands out a pair, the sheet takes it, and this is ahead once it was entered
   pub handed_next : (p : StatedPair) → Ok (Some (Pair p)) ≡ answer (field_fault stage rest at)

@@ -33,12 +33,12 @@ or_else_some None b z e = inr e
 
 cond_some : (b : Bool) (x z : ℤ) → cond b (Some x) None ≡ Some z → x ≡ z
 cond_some true x z e = cc
-cond_some false x z e = let z : ◌≡◌ {A = ℕ} 0 1 = cc in absurd (omega arith)
+cond_some false x z e = cc
 
 -- they are within the limit
 stated_small : (n : ℕ) (ps : List StatedPair) → AllByRecursion (PairFits n) ps → (l r : ℕ) (z : ℤ)
     → cost_stated ps l r ≡ Some z → nat_abs z ≤ 1000000000
-stated_small n [] s l r z e = let z : ◌≡◌ {A = ℕ} 0 1 = cc in absurd (omega arith)
+stated_small n [] s l r z e = cc
 stated_small n (p ∷ ps) s l r z e =
     ⊎_elim (λ later. stated_small n ps s.1 l r z later)
     (λ here. subst (λ x. nat_abs x ≤ 1000000000)
@@ -50,15 +50,15 @@ stated_small n (p ∷ ps) s l r z e =
 cell_stands : (b : Bool) (x : Plain) (o : Option ℤ) → cond b (Some x) None ≡ option_map plain o
     → b ≡ is_some o
 cell_stands true x (Some z) e = refl
-cell_stands true x None e = let z : ◌≡◌ {A = ℕ} 0 1 = cc in absurd (omega arith)
-cell_stands false x (Some z) e = let z : ◌≡◌ {A = ℕ} 0 1 = cc in absurd (omega arith)
+cell_stands true x None e = cc
+cell_stands false x (Some z) e = cc
 cell_stands false x None e = refl
 
 cell_cost : (b : Bool) (x : Plain) (o : Option ℤ) → cond b (Some x) None ≡ option_map plain o
     → b ≡ true → (z : ℤ) × (o ≡ Some z) × (x ≡ plain z)
 cell_cost true x (Some z) e h = (z, refl, cc)
-cell_cost true x None e h = let z : ◌≡◌ {A = ℕ} 0 1 = cc in absurd (omega arith)
-cell_cost false x o e h = let z : ◌≡◌ {A = ℕ} 0 1 = cc in absurd (omega arith)
+cell_cost true x None e h = cc
+cell_cost false x o e h = cc
 
 module _ (order : Order) (sound : AllByRecursion (PairFits order.size) order.pairs)
     (costs : List Plain) (standing : List ℕ) (long : length costs ≡ places_of order.size)

@@ -45,11 +45,9 @@ module _ (file : List ℕ) (costs : List Plain) (standing : List ℕ) (costs' : 
       (λ o. ⊎_elim
       (λ fit. let a = h.loads o.0 o.1 fit in let same : sheet.size ≡ o.0.size =
       let e = a.answers in cc in (o.0, o.1, fit, same, a))
-      (λ unfit. let e = (h.misfits o.0 o.1 unfit).answers in let z : ◌≡◌ {A = ℕ} 0 1 = cc in
-      absurd (omega arith))
+      (λ unfit. let e = (h.misfits o.0 o.1 unfit).answers in cc)
       (fits_or_not o.0.size))
-      (λ g. let e = (h.faulty g.0 g.1).answers in let z : ◌≡◌ {A = ℕ} 0 1 = cc in
-      absurd (omega arith))
+      (λ g. let e = (h.faulty g.0 g.1).answers in cc)
       h.verdict.some
 
   -- it refused
@@ -59,8 +57,7 @@ module _ (file : List ℕ) (costs : List Plain) (standing : List ℕ) (costs' : 
       × (costs' ≡ costs) × (standing' ≡ standing)
   loaded_err f h = ⊎_elim
       (λ o. ⊎_elim
-      (λ fit. let e = (h.loads o.0 o.1 fit).answers in let z : ◌≡◌ {A = ℕ} 0 1 = cc in
-      absurd (omega arith))
+      (λ fit. let e = (h.loads o.0 o.1 fit).answers in cc)
       (λ unfit. let no' = h.misfits o.0 o.1 unfit in
       let same : f ≡ fault TableLength 0 = let e = no'.answers in cc in
       (inr (o.0, o.1, unfit, same), no'.costs_stay, no'.standing_stays))

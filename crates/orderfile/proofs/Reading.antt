@@ -92,10 +92,8 @@ pub reading_done : (file : List ℕ) (stage : Stage) (rest : List ℕ) (at size 
     → IsReadTo file stage rest at → IsKnownSize stage size → field_fault stage rest at ≡ None
     → next_record stage rest ≡ None
     → (order : Order) × States file order × (size ≡ order.size)
-reading_done file Start rest at size h known e none = let z : ◌≡◌ {A = ℕ} 0 1 = cc in
-    absurd (omega arith)
-reading_done file (Sized n) rest at size h known e none = let z : ◌≡◌ {A = ℕ} 0 1 = cc in
-    absurd (omega arith)
+reading_done file Start rest at size h known e none = cc
+reading_done file (Sized n) rest at size h known e none = cc
 reading_done file (Ended n) rest at size h known e none =
     let empty : rest ≡ [] =
     nil_from_length rest (eqb-true _ _ (required (eqb (length rest) 0) _ None e).0) in (
@@ -114,7 +112,7 @@ stage_is Start rest next e = let same : record_in (tag_of rest) (value_of rest) 
     ap (stage_after Start) same
 stage_is (Sized n) rest next e = let same : record_in (tag_of rest) (value_of rest) ≡ next = cc in
     ap (stage_after (Sized n)) same
-stage_is (Ended n) rest next e = let z : ◌≡◌ {A = ℕ} 0 1 = cc in absurd (omega arith)
+stage_is (Ended n) rest next e = cc
 
 pub known_still : (stage : Stage) (next : Record) (size : ℕ) → ((n : ℕ) → next ≡ Size n → ⊥)
     → IsKnownSize stage size → IsKnownSize (stage_after stage next) size
@@ -129,7 +127,7 @@ record_long : (stage : Stage) (rest : List ℕ) (next : Record) → next_record 
     → 3 ≤ record_length stage rest
 record_long Start rest next e = omega arith
 record_long (Sized n) rest next e = omega arith
-record_long (Ended n) rest next e = let z : ◌≡◌ {A = ℕ} 0 1 = cc in absurd (omega arith)
+record_long (Ended n) rest next e = cc
 
 -- what a call of `next` on a record reader tells
 module _ (stage : Stage) (rest : List ℕ) (at : ℕ) (stage' : Stage) (rest' : List ℕ) (at' : ℕ)

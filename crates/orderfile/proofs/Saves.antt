@@ -167,7 +167,7 @@ module _ (n : ℕ) (some : 1 ≤ n) (few : n ≤ 64) (costs : List Plain) (stand
       → Saved n costs standing out r out'
   saved r out' e er w = record {
     answers = er ∙ accepted _ _ e;
-    stays = λ f s. let z : ◌≡◌ {A = ℕ} 0 1 = cc in absurd (omega arith);
+    stays = λ f s. cc;
     writes = λ _. w;
     reloads = λ _. reloads out' (save_places n costs standing (length out) e).costs w;
   }
@@ -177,8 +177,8 @@ module _ (n : ℕ) (some : 1 ≤ n) (few : n ≤ 64) (costs : List Plain) (stand
   not_saved f r out' e er same = record {
     answers = er ∙ refused _ _ _ e;
     stays = λ g s. same;
-    writes = λ s. let z : ◌≡◌ {A = ℕ} 0 1 = cc in absurd (omega arith);
-    reloads = λ s. let z : ◌≡◌ {A = ℕ} 0 1 = cc in absurd (omega arith);
+    writes = λ s. cc;
+    reloads = λ s. cc;
   }
 
 -- the bytes of the listed pairs, by their number

@@ -27,7 +27,7 @@ CannotGoOn (Sized n) rest = BeginsNoPair n rest × ((more : List ℕ) → rest �
 CannotGoOn (Ended n) rest = Unit {0}
 
 never : (f : Fault) → Some f ≡ None → ⊥
-never f e = let z : ◌≡◌ {A = ℕ} 0 1 = cc in omega arith
+never f e = cc
 
 stuck_at : (stage : Stage) (rest : List ℕ) (at : ℕ) (f : Fault) → field_fault stage rest at ≡ Some f
     → CannotGoOn stage rest
