@@ -27,7 +27,7 @@ use Rattle.orderfile.proofs.Verdicts.{one_order, one_fault, not_both, verdict_or
 pub checked_err : (file : List ℕ) (f : Fault) → IsChecked file (Err f) → FirstFault file f
 checked_err file f h =
     ⊎_elim
-    (λ o. let e = h.states o.0 o.1 in let z : ◌≡◌ {A = ℕ} 0 1 = cc in absurd (omega arith))
+    (λ o. let e = h.states o.0 o.1 in cc)
     (λ g. let e = h.faulty g.0 g.1 in let same : g.0 ≡ f = cc in
     subst (λ (x : Fault). FirstFault file x) same g.1)
     h.verdict.some
@@ -37,7 +37,7 @@ pub checked_ok : (file : List ℕ) (n : ℕ) → IsChecked file (Ok n) → (orde
 checked_ok file n h =
     ⊎_elim
     (λ o. let e = h.states o.0 o.1 in let same : o.0.size ≡ n = cc in (o.0, o.1, same))
-    (λ g. let e = h.faulty g.0 g.1 in let z : ◌≡◌ {A = ℕ} 0 1 = cc in absurd (omega arith))
+    (λ g. let e = h.faulty g.0 g.1 in cc)
     h.verdict.some
 
 module _ (file : List ℕ) (costs : List Plain) (standing : List ℕ) (r : Result Sheet Fault)
