@@ -2,7 +2,7 @@
 -- Idea: a perfect pairing has only standing pairs of blocks there are, so its costs are the same.
 -- Everything else is said of perfect pairings and of standing pairs. One direction suffices, since
 -- the grids can change places. Their sizes and columns are taken as the very same first.
-use Rattle.std.proofs.Common.{◌≡◌, ℕ, zero, suc, ◌<◌, ◌≤◌, Bool, true, List, length, ℤ, sym}
+use Rattle.std.proofs.Common.{◌≡◌, ℕ, zero, suc, ◌≤◌, Bool, List, length, ℤ, sym}
 use Rattle.std.proofs.Common.{refl, ap, ◌∙◌, subst, ap₂, ltb, ◌&&◌, ◌↔◌, arith}
 use Rattle.cost.specs.declared.TheConstants.{COST_LIMIT}
 use Rattle.cost.specs.Columns.{Within, plus}

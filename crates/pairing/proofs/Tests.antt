@@ -2,8 +2,8 @@
 -- marked, for the worked examples.
 -- Idea: everything that is said of a grid's blocks is said of finitely many, so a test can go
 -- through them; where it passes, the fact holds.
-use Rattle.std.proofs.Common.{◌≡◌, ℕ, ◌<◌, Bool, true, false, not, ◌&&◌, ◌||◌, eqb, ltb, leb, List}
-use Rattle.std.proofs.Common.{length, ℤ, Decides, sym, refl, subst}
+use Rattle.std.proofs.Common.{◌≡◌, ℕ, ◌<◌, Bool, true, not, ◌&&◌, ◌||◌, eqb, ltb, leb, List}
+use Rattle.std.proofs.Common.{length, ℤ, Decides, subst}
 use Rattle.std.proofs.Common.{inl, inr, arith}
 use Rattle.std.specs.Ordering.{is_eq}
 use Rattle.std.specs.Cmp.{Equal-is}
@@ -23,11 +23,11 @@ use Rattle.pairing.proofs.Members.{some_below, all_below, some_tells, all_tells}
 use Rattle.pairing.proofs.Attained.{Attained, attained_greatest}
 
 -- a test that passes for every number below n passes for each
-passes : (n : ℕ) (t : ℕ → Bool) → all_below n t ≡ true → (k : ℕ) → k < n → t k ≡ true
+pub passes : (n : ℕ) (t : ℕ → Bool) → all_below n t ≡ true → (k : ℕ) → k < n → t k ≡ true
 passes n t e = (all_tells n t (λ k. t k ≡ true) (λ k. (λ x. x, λ x. x))).0 e
 
 -- b, where a
-abbrev implies : Bool → Bool → Bool
+abbrev pub implies : Bool → Bool → Bool
 implies a b = not a || b
 
 implied : (a b : Bool) → implies a b ≡ true → a ≡ true → b ≡ true
@@ -44,16 +44,17 @@ level_same xs ys e =
     lex_same xs ys (eqb-true (length xs) (length ys) b.0) ((Equal-is (lex xs ys)).0 b.1)
 
 -- ---- the standing pairs
-abbrev at_standing : Grid → (ℕ → ℕ → Bool) → Bool
+abbrev pub at_standing : Grid → (ℕ → ℕ → Bool) → Bool
 at_standing g t = all_below g.size
     (λ l. all_below (right_count g) (λ r. implies (g.stands l r) (t l r)))
 
-standing_pass : (g : Grid) (t : ℕ → ℕ → Bool) → at_standing g t ≡ true → (l r : ℕ) → l < g.size
+pub standing_pass : (g : Grid) (t : ℕ → ℕ → Bool) → at_standing g t ≡ true → (l r : ℕ) → l < g.size
     → r < right_count g → g.stands l r ≡ true → t l r ≡ true
-standing_pass g t e l r i j s = implied (g.stands l r) (t l r)
-    (passes (right_count g) (λ r. implies (g.stands l r) (t l r))
-    (passes g.size (λ l. all_below (right_count g) (λ r. implies (g.stands l r) (t l r))) e l i) r j)
-    s
+standing_pass g t e l r i j =
+    let row = passes g.size
+    (λ l. all_below (right_count g) (λ r. implies (g.stands l r) (t l r))) e l i in
+    implied (g.stands l r) (t l r)
+    (passes (right_count g) (λ r. implies (g.stands l r) (t l r)) row r j)
 
 -- ---- a sane grid
 abbrev sane_pair : Grid → ℕ → ℕ → Bool
