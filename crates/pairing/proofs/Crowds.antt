@@ -127,6 +127,7 @@ module _ (n : ℕ) (stands : ℕ → ℕ → Bool) where
             λ q G g. omega (arith, few q G g, pairs_and_out n out, pairs_and_out n G);
       }
 
+  -- some left block has r
   is_held : (p : List ℕ) (out : ℕ → Bool) (r : ℕ) → Bool
   is_held p out r = some_below n (λ x. not (out x) && eqb (at p x) r)
 

@@ -115,36 +115,35 @@ module _ (g : Grid) (s : Sane g) where
   -- a standing pair and its two prices
   module _ (left right : ℕ → List ℤ) (l r : ℕ) (i : l < g.size) (j : r < g.size)
       (t : g.stands l r ≡ true) (v : Value g.columns (left l)) (w : Value g.columns (right r)) where
+    -- the two prices together and the cost compare as they weigh
+    sized : length (plus (left l) (right r)) ≡ length (g.cost l r)
+    sized = plus_sized g.columns (left l) (right r) v w ∙ sym (s.sized l r i j t)
+
+    light : IsLight (plus (left l) (right r))
+    light = plus_light g.columns (left l) (right r) v w
+
+    cost_light : IsLight (g.cost l r)
+    cost_light = value_light g.columns (g.cost l r) (cost_value l r i j t)
+
+    both : weight (plus (left l) (right r)) ≡ weight (left l) +ℤ weight (right r)
+    both = value_plus g.columns (left l) (right r) v w
+
     pub price_upto : Upto (plus (left l) (right r)) (g.cost l r)
         → (weight (left l) +ℤ weight (right r)) ≤ℤ weight (g.cost l r)
     price_upto u =
-        let c = cost_value l r i j t in
-        let e = value_plus g.columns (left l) (right r) v w in
-        let h = upto_is (plus (left l) (right r)) (g.cost l r)
-        (plus_sized g.columns (left l) (right r) v w ∙ sym c.sized)
-        (plus_light g.columns (left l) (right r) v w) (value_light g.columns (g.cost l r) c) u
-        in
-        omega (arith, ints)
+        let h = upto_is (plus (left l) (right r)) (g.cost l r) sized light cost_light u in
+        omega (arith, ints, both)
 
     pub price_from : (weight (left l) +ℤ weight (right r)) ≤ℤ weight (g.cost l r)
         → Upto (plus (left l) (right r)) (g.cost l r)
-    price_from h =
-        let c = cost_value l r i j t in
-        let e = value_plus g.columns (left l) (right r) v w in
-        upto_from (plus (left l) (right r)) (g.cost l r)
-        (plus_sized g.columns (left l) (right r) v w ∙ sym c.sized)
-        (plus_light g.columns (left l) (right r) v w) (value_light g.columns (g.cost l r) c)
-        (omega (arith, ints))
+    price_from h = upto_from (plus (left l) (right r)) (g.cost l r) sized light cost_light
+        (omega (arith, ints, both))
 
     pub price_same : weight (left l) +ℤ weight (right r) ≡ weight (g.cost l r)
         → TightPair g left right l r
-    price_same e =
-        let c = cost_value l r i j t in
-        same_from (plus (left l) (right r)) (g.cost l r)
-        (plus_sized g.columns (left l) (right r) v w ∙ sym c.sized)
-        (plus_light g.columns (left l) (right r) v w) (value_light g.columns (g.cost l r) c)
-        (value_plus g.columns (left l) (right r) v w ∙ e)
+    price_same e = same_from (plus (left l) (right r)) (g.cost l r) sized light cost_light
+        (both ∙ e)
 
     pub price_is : TightPair g left right l r → weight (left l) +ℤ weight (right r) ≡ weight
         (g.cost l r)
-    price_is e = sym (value_plus g.columns (left l) (right r) v w) ∙ ap weight e
+    price_is e = sym both ∙ ap weight e
