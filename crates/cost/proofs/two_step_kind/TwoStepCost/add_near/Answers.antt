@@ -5,19 +5,17 @@ use Rattle.cost.specs.declared.TheConstants.{HALF_RAIL}
 use Rattle.cost.proofs.Append.{columnwise-append, same_length, within_parts}
 use Rattle.cost.proofs.two_step_kind.TwoStepCost.add_near.Goals as goal
 
-pub add_near-requires-clause-first : goal.add_near-requires-clause-first
-add_near-requires-clause-first g c = (within_parts HALF_RAIL _ _ c.requires.first).0
+pub add_near-requires : goal.add_near-requires
+add_near-requires g c = record {
+  first = (within_parts HALF_RAIL _ _ c.requires.first).0;
+  second = (within_parts HALF_RAIL _ _ c.requires.second).0;
+}
 
-pub add_near-requires-clause-second : goal.add_near-requires-clause-second
-add_near-requires-clause-second g c = (within_parts HALF_RAIL _ _ c.requires.second).0
-
-pub add_near-requires-2-clause-first : goal.add_near-requires-2-clause-first
-add_near-requires-2-clause-first g c =
-    (within_parts HALF_RAIL (g.A.Cost.meaning c.args.self.0) _ c.requires.first).1
-
-pub add_near-requires-2-clause-second : goal.add_near-requires-2-clause-second
-add_near-requires-2-clause-second g c =
-    (within_parts HALF_RAIL (g.A.Cost.meaning c.args.other.0) _ c.requires.second).1
+pub add_near-requires-2 : goal.add_near-requires-2
+add_near-requires-2 g c = record {
+  first = (within_parts HALF_RAIL (g.A.Cost.meaning c.args.self.0) _ c.requires.first).1;
+  second = (within_parts HALF_RAIL (g.A.Cost.meaning c.args.other.0) _ c.requires.second).1;
+}
 
 pub returns : goal.returns
 returns g c = rw (c.add_near.ensures, c.add_near-2.ensures)

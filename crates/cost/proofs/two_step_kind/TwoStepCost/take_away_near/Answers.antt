@@ -5,19 +5,17 @@ use Rattle.cost.specs.declared.TheConstants.{HALF_RAIL}
 use Rattle.cost.proofs.Append.{columnwise-append, same_length, within_parts}
 use Rattle.cost.proofs.two_step_kind.TwoStepCost.take_away_near.Goals as goal
 
-pub take_away_near-requires-clause-first : goal.take_away_near-requires-clause-first
-take_away_near-requires-clause-first g c = (within_parts HALF_RAIL _ _ c.requires.first).0
+pub take_away_near-requires : goal.take_away_near-requires
+take_away_near-requires g c = record {
+  first = (within_parts HALF_RAIL _ _ c.requires.first).0;
+  second = (within_parts HALF_RAIL _ _ c.requires.second).0;
+}
 
-pub take_away_near-requires-clause-second : goal.take_away_near-requires-clause-second
-take_away_near-requires-clause-second g c = (within_parts HALF_RAIL _ _ c.requires.second).0
-
-pub take_away_near-requires-2-clause-first : goal.take_away_near-requires-2-clause-first
-take_away_near-requires-2-clause-first g c =
-    (within_parts HALF_RAIL (g.A.Cost.meaning c.args.self.0) _ c.requires.first).1
-
-pub take_away_near-requires-2-clause-second : goal.take_away_near-requires-2-clause-second
-take_away_near-requires-2-clause-second g c =
-    (within_parts HALF_RAIL (g.A.Cost.meaning c.args.other.0) _ c.requires.second).1
+pub take_away_near-requires-2 : goal.take_away_near-requires-2
+take_away_near-requires-2 g c = record {
+  first = (within_parts HALF_RAIL (g.A.Cost.meaning c.args.self.0) _ c.requires.first).1;
+  second = (within_parts HALF_RAIL (g.A.Cost.meaning c.args.other.0) _ c.requires.second).1;
+}
 
 pub returns : goal.returns
 returns g c = rw (c.take_away_near.ensures, c.take_away_near-2.ensures)
