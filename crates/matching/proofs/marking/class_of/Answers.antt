@@ -22,7 +22,9 @@ loop-c-preserved-then-contains c =
           let put = c.insert.ensures j in
           let was = i.class j in
           let low = steps.is_block in
-          let on = λ (e : j ≡ c.in-Some.c). ap (holds led own) e ∙ i.rest c.in-Some.c steps.member in
-          let back = λ (e : j ≡ c.in-Some.c). ap (λ k. holds led k own) e ∙ sym c.if-contains.ensures in
+          let on = λ (e : j ≡ c.in-Some.c). ap (holds led own) e
+          ∙ i.rest c.in-Some.c steps.member in
+          let back = λ (e : j ≡ c.in-Some.c). ap (λ k. holds led k own) e
+          ∙ sym c.if-contains.ensures in
           grind (arith, nat_tests);
     }
