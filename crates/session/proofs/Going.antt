@@ -145,15 +145,14 @@ module _ {K : Type 0} (kind : Ghosts K) (n : ℕ) where
     pub going_none : (state : State) (answers : List (Answer K)) (own : TableLists K)
         → answers ≡ [] → IsSheet kind n (lengths lent) → lengths own ≡ lengths lent
         → Begins kind n lent state own → Going [] answers state own
-    going_none state answers own e sheet long b =
-        subst (λ (zs : List (Answer K)). Going [] zs state own) (sym e) (record {
-          exchanges = [];
-          answer = tt;
-          program = b.program;
-          sized = b.sized;
-          sheet = sheet;
-          long = long;
-        })
+    going_none state answers own e sheet long b = rw e (record {
+      exchanges = [];
+      answer = tt;
+      program = b.program;
+      sized = b.sized;
+      sheet = sheet;
+      long = long;
+    })
 
     -- one call more
     pub going_on : (cs : List (Call K)) (i : ℕ) (call : Call K)
@@ -168,10 +167,7 @@ module _ {K : Type 0} (kind : Ghosts K) (n : ℕ) where
         record { act = call.act; handed = call.handed; reply = made.reply } in
         let cs_more : take (i + 1) cs ≡ take i cs ++ call ∷ [] =
         take_more cs i call inside ∙ ap (λ c. take i cs ++ c ∷ []) (sym at) in
-        subst (λ (zs : List (Answer K)). Going (take (i + 1) cs) zs state' own')
-        (sym (ea ∙ ap (λ zs. zs ++ answer ∷ []) er))
-        (subst (λ (xs : List (Call K)). Going xs (answers ++ answer ∷ []) state' own')
-        (sym cs_more) (record {
+        rw (ea, er, cs_more) (record {
           exchanges = g.exchanges ++ e ∷ [];
           answer = answers_more (take i cs) answers g.exchanges call answer e g.answer refl
               made.answers;
@@ -180,7 +176,7 @@ module _ {K : Type 0} (kind : Ghosts K) (n : ℕ) where
               (state_of state') made.makes.meets ∙ g.sized;
           sheet = g.sheet;
           long = made.long ∙ g.long;
-        }))
+        })
 
     -- the calls that were made kept the promise
     were_made : EveryProgramKeeps kind → (made : List (Call K)) (answers : List (Answer K))
@@ -215,10 +211,5 @@ module _ {K : Type 0} (kind : Ghosts K) (n : ℕ) where
         let count : length answers ≡ i = answers_long (take i cs) answers g.exchanges g.answer
         ∙ length-take-le i cs (omega arith) in (
           omega (arith, count, ap length ea),
-          subst (λ (zs : List (Answer K)). WereMade kind n lent (take (length zs) cs) zs own')
-              (sym ea)
-              (subst (λ (y : TableLists K). WereMade kind n lent (take
-              (length answers) cs) answers y) (sym eo)
-              (subst (λ (j : ℕ). WereMade kind n lent (take j cs) answers own) (sym count)
-              (were_made law (take i cs) answers state own g))),
+          rw (ea, eo, count) (were_made law (take i cs) answers state own g),
         )
