@@ -39,6 +39,7 @@ module _ {K : Type 0} (kind : Ghosts K) (n : ℕ) (costs : List K) (standing : L
   enter_needs cost = place_needs n (length costs) (length standing) l r
       (need (Within COST_LIMIT (kind.meaning cost)) CostRange nothing)
 
+  -- the pair stands at this cost, and the rest of the tables stays
   abbrev pub Enters : (cost : K) → Result (Unit {0}) Fault → (costs' : List K)
       (standing' : List ℕ) → Type 0
   Enters cost answer costs' standing' = Responds (enter_needs cost) answer
@@ -52,12 +53,14 @@ module _ {K : Type 0} (kind : Ghosts K) (n : ℕ) (costs : List K) (standing : L
       (need (says_disturbed (byte_of n standing l r) ≡ false) Inconsistent
       (need (says_stands (byte_of n standing l r) ≡ true) Absent nothing))
 
+  -- the pair is absent and its cost zero, and the rest of the tables stays
   abbrev pub Strikes : Result (Unit {0}) Fault → (costs' : List K) (standing' : List ℕ) → Type 0
   Strikes answer costs' standing' = Responds strike_needs answer
       (λ _. PairTablesAre (costs_struck kind.zero n l r costs) (standing_struck n l r standing)
       costs' standing')
       (PairTablesAre costs standing costs' standing')
 
+  -- what stands at the pair's place among the costs
   abbrev pub Reads : Result K Fault → Type 0
   Reads answer = Responds strike_needs answer
       (λ cost. cost ≡ slice_index_or costs (place_of n l r) kind.zero) ⊤
