@@ -1,6 +1,8 @@
 -- What a reader that is cut gives.
 -- Idea: the bytes that the cut reader has left are the first ones of those that the reader has.
-use Rattle.std.proofs.Common.{◌≡◌, ℕ, List, [], ◌++◌, take, Option, Some, None, IfSome, subst}
+use Rattle.std.proofs.Common.{◌≡◌, ℕ, List, [], ◌++◌, take, Option, Some, None, IfSome}
+use Rattle.std.proofs.Common.{◌∙◌, subst}
+use Rattle.std.proofs.lemmas.Option.{IfSome_then}
 use Rattle.std.specs.Option.{option_map}
 use Rattle.std.specs.Io.Take.{take_remaining, take_limit, take_inner}
 use Rattle.std.specs.declared.io.traits.Take.{Take}
@@ -23,8 +25,8 @@ cut_bytes {R = R} remaining reader most cut file limit inner gives =
     (first_bytes (remaining (take_inner cut)) (take_limit cut) file gives))
 
 -- what is told of a file is told of the bytes that it has
-pub told_of_input : (known : Option (List ℕ)) (file : List ℕ) (cut : List ℕ → List ℕ)
-    (Told : List ℕ → Type 0) → IfSome known (λ bytes. file ≡ cut bytes) → Told file
-    → IfSome known (λ bytes. Told (cut bytes))
-told_of_input None file cut Told gives told = tt
-told_of_input (Some bytes) file cut Told gives told = subst Told gives told
+pub told_of_input : (known : Option (List ℕ)) (file shown : List ℕ) (cut : List ℕ → List ℕ)
+    (IsTold : List ℕ → Type 0) → shown ≡ file → IfSome known (λ bytes. file ≡ cut bytes)
+    → IsTold shown → IfSome known (λ bytes. IsTold (cut bytes))
+told_of_input known file shown cut IsTold same gives told =
+    IfSome_then known gives (λ bytes e. subst IsTold (same ∙ e) told)

@@ -1,13 +1,12 @@
 -- The text is that of the bytes that were read.
-use Rattle.std.proofs.Common.{◌≡◌, take, string_bytes, IfSome, sym, subst}
+use Rattle.std.proofs.Common.{take, string_bytes}
 use Rattle.report.specs.Describing.{Describes}
 use Rattle.report.specs.declared.input.TheConstants.{MOST_BYTES}
 use Rattle.report.proofs.Cutting.{told_of_input}
 use Rattle.report.proofs.input.describe_input.Goals as goal
 
 pub returns : goal.returns
-returns g c = told_of_input (g.R.Read.remaining c.args.reader) c.as_slice.result.now
-    (take MOST_BYTES) (λ file. Describes file (string_bytes c.in_ok-describe.field-0))
-    (subst (λ file. IfSome (g.R.Read.remaining c.args.reader)
-    (λ bytes. file ≡ take MOST_BYTES bytes)) (sym c.as_slice.ensures.value) c.in_ok-file.ensures)
-    c.in_ok-describe.ensures
+returns g c = told_of_input (g.R.Read.remaining c.args.reader) c.in_ok-file.file.items
+    c.as_slice.result.now (take MOST_BYTES)
+    (λ file. Describes file (string_bytes c.in_ok-describe.field-0)) c.as_slice.ensures.value
+    c.in_ok-file.ensures c.in_ok-describe.ensures

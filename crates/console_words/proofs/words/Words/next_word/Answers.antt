@@ -32,21 +32,15 @@ invariant_of-self c =
     c.args.self.now.text c.next.ensures.steps in
     record { text = ∣ step.1 ∣₁ }
 
-pub returns-clause-rest : goal.returns-clause-rest
-returns-clause-rest c =
-    let step = word_step c.args.self.now.rest c.next.result c.next.new.self
-    c.args.self.now.text c.next.ensures.steps in
-    word_step_drops c.args.self.now.rest c.next.result c.next.new.self step.0
-
-pub returns-clause-word : goal.returns-clause-word
-returns-clause-word c =
-    let step = word_step c.args.self.now.rest c.next.result c.next.new.self
-    c.args.self.now.text c.next.ensures.steps in
-    rw c.ok_or.ensures.value (given c.args.self.now.rest c.next.result c.next.new.self _ step.0)
-
-pub returns-clause-missing : goal.returns-clause-missing
-returns-clause-missing c =
-    let step = word_step c.args.self.now.rest c.next.result c.next.new.self
-    c.args.self.now.text c.next.ensures.steps in
-    rw c.ok_or.ensures.value (missing c.args.self.now.rest c.next.result c.next.new.self _
-    (form_of c.args.self.now) refl step.0)
+pub returns : goal.returns
+returns c =
+    let rest = c.args.self.now.rest in
+    let step = word_step rest c.next.result c.next.new.self c.args.self.now.text
+    c.next.ensures.steps in
+    record {
+      form = refl;
+      rest = word_step_drops rest c.next.result c.next.new.self step.0;
+      word = rw c.ok_or.ensures.value (given rest c.next.result c.next.new.self _ step.0);
+      missing = rw c.ok_or.ensures.value (missing rest c.next.result c.next.new.self _
+          (form_of c.args.self.now) refl step.0);
+    }
