@@ -3,14 +3,14 @@
 -- Idea: the file states an order, so loading shows in each cell what the pairs state. A pair of
 -- blocks that stands is named once, at its cost, and one that is absent is not named, so that is
 -- what the cell held.
-use Rattle.std.proofs.Common.{◌≡◌, ℕ, ◌+◌, ◌*◌, ◌<◌, ◌≤◌, Bool, true, false, cond, not, ◌&&◌, eqb}
+use Rattle.std.proofs.Common.{◌≡◌, ℕ, ◌+◌, ◌*◌, ◌<◌, ◌≤◌, Bool, cond, not, ◌&&◌, eqb}
 use Rattle.std.proofs.Common.{◌⊎◌, List, [], ◌∷◌, ◌++◌, length, take, drop, ℤ, Some, None, Ok}
-use Rattle.std.proofs.Common.{Err, Result, sym, refl, ap, ◌∙◌, inl, inr, ⊎_elim, append_assoc}
-use Rattle.std.proofs.Common.{count_by, arith}
+use Rattle.std.proofs.Common.{Err, Result, sym, refl, ap, ◌∙◌, inl, inr, ⊎_elim}
+use Rattle.std.proofs.Common.{count_by, nat_lt, arith}
 use Rattle.std.proofs.ByRecursion.{All-weaker}
-use Rattle.std.proofs.lemmas.List.{length-append, take_at, drop-drop}
-use Rattle.std.proofs.lemmas.Bool.{cases_Bool, cond-true, cond-false, and_parts, eqb-true, lt-ltb}
-use Rattle.std.proofs.lemmas.Bool.{le-ltb, not-false}
+use Rattle.std.proofs.lemmas.List.{length-append, take_at}
+use Rattle.std.proofs.lemmas.Bool.{cases_Bool, cond-true, cond-false, and_parts, eqb-true}
+use Rattle.std.proofs.lemmas.Bool.{not-false}
 use Rattle.std.specs.Option.{option_map}
 use Rattle.std.specs.List.{flat_map, AllByRecursion}
 use Rattle.cost.specs.declared.plain_kind.Plain.{Plain}
@@ -20,7 +20,7 @@ use Rattle.tables.specs.PairTables.{HavePlaces, have_places, says_stands, byte_o
 use Rattle.tables.proofs.Lengths.{places_told}
 use Rattle.sheet.specs.declared.fault.Cause.TheVariants.{TableLength, Inconsistent, ShortBuffer}
 use Rattle.sheet.specs.declared.fault.Fault.{Fault}
-use Rattle.sheet.specs.Refusals.{fault}
+use Rattle.sheet.specs.Refusals.{fault, first_of}
 use Rattle.sheet.proofs.Refused.{refused, accepted, cleared}
 use Rattle.orderfile.specs.declared.format.TheConstants.{SIZE_FIELD, PAIR_FIELD, END_FIELD}
 use Rattle.orderfile.specs.declared.record.StatedPair.{StatedPair}
@@ -28,7 +28,6 @@ use Rattle.orderfile.specs.Format.{Order, PairFits, States, pair_field, end_fiel
 use Rattle.orderfile.specs.Format.{file_of}
 use Rattle.orderfile.specs.Loading.{plain, plain_cell, plain_grid, or_else, cost_stated}
 use Rattle.orderfile.specs.Loading.{grid_stated}
-use Rattle.orderfile.proofs.Buffer.{put_behind}
 use Rattle.orderfile.proofs.Grids.{same_grid}
 use Rattle.orderfile.proofs.Listed.{pairs_listed_count, times-cons}
 use Rattle.orderfile.specs.Saving.{saved_length, plain_in_order, save_refusal, pairs_listed, times}
@@ -77,52 +76,39 @@ names_stated n costs standing pairs names l r hl hr =
     (λ some. ap (option_map plain) some.1 ∙ sym some.2)
     (stated_is n costs standing l r pairs names.only)
 
--- the length of the file of some pairs
-joined_length : (ps : List StatedPair) → length (flat_map pair_field ps) ≡ 13 * length ps
+-- the bytes of the listed pairs, by the number of those that stand
+joined_length : (ps : List StatedPair) → length (flat_map pair_field ps) ≡ PAIR_FIELD * length ps
 joined_length [] = refl
-joined_length (p ∷ ps) = let rest : length (flat_map pair_field ps) ≡ 13 * length ps =
-    joined_length ps in length-append (pair_field p) (flat_map pair_field ps) ∙ omega (arith, rest)
+joined_length (p ∷ ps) =
+    length-append (pair_field p) (flat_map pair_field ps) ∙ omega (arith, joined_length ps)
 
-pub file_length : (n : ℕ) (ps : List StatedPair)
-    → length (file_of (record { size = n; pairs = ps })) ≡ SIZE_FIELD + PAIR_FIELD * length ps + END_FIELD
-file_length n ps =
-    let tail : length (flat_map pair_field ps ++ end_field) ≡ length (flat_map pair_field ps) + 3 =
-    length-append (flat_map pair_field ps) end_field in
-    length-append (size_field n) (flat_map pair_field ps ++ end_field)
-    ∙ omega (arith, tail, joined_length ps)
+pub listed_length : (n : ℕ) (costs : List Plain) (standing : List ℕ)
+    → length standing ≡ places_of n
+    → length (flat_map pair_field (pairs_listed n costs standing 0 (places_of n)))
+    ≡ PAIR_FIELD * count_by says_stands standing
+listed_length n costs standing eb = joined_length (pairs_listed n costs standing 0 (places_of n))
+    ∙ ap (λ k. PAIR_FIELD * k) (pairs_listed_count n costs standing 0 (places_of n) (omega arith))
 
--- when saving is refused
+pub file_length : (n : ℕ) (ps : List StatedPair) → length (file_of (record { size = n; pairs = ps }))
+    ≡ SIZE_FIELD + length (flat_map pair_field ps) + END_FIELD
+file_length n ps = length-append (size_field n) (flat_map pair_field ps ++ end_field)
+    ∙ omega (arith, length-append (flat_map pair_field ps) end_field)
+
+-- whether saving is refused, by its three tests
 module _ (n : ℕ) (costs : List Plain) (standing : List ℕ) (room : ℕ) where
-  pub save_misfits : have_places n (length costs) (length standing) ≡ false
-      → save_refusal n costs standing room ≡ Some (fault TableLength 0)
+  pub refusal_is : (a b c : Bool) → not (have_places n (length costs) (length standing)) ≡ a
+      → not (plain_in_order costs standing) ≡ b → nat_lt room (saved_length standing) ≡ c
+      → save_refusal n costs standing room ≡ first_of ((a, fault TableLength 0)
+      ∷ (b, fault Inconsistent 0) ∷ (c, fault ShortBuffer 0) ∷ [])
   unfolding save_refusal
-  save_misfits wrong = cond-true _ _ _ (ap not wrong)
+  refusal_is a b c ea eb ec = cc
 
   save_places : save_refusal n costs standing room ≡ None
       → HavePlaces n (length costs) (length standing)
   unfolding save_refusal
   save_places e =
       places_told n (length costs) (length standing)
-      (not-false (have_places n (length costs) (length standing))
-      (cleared (not (have_places n (length costs) (length standing))) (fault TableLength 0) _ e).0)
-
-  module _ (fit : have_places n (length costs) (length standing) ≡ true) where
-    pub save_disturbed : plain_in_order costs standing ≡ false
-        → save_refusal n costs standing room ≡ Some (fault Inconsistent 0)
-    unfolding save_refusal
-    save_disturbed e = cond-false _ _ _ (ap not fit) ∙ cond-true _ _ _ (ap not e)
-
-    pub save_short : plain_in_order costs standing ≡ true → room < saved_length standing
-        → save_refusal n costs standing room ≡ Some (fault ShortBuffer 0)
-    unfolding save_refusal
-    save_short e h = cond-false _ _ _ (ap not fit) ∙ cond-false _ _ _ (ap not e)
-        ∙ cond-true _ _ _ (lt-ltb room (saved_length standing) h)
-
-    pub save_accepts : plain_in_order costs standing ≡ true → saved_length standing ≤ room
-        → save_refusal n costs standing room ≡ None
-    unfolding save_refusal
-    save_accepts e h = cond-false _ _ _ (ap not fit) ∙ cond-false _ _ _ (ap not e)
-        ∙ cond-false _ _ _ (le-ltb room (saved_length standing) h)
+      (not-false _ (cleared (not (have_places n (length costs) (length standing))) _ _ e).0)
 
 -- two grids of tables that are each the same inside as a third
 same_as_third : (n : ℕ) (costs costs' : List Plain) (standing standing' : List ℕ) (order : Order)
@@ -180,39 +166,3 @@ module _ (n : ℕ) (some : 1 ≤ n) (few : n ≤ 64) (costs : List Plain) (stand
     writes = λ s. cc;
     reloads = λ s. cc;
   }
-
--- the bytes of the listed pairs, by their number
-pub pairs_listed-length : (n : ℕ) → 1 ≤ n → (costs : List Plain) (standing : List ℕ)
-    → length standing ≡ places_of n
-    → 4 + length (flat_map pair_field (pairs_listed n costs standing 0 (places_of n)))
-    + 3 ≡ saved_length standing
-pairs_listed-length n some costs standing eb =
-    let count : length (pairs_listed n costs standing 0 (places_of n)) ≡ count_by says_stands
-    standing =
-    pairs_listed_count n some costs standing 0 (places_of n) (omega arith) in
-    omega (arith, joined_length (pairs_listed n costs standing 0 (places_of n)), count)
-
-sum : (m : ℕ) → 4 + (m + 3) ≡ 4 + m + 3
-sum m = omega arith
-
-sum' : (m : ℕ) → 4 + m + 3 ≡ 4 + (m + 3)
-sum' m = omega arith
-
--- the three writes of a file: the size field, the pairs and the end field
-pub three_writes : (n : ℕ) (pairs out out₁ out₂ out₃ : List ℕ) (at : ℕ)
-    → out₁ ≡ size_field n ++ drop 4 out → at ≡ 4 + length pairs → out₂ ≡ (take 4 out₁ ++ pairs)
-    ++ drop at out₁ → out₃ ≡ take at out₂ ++ (end_field ++ drop (at + 3) out₂)
-    → out₃ ≡ (size_field n ++ (pairs ++ end_field)) ++ drop (4 + length pairs + 3) out
-three_writes n pairs out out₁ out₂ out₃ at e₁ place e₂ e₃ =
-    let front : take 4 out₁ ≡ size_field n = ap (take 4) e₁ in
-    let long : length (take 4 out₁ ++ pairs) ≡ at = ap (λ t. length (t ++ pairs)) front
-    ∙ length-append (size_field n) pairs ∙ sym place in
-    let rest : drop (at + 3) out₁ ≡ drop (4 + length pairs + 3) out =
-    ap (drop (at + 3)) e₁ ∙ ap (λ k. drop k (size_field n ++ drop 4 out))
-    (ap (λ k. k + 3) place ∙ sum' (length pairs))
-    ∙ sym (drop-drop (length pairs + 3) 4 (size_field n ++ drop 4 out))
-    ∙ drop-drop (length pairs + 3) 4 out ∙ ap (λ k. drop k out) (sum (length pairs)) in
-    put_behind (take 4 out₁ ++ pairs) end_field out₁ out₂ out₃ at e₂ long e₃
-    ∙ ap (λ t. ((t ++ pairs) ++ end_field) ++ drop (at + 3) out₁) front
-    ∙ ap (λ t. ((size_field n ++ pairs) ++ end_field) ++ t) rest
-    ∙ ap (λ t. t ++ drop (4 + length pairs + 3) out) (append_assoc (size_field n) pairs end_field)

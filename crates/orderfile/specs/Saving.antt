@@ -78,13 +78,18 @@ pub record Saved (n : ℕ) (costs : List Plain) (standing out : List ℕ) (r : R
       → Reloads n costs standing
       (take (saved_length standing) out')
 
--- how the pairs come to stand in the file: those of m places from place k on, one after another
+-- how the pairs come to stand in the file: place by place. A place tells its two blocks
 abbrev pub pair_at : ℕ → List Plain → ℕ → StatedPair
 pair_at n costs k =
     record { left = k / n; right = k % n; cost = (slice_index_or costs k (plain (pos 0))).0 }
 
+-- the pair at a place, if it stands
+abbrev pub pairs_at : ℕ → List Plain → List ℕ → ℕ → List StatedPair
+pairs_at n costs standing k =
+    (if says_stands (slice_index standing k) then pair_at n costs k ∷ [] else [])
+
+-- those at m places from place k on
 abbrev pub pairs_listed : ℕ → List Plain → List ℕ → ℕ → ℕ → List StatedPair
 pairs_listed n costs standing k zero = []
-pairs_listed n costs standing k (suc m) = (if says_stands (slice_index standing k)
-    then pair_at n costs k ∷ pairs_listed n costs standing (k + 1) m
-    else pairs_listed n costs standing (k + 1) m)
+pairs_listed n costs standing k (suc m) =
+    pairs_at n costs standing k ++ pairs_listed n costs standing (k + 1) m

@@ -1,76 +1,64 @@
 -- Each standing pair's field goes behind what was written, and there is room for it since it is a
 -- part of the row.
-use Rattle.std.proofs.Common.{◌≡◌, ◌+◌, ◌<◌, Bool, true, false, ◌++◌, length, get_or, take, drop}
-use Rattle.std.proofs.Common.{ap, sym, ◌∙◌, arith}
+use Rattle.std.proofs.Common.{◌≡◌, ◌+◌, Bool, true, false, [], ◌++◌, length, take, drop}
+use Rattle.std.proofs.Common.{slice_index, ap, sym, ◌∙◌, take-append-drop, arith}
 use Rattle.pairing.specs.Places.{place_of}
 use Rattle.tables.specs.PairTables.{says_stands}
 use Rattle.orderfile.specs.Format.{pair_field}
-use Rattle.orderfile.proofs.Buffer.{left_all, writing_at, writing_start, writing_room}
-use Rattle.orderfile.proofs.Buffer.{writing_yes, writing_no, writing_end}
+use Rattle.orderfile.specs.Saving.{pair_at}
+use Rattle.orderfile.specs.declared.format.TheConstants.{PAIR_FIELD}
+use Rattle.orderfile.proofs.Buffer.{bytes_of_one, bytes_of_none, writes_none, room_next, writes_next}
 use Rattle.orderfile.proofs.saving.write_row.Goals as goal
 use Rattle.orderfile.proofs.saving.write_row.Goals.{then-stands, else-stands}
 
 pub loop-right-init : goal.loop-right-init
 loop-right-init c =
-    let n = c.args.n in
-    let first = place_of n c.args.left 0 in
-    writing_start n c.args.costs.now c.args.standing.now c.args.out.now c.args.start first
-    (first + n) (omega (arith, c.requires.room))
+    writes_none c.args.n c.args.costs.now c.args.standing.now c.args.out.now c.args.start
+    (place_of c.args.n c.args.left 0)
 
 pub put_pair-requires : goal.put_pair-requires
 put_pair-requires c =
-    let n = c.args.n in
-    let first = place_of n c.args.left 0 in
-    let all = ap length (left_all n c.args.costs.now c.args.standing.now first (first + n) n
-    (omega arith)) in
-    let k = place_of n c.args.left c.loop-right.right in
-    let stands : says_stands (get_or c.args.standing.now k 0) ≡ true =
-    ap (λ j. says_stands (get_or c.args.standing.now j 0)) (sym c.place.ensures)
-    ∙ sym c.if-stands.ensures in
-    let room = writing_room n c.args.costs.now c.args.standing.now c.args.out.now c.args.start first
-    (first + n) k c.loop-right.at c.loop-right.out c.loop-right.invariant
-    (omega (arith, all, c.requires.room)) (omega arith) stands in
-    omega (arith, room, c.loop-right.auto.out)
+    let first = place_of c.args.n c.args.left 0 in
+    let here : first + c.loop-right.right ≡ c.place.result = omega (arith, c.place.ensures) in
+    let one = bytes_of_one c.args.n c.args.costs.now c.args.standing.now
+    (first + c.loop-right.right) (ap (λ j. says_stands (slice_index c.args.standing.now j)) here
+    ∙ sym c.if-stands.ensures) in
+    let room = room_next c.args.n c.args.costs.now c.args.standing.now c.args.out.now c.args.start
+    first c.loop-right.right c.loop-right.at c.loop-right.out c.loop-right.invariant 1 c.args.n
+    (omega arith) c.requires.room in
+    omega (arith, ap length one, room, c.loop-right.auto.out)
 
 pub loop-right-preserved : goal.loop-right-preserved
 loop-right-preserved c =
     let n = c.args.n in
-    let left = c.args.left in
-    let right = c.loop-right.right in
     let costs = c.args.costs.now in
     let standing = c.args.standing.now in
-    let first = place_of n left 0 in
-    let k = place_of n left right in
-    let here : k < first + n = omega arith in
-    let next : place_of n left (right + 1) ≡ k + 1 = omega arith in
-    let byte : (b : Bool) → b ≡ says_stands (get_or standing c.place.result 0)
-    → says_stands (get_or standing k 0) ≡ b =
-    λ b e. ap (λ j. says_stands (get_or standing j 0)) (sym c.place.ensures) ∙ sym e in
+    let at = c.loop-right.at in
+    let out = c.loop-right.out in
+    let first = place_of n c.args.left 0 in
+    let k = first + c.loop-right.right in
+    let here : k ≡ c.place.result = omega (arith, c.place.ensures) in
+    let byte : (b : Bool) → b ≡ says_stands (slice_index standing c.place.result)
+    → says_stands (slice_index standing k) ≡ b =
+    λ b e. ap (λ j. says_stands (slice_index standing j)) here ∙ sym e in
+    let next = writes_next n costs standing c.args.out.now c.args.start first c.loop-right.right at
+    out c.loop-right.invariant 1 (omega (arith, c.requires.room)) in
     elim c.if-stands.branch [
       | then-stands w ↦
           simp (w.out-is, w.at-is)
-          (writing_at n costs standing c.args.out.now c.args.start first (first + n) (k + 1)
-          (place_of n left (right + 1)) (c.loop-right.at + 13) w.put_pair.new.out next
-          (writing_yes n costs standing c.args.out.now c.args.start first (first + n) k
-          c.loop-right.at c.loop-right.out c.loop-right.invariant w.put_pair.new.out here
-          (byte true w.if-stands.ensures)
-          (w.put_pair.ensures
-          ∙ ap (λ p. take c.loop-right.at c.loop-right.out
-          ++ (pair_field p ++ drop (c.loop-right.at + 13) c.loop-right.out)) w.pair_at.ensures)))
+          (next (pair_field (pair_at n costs k))
+          (sym (bytes_of_one n costs standing k (byte true w.if-stands.ensures)))
+          (at + PAIR_FIELD) w.put_pair.new.out (omega arith)
+          (w.put_pair.ensures ∙ ap (λ p. take at out ++ (pair_field p ++ drop (at + PAIR_FIELD) out))
+          (w.pair_at.ensures ∙ ap (pair_at n costs) (sym c.place.ensures ∙ sym here))))
       | else-stands w ↦
           simp (w.out-is, w.at-is)
-          (writing_at n costs standing c.args.out.now c.args.start first (first + n) (k + 1)
-          (place_of n left (right + 1)) c.loop-right.at c.loop-right.out next
-          (writing_no n costs standing c.args.out.now c.args.start first (first + n) k
-          c.loop-right.at c.loop-right.out c.loop-right.invariant here
-          (byte false w.if-stands.ensures)))
+          (next [] (sym (bytes_of_none n costs standing k (byte false w.if-stands.ensures))) at out
+          (omega arith) (sym (take-append-drop at out)))
     ]
 
 pub returns : goal.returns
 returns c =
-    let n = c.args.n in
-    let first = place_of n c.args.left 0 in
-    let end = writing_end n c.args.costs.now c.args.standing.now c.args.out.now c.args.start first
-    (first + n) (place_of n c.args.left c.loop-right.right) c.loop-right.at c.loop-right.out
-    c.loop-right.invariant (omega arith) (omega (arith, c.requires.room)) n (omega arith) in
-    record { behind = end.0; writes = end.1 }
+    let all : c.loop-right.right ≡ c.args.n = omega arith in
+    let w = rw all at c.loop-right.invariant in
+    record { behind = w.behind; writes = w.writes }
