@@ -2,6 +2,7 @@ pub mod Entries
 pub mod Differences
 pub mod Growing
 pub mod Adding
+pub mod Augmenting
 pub mod Ending
 pub mod Offering
 pub mod Nearing

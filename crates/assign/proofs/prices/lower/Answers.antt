@@ -20,34 +20,35 @@ pub loop-c-init : goal.loop-c-init
 loop-c-init g c =
     let kind = g.K.Cost in
     let goal = c.args.goal in
-    let inside = c.requires.inside goal c.requires.goal in (
-      tt,
-      tt,
-      rw c.into_iter-c-iterator.ensures.into_iter_gives
+    let inside = c.requires.inside goal c.requires.goal in
+    record {
+      can_next = tt;
+      is_finite = tt;
+      lowering = rw c.into_iter-c-iterator.ensures.into_iter_gives
           (lowering_none (length c.args.dist.now) (has c.args.taken)
           (weight (kind.meaning c.exact_difference-far.result)) (weight_at kind c.args.dist.now)
-          (columns_at kind c.args.right.now) c.requires.priced),
-      c.exact_difference-far.ensures.bound DISTANCE_LIMIT COST_LIMIT
+          (columns_at kind c.args.right.now) c.requires.priced);
+      near = c.exact_difference-far.ensures.bound DISTANCE_LIMIT COST_LIMIT
           (read_within kind DISTANCE_LIMIT DISTANCE_LIMIT c.args.dist.now goal
           c.index-dist-goal.result inside c.index-dist-goal.is (omega arith)
           (c.requires.far goal c.requires.goal))
           (read_within kind COST_LIMIT COST_LIMIT c.args.right.now goal c.index-right-goal.result
           (omega (arith, c.requires.sized, inside)) c.index-right-goal.is (omega arith)
           c.requires.unsold)
-          (omega arith),
-    )
+          (omega arith);
+    }
 
 pub exact_difference-requires : goal.exact_difference-requires
 exact_difference-requires g c =
     let kind = g.K.Cost in
     let r = c.in-Some.c in
-    let taken = c.loop-c.invariant.2.part r c.in-Some.ensures.steps.member in
+    let taken = c.loop-c.invariant.lowering.part r c.in-Some.ensures.steps.member in
     record {
       first = read_within kind DISTANCE_LIMIT HALF_RAIL c.args.dist.now r
           c.index-dist-c.result (c.requires.inside r taken) c.index-dist-c.is (omega arith)
           (c.requires.far r taken);
       second = within_more LEFT_PRICE_LIMIT HALF_RAIL (kind.meaning c.exact_difference-far.result)
-          (omega arith) c.loop-c.invariant.3;
+          (omega arith) c.loop-c.invariant.near;
     }
 
 pub loop-c-preserved : goal.loop-c-preserved
@@ -60,14 +61,15 @@ loop-c-preserved g c =
     let r = c.in-Some.c in
     let x = c.exact_difference.result in
     let member = c.in-Some.ensures.steps.member in
-    let taken = c.loop-c.invariant.2.part r member in
+    let taken = c.loop-c.invariant.lowering.part r member in
     let inside : c.in-Some.c < length c.args.dist.now = c.requires.inside r taken in
-    let in_right : c.in-Some.c < length c.loop-c.right = omega (arith, c.requires.sized) in (
-      tt,
-      tt,
-      lowering_take n (has c.args.taken) (weight (kind.meaning far)) (weight_at kind dist)
+    let in_right : c.in-Some.c < length c.loop-c.right = omega (arith, c.requires.sized) in
+    record {
+      can_next = tt;
+      is_finite = tt;
+      lowering = lowering_take n (has c.args.taken) (weight (kind.meaning far)) (weight_at kind dist)
           (columns_at kind c.args.right.now) (has c.loop-c.c-iterator) (columns_at kind right)
-          c.loop-c.invariant.2
+          c.loop-c.invariant.lowering
           r (has c.next.new.self) (columns_at kind (set right r x)) member
           c.in-Some.ensures.steps.others
           (put_weighs kind right r x in_right (kind.meaning c.index-dist-c.result)
@@ -80,10 +82,10 @@ loop-c-preserved g c =
           (c.exact_difference.ensures.bound DISTANCE_LIMIT LEFT_PRICE_LIMIT
           (read_within kind DISTANCE_LIMIT DISTANCE_LIMIT dist r c.index-dist-c.result inside
           c.index-dist-c.is (omega arith) (c.requires.far r taken))
-          c.loop-c.invariant.3 (omega arith))))
-          (λ j ne. put_other kind right r j x ne),
-      c.loop-c.invariant.3,
-    )
+          c.loop-c.invariant.near (omega arith))))
+          (λ j ne. put_other kind right r j x ne);
+      near = c.loop-c.invariant.near;
+    }
 
 pub returns : goal.returns
 returns g c =
@@ -105,8 +107,8 @@ returns g c =
         arith,
         ints,
         far,
-        c.loop-c.invariant.2.fallen k t (c.in-None.ensures.steps k),
+        c.loop-c.invariant.lowering.fallen k t (c.in-None.ensures.steps k),
       );
-      same = c.loop-c.invariant.2.same;
-      bound = c.loop-c.invariant.2.bound;
+      same = c.loop-c.invariant.lowering.same;
+      bound = c.loop-c.invariant.lowering.bound;
     }

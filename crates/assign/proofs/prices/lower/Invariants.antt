@@ -13,7 +13,11 @@ use Rattle.assign.proofs.prices.lower.Given as goal
 abbrev pub invariant-loop-c : goal.invariant-loop-c
 invariant-loop-c g l =
     let kind = g.K.Cost in
-    (goal.iterator-loop-c g).can_next l.c-iterator × (goal.iterator-loop-c g).is_finite l.c-iterator
-    × Lowering (length l.dist) (has l.fn.taken) (has l.c-iterator) (weight (kind.meaning l.far))
-    (weight_at kind l.dist) (columns_at kind l.initial.right) (columns_at kind l.right)
-    × Within LEFT_PRICE_LIMIT (kind.meaning l.far)
+    record {
+      can_next : (goal.iterator-loop-c g).can_next l.c-iterator;
+      is_finite : (goal.iterator-loop-c g).is_finite l.c-iterator;
+      lowering : Lowering (length l.dist) (has l.fn.taken) (has l.c-iterator)
+          (weight (kind.meaning l.far)) (weight_at kind l.dist)
+          (columns_at kind l.initial.right) (columns_at kind l.right);
+      near : Within LEFT_PRICE_LIMIT (kind.meaning l.far);
+    }
