@@ -8,13 +8,14 @@ use Rattle.std.proofs.lemmas.List.{get_or-set_same, get_or-set_other, map-set, l
 use Rattle.cost.specs.declared.Cost.{Ghosts}
 use Rattle.cost.specs.declared.TheConstants.{COST_LIMIT}
 use Rattle.cost.specs.Columns.{Within}
+use Rattle.cost.specs.Weights.{weight}
 use Rattle.blockset.specs.declared.BlockSet.{BlockSet}
 use Rattle.pairing.specs.Places.{place_of}
 use Rattle.pairing.specs.Rows.{holds}
 use Rattle.cost.proofs.Exact.{within_more}
 use Rattle.tables.specs.Said.{columns_at}
 use Rattle.tables.proofs.Filling.{value_at, columns_at_lem}
-use Rattle.assign.specs.Weighed.{BoundedOn, SearchTables}
+use Rattle.assign.specs.Weighed.{weight_at, BoundedOn, SearchTables}
 
 module _ {K : Type 0} (kind : Ghosts K) where
   pub put_same : (xs : List K) (i : ℕ) (y : K) → i < length xs
@@ -33,6 +34,11 @@ module _ {K : Type 0} (kind : Ghosts K) where
       → a ≤ b → Within a (columns_at kind xs i) → Within b (kind.meaning x)
   read_within a b xs i x h e le w = within_more a b (kind.meaning x) le
       (subst (Within a) (sym (value_at kind xs i x h e)) w)
+
+  -- and weighs what the table says there
+  pub read_weighs : (xs : List K) (i : ℕ) (x : K) → i < length xs → x ≡ get_or xs i x
+      → weight (kind.meaning x) ≡ weight_at kind xs i
+  read_weighs xs i x h e = ap weight (value_at kind xs i x h e)
 
   -- what was read at a place is what the table says there
   pub entry_is : (xs : List K) (i : ℕ) (x : K) → i < length xs → x ≡ get_or xs i x

@@ -116,20 +116,17 @@ module _ {n : ℕ} {stands : ℕ → ℕ → Bool} {cost : ℕ → ℕ → ℤ} 
 module _ {K : Type 0} {kind : Ghosts K} {rows : List BlockSet} {costs : List K}
     (lent : SearchTables kind rows costs) (l : ℕ) (room : l < length rows) (now : SoFar K) (j : ℕ)
     (w : ℤ) where
-  -- by its part of the table
   abbrev pub IsPartBid : Type 0
   IsPartBid = IsBestBid (holds rows l) (has now.holders.held) (weight_at kind now.right)
       (weight_at kind (part_of (length rows) l costs)) j w
 
   pub by_table : IsPartBid → IsBidOf kind rows costs now l j w
-  by_table = bid_like (holds rows l) (has now.holders.held) (weight_at kind now.right)
-      (weight_at kind (part_of (length rows) l costs)) (cost_weight kind (length rows) costs l)
-      (λ c t. ap weight (sym (part_is lent l room c t))) j w
+  by_table = bid_like (cost_weight kind (length rows) costs l)
+      (λ c t. ap weight (sym (part_is lent l room c t)))
 
   pub by_part : IsBidOf kind rows costs now l j w → IsPartBid
-  by_part = bid_like (holds rows l) (has now.holders.held) (weight_at kind now.right)
-      (cost_weight kind (length rows) costs l) (weight_at kind (part_of (length rows) l costs))
-      (λ c t. ap weight (part_is lent l room c t)) j w
+  by_part = bid_like (weight_at kind (part_of (length rows) l costs))
+      (λ c t. ap weight (part_is lent l room c t))
 
 -- what one step of the row reduction leaves
 pub record IsStep {K : Type 0} (kind : Ghosts K) (rows : List BlockSet) (costs : List K) (l : ℕ)

@@ -34,6 +34,12 @@ IsBidFound kind to held costs right found = MatchOption found
     (λ bid. IsBestBid to held (weight_at kind right) (weight_at kind costs) bid.block
     (weight (kind.meaning bid.price)))
 
+-- no right block that is held is the best bid of a left block with these costs
+abbrev pub HasNoHeldBid : {K : Type 0} (kind : Ghosts K) (to held : ℕ → Bool)
+    (costs right : List K) → Type 0
+HasNoHeldBid kind to held costs right = (j : ℕ) (w : ℤ) → held j ≡ true
+    → IsBestBid to held (weight_at kind right) (weight_at kind costs) j w → ⊥
+
 -- the price of a bid is at most two costs farther from zero than the prices so far
 abbrev pub IsPricedNear : {K : Type 0} (kind : Ghosts K) (n : ℕ) (right : List K) → Bid K → Type 0
 IsPricedNear kind n right bid = (b : ℕ) → Bounded kind b n right → b ≤ REDUCED_LIMIT

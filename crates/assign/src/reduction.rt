@@ -13,7 +13,7 @@ ghost use Rattle.assign.specs.declared.limits.TheConstants.{INNER_PRICE_LIMIT, R
 ghost use Rattle.assign.specs.Weighed.{weight_at, BoundedOn, SearchTables};
 ghost use Rattle.assign.specs.Offers.{NearestWithKey};
 ghost use Rattle.assign.specs.Pairs.{so_far, IsPriced};
-ghost use Rattle.assign.specs.Bids.{IsBestBid, IsBidFound, IsPricedNear, IsSeated, HasNoBid};
+ghost use Rattle.assign.specs.Bids.{HasNoHeldBid, IsBidFound, IsPricedNear, IsSeated, HasNoBid};
 ghost use Rattle.assign.specs.Bids.{IsReduced, HasGoneOn, HasHadFirstTurn};
 
 use crate::search::{nearest, nearest_free_first, two_nearest};
@@ -29,8 +29,7 @@ fn bid_for_free<K: Cost>(to: BlockSet, held: BlockSet, costs: &[K], right: &[K])
     requires inside { (c : ℕ) → has to c ≡ true → c < length costs.now }
     requires modest { BoundedOn K.Cost COST_LIMIT (has to) costs.now }
     requires priced { Bounded K.Cost INNER_PRICE_LIMIT (length costs.now) right.now }
-    requires no_held { (j : ℕ) (w : ℤ) → has held j ≡ true → IsBestBid (has to) (has held)
-        (weight_at K.Cost right.now) (weight_at K.Cost costs.now) j w → ⊥ }
+    requires no_held { HasNoHeldBid K.Cost (has to) (has held) costs.now right.now }
     ensures bid { IsBidFound K.Cost (has to) (has held) costs.now right.now result }
     ensures bound { IfSome result (IsPricedNear K.Cost (length costs.now) right.now) }
 {
@@ -59,8 +58,7 @@ fn bid_as_near<K: Cost>(
     requires modest { BoundedOn K.Cost COST_LIMIT (has to) costs.now }
     requires priced { Bounded K.Cost INNER_PRICE_LIMIT (length costs.now) right.now }
     requires near { NearestWithKey K.Cost (has to) right.now costs.now near }
-    requires no_held { (j : ℕ) (w : ℤ) → has held j ≡ true → IsBestBid (has to) (has held)
-        (weight_at K.Cost right.now) (weight_at K.Cost costs.now) j w → ⊥ }
+    requires no_held { HasNoHeldBid K.Cost (has to) (has held) costs.now right.now }
     ensures bid { IsBidFound K.Cost (has to) (has held) costs.now right.now result }
     ensures bound { IfSome result (IsPricedNear K.Cost (length costs.now) right.now) }
 {
