@@ -2,7 +2,7 @@
 -- Idea: the columns at a place are those of the value there, and a write changes them at its own
 -- place only.
 use Rattle.std.proofs.Common.{◌≡◌, ℕ, ◌+◌, ◌-◌, ◌*◌, ◌<◌, ◌≤◌, true, List, [], map, length, get_or}
-use Rattle.std.proofs.Common.{take, drop, set, sym, ap, ◌∙◌, subst, ⊎_elim}
+use Rattle.std.proofs.Common.{take, drop, set, sym, ap, ◌∙◌, subst, arith}
 use Rattle.std.proofs.lemmas.Bool.{cases_eq}
 use Rattle.std.proofs.lemmas.List.{get_or-set_same, get_or-set_other, map-set, length-map}
 use Rattle.cost.specs.declared.Cost.{Ghosts}
@@ -49,12 +49,13 @@ module _ {K : Type 0} (kind : Ghosts K) where
   pub put_bound : (a b n : ℕ) (xs : List K) (i : ℕ) (y : K) → i < length xs → a ≤ b
       → Within b (kind.meaning y) → ((c : ℕ) → c < n → Within a (columns_at kind xs c))
       → (c : ℕ) → c < n → Within b (columns_at kind (set xs i y) c)
-  put_bound a b n xs i y h le near far c below = ⊎_elim
-      (λ (e : c ≡ i). subst (λ z. Within b (columns_at kind (set xs i y) z)) (sym e)
-      (subst (Within b) (sym (put_same xs i y h)) near))
-      (λ (ne : c ≡ i → ⊥). subst (Within b) (sym (put_other xs i c y ne))
-      (within_more a b (columns_at kind xs c) le (far c below)))
-      (cases_eq c i)
+  put_bound a b n xs i y h le near far c below = grind (
+    arith,
+    put_same xs i y h,
+    put_other xs i c y,
+    within_more a b (columns_at kind xs c) le (far c below),
+    cases_eq c i,
+  )
 
 -- the part of a table that left block l has, where each has n places
 abbrev pub part_of : {X : Type 0} (n l : ℕ) → List X → List X

@@ -5,6 +5,7 @@
 use Rattle.std.proofs.Common.{◌≡◌, ℕ, ◌<◌, Bool, true, false, not, ◌&&◌, eqb, List, ℤ, ◌+ℤ◌, ◌-ℤ◌}
 use Rattle.std.proofs.Common.{sym, refl, ap, ◌∙◌, subst, ⊎_elim, arith}
 use Rattle.std.proofs.lemmas.Int.{ints}
+use Rattle.std.proofs.lemmas.Bool.Decides.{nat_tests}
 use Rattle.std.proofs.lemmas.Bool.{cases_eq, both_ways}
 use Rattle.cost.specs.Columns.{Within}
 use Rattle.cost.specs.Weights.{weight}
@@ -36,19 +37,9 @@ module _ (n : ℕ) (taken : ℕ → Bool) (far : ℤ) (d : ℕ → ℤ) (v : ℕ
         → weight (v'' c) ≡ d c -ℤ far → Within INNER_PRICE_LIMIT (v'' c)
         → ((j : ℕ) → (j ≡ c → ⊥) → v'' j ≡ v' j) → Lowering n taken rest' far d v v''
     lowering_take c rest' v'' waits is new near others = record {
-      part = λ j t. so_far.part j (still_in rest rest' c is j t).0;
-      fallen = λ j t f. ⊎_elim
-          (λ (e : j ≡ c). subst (λ (z : ℕ). weight (v'' z) +ℤ far ≡ d z) (sym e)
-          (omega (arith, ints)))
-          (λ (e : j ≡ c → ⊥). ap (λ (z : List ℤ). weight z +ℤ far) (others j e)
-          ∙ so_far.fallen j t (gone rest rest' c is j f e))
-          (cases_eq j c);
-      same = λ j f. others j
-          (λ e. both_ways (taken c) (sym (ap taken e) ∙ f) (so_far.part c waits))
-          ∙ so_far.same j f;
-      bound = λ j h. ⊎_elim
-          (λ (e : j ≡ c). subst (λ (z : ℕ). Within INNER_PRICE_LIMIT (v'' z)) (sym e) near)
-          (λ (e : j ≡ c → ⊥). subst (λ (z : List ℤ). Within INNER_PRICE_LIMIT z) (sym (others j e))
-          (so_far.bound j h))
-          (cases_eq j c);
+      part = λ j t. grind (arith, nat_tests, is j, so_far.part j);
+      fallen = λ j t f. grind
+          (arith, ints, nat_tests, is j, others j, so_far.fallen j, cases_eq j c);
+      same = λ j f. grind (arith, nat_tests, others j, so_far.same j, so_far.part c, cases_eq j c);
+      bound = λ j h. grind (arith, others j, so_far.bound j, near, cases_eq j c);
     }

@@ -7,6 +7,7 @@ use Rattle.std.proofs.Common.{◌≡◌, ℕ, ◌+◌, ◌<◌, Bool, true, fals
 use Rattle.std.proofs.Common.{pos, ◌≤ℤ◌, sym, ap, ◌∙◌, subst, ⊎_elim, arith}
 use Rattle.std.proofs.lemmas.List.{get_or-map, get_or-replicate, length-replicate}
 use Rattle.std.proofs.lemmas.Int.{ints}
+use Rattle.std.proofs.lemmas.Bool.Decides.{nat_tests}
 use Rattle.std.proofs.lemmas.Bool.{cases_Bool, cases_eq, both_ways, or_left, or_right, or_cases}
 use Rattle.cost.specs.declared.Cost.{Ghosts}
 use Rattle.cost.specs.Columns.{Within, zeros}
@@ -63,43 +64,37 @@ module _ (n : ℕ) (stands : ℕ → ℕ → Bool) (cost : ℕ → ℕ → ℤ) 
     CostOfOne c = (c < n) × (at of'.row c < m + 1) × (stands (at of'.row c) c ≡ true)
         × (v' c ≡ cost (at of'.row c) c)
 
-    keeps : (c : ℕ) → has of.priced c ≡ true → v' c ≡ v c → at of'.row c ≡ at of.row c → CostOfOne c
-    unfolding CostOfOne
-    keeps c t e r =
-        let low = so_far.low c t in (
-          so_far.inside c t,
-          omega arith,
-          ap (λ z. stands z c) r ∙ so_far.stood c t,
-          e ∙ so_far.costs c t ∙ ap (λ z. cost z c) (sym r),
-        )
-
-    takes : (c : ℕ) → stands m c ≡ true → v' c ≡ cost m c → at of'.row c ≡ m → CostOfOne c
-    unfolding CostOfOne
-    takes c t e r = (
-      inside c t,
-      omega arith,
-      ap (λ z. stands z c) r ∙ t,
-      e ∙ ap (λ z. cost z c) (sym r),
-    )
-
     one : (c : ℕ) → has of'.priced c ≡ true → CostOfOne c
-    one c t = ⊎_elim
-        (λ (y : stands m c ≡ true). ⊎_elim
-        (λ w. keeps c w.0 w.1 w.2)
-        (λ w. takes c y (omega (arith, ints, w.0, own_is c y)) w.1)
-        ((offers c).change y))
-        (λ (f : stands m c ≡ false).
-        let w = (offers c).others f in
-        keeps c (⊎_elim (λ (x : has of.priced c ≡ true). x)
-        (λ (y : stands m c ≡ true). absurd (both_ways (stands m c) f y))
-        (or_cases (has of.priced c) (stands m c) (sym (joined c) ∙ t))) w.0 w.1)
-        (cases_Bool (stands m c))
-
-    -- no price rises
-    falls : (c : ℕ) → has of.priced c ≡ true → v' c ≤ℤ v c
-    falls c t = ⊎_elim (λ (y : stands m c ≡ true). (offers c).less y t)
-        (λ (f : stands m c ≡ false). omega (arith, ints, ((offers c).others f).0))
-        (cases_Bool (stands m c))
+    unfolding CostOfOne
+    one c t = (
+      grind (arith, joined c, or_cases (has of.priced c) (stands m c), so_far.inside c, inside c),
+      grind (
+        arith,
+        joined c,
+        so_far.low c,
+        (offers c).others,
+        (offers c).change,
+        cases_Bool (stands m c),
+      ),
+      grind (
+        arith,
+        joined c,
+        so_far.stood c,
+        (offers c).others,
+        (offers c).change,
+        cases_Bool (stands m c),
+      ),
+      grind (
+        arith,
+        ints,
+        joined c,
+        so_far.costs c,
+        (offers c).others,
+        (offers c).change,
+        own_is c,
+        cases_Bool (stands m c),
+      ),
+    )
 
     pub cheapest_more : AreCheapest (m + 1) n stands cost of' v'
     unfolding CostOfOne
@@ -108,17 +103,18 @@ module _ (n : ℕ) (stands : ℕ → ℕ → Bool) (cost : ℕ → ℕ → ℤ) 
       low = λ c t. (one c t).1;
       stood = λ c t. (one c t).2;
       costs = λ c t. (one c t).3;
-      least = λ l c h st. ⊎_elim
-          (λ (e : l ≡ m).
-          let y : stands m c ≡ true = ap (λ z. stands z c) (sym e) ∙ st in
-          let same : cost l c ≡ cost m c = ap (λ z. cost z c) e in (
-            joined c ∙ or_right (has of.priced c) (stands m c) y,
-            omega (arith, ints, (offers c).most y, own_is c y),
-          ))
-          (λ (ne : l ≡ m → ⊥).
-          let w = so_far.least l c (omega arith) st in (
-            joined c ∙ or_left (has of.priced c) (stands m c) w.0,
-            omega (arith, ints, falls c w.0, w.1),
-          ))
-          (cases_eq l m);
+      least = λ l c h st. (
+        grind (arith, nat_tests, joined c, so_far.least l c, cases_eq l m),
+        grind (
+          arith,
+          ints,
+          so_far.least l c,
+          (offers c).others,
+          (offers c).most,
+          (offers c).less,
+          own_is c,
+          cases_eq l m,
+          cases_Bool (stands m c),
+        ),
+      );
     }

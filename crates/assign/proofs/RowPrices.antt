@@ -39,15 +39,6 @@ module _ (cost : ℕ → ℕ → ℤ) (p : ℕ → ℕ) (right : ℕ → ℤ) wh
       → weight (left' k) ≡ cost k (p k) -ℤ right (p k) → Within LEFT_PRICE_LIMIT (left' k)
       → ((l : ℕ) → (l ≡ k → ⊥) → left' l ≡ left l) → PricedBelow (k + 1) cost p right left'
   priced_more k left left' so_far new near others = record {
-    tight = λ l h. ⊎_elim
-        (λ (e : l ≡ k). subst (λ (z : ℕ). weight (left' z) +ℤ right (p z) ≡ cost z (p z)) (sym e)
-        (omega (arith, ints)))
-        (λ (e : l ≡ k → ⊥). ap (λ (z : List ℤ). weight z +ℤ right (p l)) (others l e)
-        ∙ so_far.tight l (omega arith))
-        (cases_eq l k);
-    bound = λ l h. ⊎_elim
-        (λ (e : l ≡ k). subst (λ (z : ℕ). Within LEFT_PRICE_LIMIT (left' z)) (sym e) near)
-        (λ (e : l ≡ k → ⊥). subst (λ (z : List ℤ). Within LEFT_PRICE_LIMIT z) (sym (others l e))
-        (so_far.bound l (omega arith)))
-        (cases_eq l k);
+    tight = λ l h. grind (arith, ints, so_far.tight l, others l, cases_eq l k);
+    bound = λ l h. grind (arith, so_far.bound l, others l, near, cases_eq l k);
   }
