@@ -6,6 +6,7 @@
 use Rattle.std.proofs.Common.{◌≡◌, ℕ, Bool, true, false, not, ◌&&◌, eqb, List, ℤ, ◌-ℤ◌, ◌≤ℤ◌, ◌<ℤ◌}
 use Rattle.std.proofs.Common.{sym, refl, ap, ◌∙◌, subst, ⊎_elim, arith}
 use Rattle.std.proofs.lemmas.Int.{ints}
+use Rattle.std.proofs.lemmas.Bool.Decides.{nat_tests}
 use Rattle.std.proofs.lemmas.Bool.{cases_eq, cases_Bool, both_ways, and_from, not_from_false}
 use Rattle.std.proofs.lemmas.Bool.{ne_eqb, and_parts, not-true}
 use Rattle.cost.specs.declared.Cost.{Ghosts}
@@ -45,10 +46,9 @@ module _ {to : ℕ → Bool} (held : ℕ → Bool) {v cost : ℕ → ℤ} {j : �
       pub as_near : (cost f -ℤ v f) ≤ℤ (cost j -ℤ v j) → (w : ℤ) → w ≡ v f
           → IsBestBid to held v cost f w
       as_near le w same =
-          let parts = and_parts (to f) (not (held f)) (sym (free_is f) ∙ first.member) in
-          let spare = not-true (held f) parts.1 in
+          let spare : held f ≡ false = grind (arith, nat_tests, free_is f, first.member) in
           record {
-            member = parts.0;
+            member = grind (arith, nat_tests, free_is f, first.member);
             best = λ c t ne. omega (arith, ints, near.least c t);
             free = λ _. same;
             falls = λ h. absurd (both_ways (held f) spare h);
@@ -57,18 +57,10 @@ module _ {to : ℕ → Bool} (held : ℕ → Bool) {v cost : ℕ → ℤ} {j : �
 
       pub no_bid_far : (cost j -ℤ v j) <ℤ (cost f -ℤ v f) → (i : ℕ) (w : ℤ)
           → IsBestBid to held v cost i w → ⊥
-      no_bid_far less i w bid = ⊎_elim
-          (λ (h : held i ≡ true). none_held i w h bid)
-          (λ (spare : held i ≡ false).
-          let far = first.least i (free_is i
-          ∙ and_from (to i) (not (held i)) bid.member (not_from_false (held i) spare)) in
-          ⊎_elim
-          (λ (e : j ≡ i). let x : cost j ≡ cost i = ap cost e in let y : v j ≡ v i = ap v e in
-          absurd (omega (arith, ints)))
-          (λ (ne : j ≡ i → ⊥). absurd (omega
-          (arith, ints, bid.best j near.member ne, bid.free spare)))
-          (cases_eq j i))
-          (cases_Bool (held i))
+      no_bid_far less i w bid =
+          let spare : held i ≡ false = grind (arith, nat_tests, none_held i w, bid) in
+          let far = first.least i (grind (arith, nat_tests, free_is i, bid.member)) in
+          grind (arith, ints, bid.best j near.member, bid.free spare, cases_eq j i)
 
     -- k is the nearest of the others
     module _ {k : ℕ} (next : Nearest (without to j) v cost k) where
@@ -79,12 +71,7 @@ module _ {to : ℕ → Bool} (held : ℕ → Bool) {v cost : ℕ → ℤ} {j : �
           → w ≡ cost j -ℤ (cost k -ℤ v k) → IsBestBid to held v cost j w
       bid_falls mine less w is = record {
         member = near.member;
-        best = λ c t ne. omega (
-          arith,
-          ints,
-          next.least c
-              (and_from (to c) (not (eqb c j)) t (not_from_false (eqb c j) (ne_eqb c j ne))),
-        );
+        best = λ c t ne. grind (arith, ints, nat_tests, next.least c);
         free = λ f. absurd (both_ways (held j) f mine);
         falls = λ _. omega (arith, ints);
         tied = λ _. (k, apart.0, apart.1, omega (arith, ints));
@@ -94,15 +81,9 @@ module _ {to : ℕ → Bool} (held : ℕ → Bool) {v cost : ℕ → ℤ} {j : �
       pub no_bid_tied : (cost k -ℤ v k) ≤ℤ (cost j -ℤ v j) → (i : ℕ) (w : ℤ) → held i ≡ true
           → IsBestBid to held v cost i w → ⊥
       no_bid_tied le i w h bid =
-          ⊎_elim
-          (λ (e : j ≡ i).
-          let b : IsBestBid to held v cost j w =
-          subst (λ (z : ℕ). IsBestBid to held v cost z w) (sym e) bid in
-          let mine = subst (λ (z : ℕ). held z ≡ true) (sym e) h in
-          absurd (omega (arith, ints, b.falls mine, b.best k apart.0 apart.1)))
-          (λ (ne : j ≡ i → ⊥). absurd (omega
-          (arith, ints, bid.best j near.member ne, bid.falls h, near.least i bid.member)))
-          (cases_eq j i)
+          let less = bid.falls h in
+          let far = near.least i bid.member in
+          grind (arith, ints, bid.best j near.member, bid.best k apart.0, apart.1, cases_eq j i)
 
 -- costs that are the same where they count
 pub bid_like : {to held : ℕ → Bool} {v cost : ℕ → ℤ} {j : ℕ} {w : ℤ} → (cost' : ℕ → ℤ)

@@ -46,9 +46,7 @@ module _ (g : Grid) (s : Sane g) (stands : ℕ → ℕ → Bool) (alike : Alike 
       (tight : (l : ℕ) → l < g.size → weight (left l) +ℤ weight (right (at p l)) ≡ weight
       (g.cost l (at p l))) where
     every : (c : ℕ) → c < g.size → 2 ≤ stage c
-    every c h = let w = (grown.offered c h refl).0 in
-        ⊎_elim (λ (m : stage c < 2). absurd (done c h (omega arith))) (λ (m : 2 ≤ stage c). m)
-        (cases_lt (stage c) 2)
+    every c h = let w = (grown.offered c h refl).0 in let no = done c h in grind arith
 
     fair : (l c : ℕ) → l < g.size → c < g.size → stands l c ≡ true
         → (d c +ℤ weight (g.cost l (at p l))) ≤ℤ (d (at p l) +ℤ weight (g.cost l c))

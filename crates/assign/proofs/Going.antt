@@ -29,13 +29,7 @@ goes_further one two = record {
 
 -- two least ones are the same
 least_once : (s : BlockSet) (l m : ℕ) → IsLeast s l → IsLeast s m → l ≡ m
-least_once s l m a b = ⊎_elim
-    (λ (h : l < m). absurd (both_ways (has s l) (b.2 l h) a.1))
-    (λ (ge : m ≤ l). ⊎_elim
-    (λ (h : m < l). absurd (both_ways (has s m) (a.2 m h) b.1))
-    (λ (le : l ≤ m). omega (arith, le, ge))
-    (cases_lt m l))
-    (cases_lt l m)
+least_once s l m a b = grind (arith, a.1, a.2 m, b.1, b.2 l)
 
 -- where none is set aside, the rest is all
 module _ (out aside rest : BlockSet)

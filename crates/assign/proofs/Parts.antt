@@ -2,7 +2,8 @@
 -- time, to free ones and to held ones.
 -- Idea: a right block is in one part at most, and the other two leave it as it is.
 use Rattle.std.proofs.Common.{◌≡◌, ℕ, Bool, true, false, not, ◌&&◌, List, length, ℤ}
-use Rattle.std.proofs.Common.{◌<◌, sym, refl, ◌∙◌, ⊎_elim, Option, Some, None, MatchOption}
+use Rattle.std.proofs.Common.{◌<◌, sym, refl, ◌∙◌, ⊎_elim, Option, Some, None, MatchOption, arith}
+use Rattle.std.proofs.lemmas.Bool.Decides.{nat_tests}
 use Rattle.std.proofs.lemmas.Bool.{cases_Bool, both_ways, and_from, not_from_false}
 use Rattle.std.proofs.lemmas.Bool.{and_parts, and_left, and_right, not-true, not_from_true}
 use Rattle.cost.specs.declared.Cost.{Ghosts}
@@ -27,19 +28,15 @@ found_still kind set right d d' (Some near) long same h =
 pub not_other : (held rest free other : ℕ → Bool)
     → ((j : ℕ) → free j ≡ (rest j && not (held j))) → ((j : ℕ) → other j ≡ (rest j && held j))
     → (c : ℕ) → free c ≡ true → other c ≡ false
-not_other held rest free other free_is other_is c t = other_is c ∙ and_right (rest c) (held c)
-    (not-true (held c) (and_parts (rest c) (not (held c)) (sym (free_is c) ∙ t)).1)
+not_other held rest free other free_is other_is c t =
+    grind (arith, nat_tests, free_is c, other_is c)
 
 -- what is not reached for the first time was reached before, if it is reached at all
 pub reached_before : (to reached fresh : ℕ → Bool)
     → ((j : ℕ) → fresh j ≡ (to j && not (reached j))) → (c : ℕ)
     → (to c ≡ false → reached c ≡ true) → fresh c ≡ false → reached c ≡ true
-reached_before to reached fresh fresh_is c come f = ⊎_elim (λ (r : reached c ≡ true). r)
-    (λ (n : reached c ≡ false). absurd (⊎_elim
-    (λ (t : to c ≡ true). both_ways (fresh c) f
-    (fresh_is c ∙ and_from (to c) (not (reached c)) t (not_from_false (reached c) n)))
-    (λ (o : to c ≡ false). both_ways (reached c) n (come o)) (cases_Bool (to c))))
-    (cases_Bool (reached c))
+reached_before to reached fresh fresh_is c come f =
+    grind (arith, nat_tests, fresh_is c, come, cases_Bool (to c))
 
 module _ (to reached held rest fresh known free other : ℕ → Bool)
     (fresh_is : (j : ℕ) → fresh j ≡ (to j && not (reached j)))
