@@ -84,40 +84,51 @@ unfolding members
 members_no zero = refl
 members_no (suc n) = omega (arith, members_no n)
 
--- a set that goes into another, no two to one, has no more members
-pub inject_le : (m n : ℕ) (A C : ℕ → Bool) (f : (l : ℕ) → A l ≡ true → ℕ)
-    → ((l : ℕ) (t : A l ≡ true) → l < m → (f l t < n) × (C (f l t) ≡ true))
-    → ((l k : ℕ) (t : A l ≡ true) (s : A k ≡ true) → l < m → k < m → f l t ≡ f k s → l ≡ k)
+-- a set that goes into another, no two to one, has no more members; only what is below m has to go
+pub inject_below : (m n : ℕ) (A C : ℕ → Bool) (f : (l : ℕ) → l < m → A l ≡ true → ℕ)
+    → ((l : ℕ) (i : l < m) (t : A l ≡ true) → (f l i t < n) × (C (f l i t) ≡ true))
+    → ((l k : ℕ) (i : l < m) (j : k < m) (t : A l ≡ true) (s : A k ≡ true) → f l i t ≡ f k j s
+    → l ≡ k)
     → members m A ≤ members n C
 unfolding members
-inject_le zero n A C f into once = omega arith
-inject_le (suc m) n A C f into once =
+inject_below zero n A C f into once = omega arith
+inject_below (suc m) n A C f into once =
     elim (cases_Bool (A 0)) [
       | inr z ↦
-          let ih = inject_le m n (λ x. A (suc x)) C (λ l t. f (suc l) t)
-          (λ l t h. into (suc l) t (omega arith))
-          (λ l k t s h j e. omega
-          (arith, once (suc l) (suc k) t s (omega arith) (omega arith) e)) in
+          let ih = inject_below m n (λ x. A (suc x)) C (λ l i t. f (suc l) (up l i) t)
+          (λ l i t. into (suc l) (up l i) t)
+          (λ l k i j t s e. omega (arith, once (suc l) (suc k) (up l i) (up k j) t s e)) in
           let none : cond {A = ℕ} (A 0) 1 0 ≡ 0 = cond-false (A 0) 1 0 z in
           omega arith
       | inl o ↦
-          let c = f 0 o in
+          let c = f 0 first o in
           let D : ℕ → Bool = λ x. C x && not (eqb x c) in
-          let ih = inject_le m n (λ x. A (suc x)) D (λ l t. f (suc l) t)
-          (λ l t h. let w = into (suc l) t (omega arith) in (
+          let ih = inject_below m n (λ x. A (suc x)) D (λ l i t. f (suc l) (up l i) t)
+          (λ l i t. let w = into (suc l) (up l i) t in (
             w.0,
             and_from _ _ w.1
-                (not_from_false _
-                (ne_eqb (f (suc l) t) c
-                (λ e. omega (arith, once (suc l) 0 t o (omega arith) (omega arith) e)))),
+                (not_from_false _ (ne_eqb (f (suc l) (up l i) t) c
+                (λ e. omega (arith, once (suc l) 0 (up l i) first t o e)))),
           ))
-          (λ l k t s h j e. omega (arith, once (suc l) (suc k) t s (omega arith) (omega arith) e))
-          in
-          let in_c = into 0 o (omega arith) in
+          (λ l k i j t s e. omega (arith, once (suc l) (suc k) (up l i) (up k j) t s e)) in
+          let in_c = into 0 first o in
           let less : members n C ≡ suc (members n D) = members_without n C c in_c.0 in_c.1 in
           let one : cond {A = ℕ} (A 0) 1 0 ≡ 1 = cond-true (A 0) 1 0 o in
           omega arith
     ]
+  where
+    first : 0 < suc m
+    first = omega arith
+
+    up : (l : ℕ) → l < m → suc l < suc m
+    up l i = omega arith
+
+pub inject_le : (m n : ℕ) (A C : ℕ → Bool) (f : (l : ℕ) → A l ≡ true → ℕ)
+    → ((l : ℕ) (t : A l ≡ true) → l < m → (f l t < n) × (C (f l t) ≡ true))
+    → ((l k : ℕ) (t : A l ≡ true) (s : A k ≡ true) → l < m → k < m → f l t ≡ f k s → l ≡ k)
+    → members m A ≤ members n C
+inject_le m n A C f into once = inject_below m n A C (λ l _ t. f l t) (λ l i t. into l t i)
+    (λ l k i j t s. once l k t s i j)
 
 pub members-le : (n : ℕ) (C : ℕ → Bool) → members n C ≤ n
 unfolding members

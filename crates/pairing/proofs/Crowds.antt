@@ -8,7 +8,7 @@
 -- block of X can be left out: free its right block, and fill that.
 use Rattle.std.proofs.Common.{◌≡◌, ℕ, zero, suc, ◌+◌, ◌-◌, ◌<◌, ◌≤◌, Bool, true, false, not, ◌&&◌}
 use Rattle.std.proofs.Common.{◌||◌, eqb, leb, ◌⊎◌, ◌↔◌, List, replicate, Decides, sym, refl, ap}
-use Rattle.std.proofs.Common.{◌∙◌, subst, inl, inr, arith}
+use Rattle.std.proofs.Common.{◌∙◌, inl, inr, arith}
 use Rattle.std.proofs.Math.Bool.{and_comm}
 use Rattle.std.proofs.lemmas.List.{length-replicate}
 use Rattle.std.proofs.lemmas.Bool.Decides.{Decides-like, same_from_decides}
@@ -17,7 +17,7 @@ use Rattle.std.proofs.lemmas.Bool.{eq-eqb, ne_eqb, both_ways, true≢false, not-
 use Rattle.std.proofs.lemmas.Bool.{leb-true, leb-false, le-leb}
 use Rattle.blockset.specs.Sets.{members}
 use Rattle.blockset.proofs.Members.{members_like, members_with, members_without, members_split}
-use Rattle.blockset.proofs.Members.{members_none, members_no, inject_le}
+use Rattle.blockset.proofs.Members.{members_none, members_no, inject_le, inject_below}
 use Rattle.pairing.specs.Grid.{at, Perfect}
 use Rattle.pairing.specs.Largest.{Partial, Largest, IsInCrowd, CrowdSet, around}
 use Rattle.pairing.specs.Chains.{Reached, free, onward, Held, Stuck, Shut}
@@ -283,33 +283,11 @@ module _ (n : ℕ) (stands : ℕ → ℕ → Bool) (p : List ℕ) (out : ℕ →
               (edge_from w.0 h.0 h.2 (ap (stands w.0) h.3 ∙ w.3)),
         )
 
-    -- right blocks below n only
-    Z : ℕ → Bool
-    Z r = Y r && some_below n (λ x. eqb x r)
-
-    in_Z : (r : ℕ) → Z r ≡ true → (r < n) × (Y r ≡ true)
-    unfolding Z
-    in_Z r z =
-        let b = and_parts (Y r) (some_below n (λ x. eqb x r)) z in
-        let w = (some_tells n (λ x. eqb x r)).0 b.1 in
-        (subst (λ x. x < n) (eqb-true w.0 r w.2) w.1, b.0)
-
-    Z_is : (r : ℕ) → r < n → Y r ≡ Z r
-    unfolding Z
-    Z_is r j = let e = (some_tells n (λ x. eqb x r)).1 (r, j, eq-eqb r r refl) in grind arith
-
     held_le : members n Y ≤ members n (λ l. D l && not (out l))
-    held_le =
-        omega (
-          arith,
-          members_like n Z Y Z_is,
-          inject_le n n Z (λ l. D l && not (out l)) (λ r z. let a = in_Z r z in
-              (holder r a.0 a.1).0)
-              (λ r z i. let a = in_Z r z in let h = holder r a.0 a.1 in
-              (h.1, and_from _ _ h.4 (not_from_false (out h.0) h.2)))
-              (λ r s z y i j e. let a = in_Z r z in let b = in_Z s y in sym (holder r a.0 a.1).3
-              ∙ ap (at p) e ∙ (holder s b.0 b.1).3),
-        )
+    held_le = inject_below n n Y (λ l. D l && not (out l)) (λ r j y. (holder r j y).0)
+        (λ r j y. let h = holder r j y in
+        (h.1, and_from _ _ h.4 (not_from_false (out h.0) h.2)))
+        (λ r s i j y z e. sym (holder r i y).3 ∙ ap (at p) e ∙ (holder s j z).3)
 
     out_in : (l : ℕ) → l < n → (D l && out l) ≡ out l
     out_in l i =
