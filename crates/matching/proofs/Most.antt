@@ -72,7 +72,7 @@ module _ {rows : List BlockSet} {p : List ℕ} {b : Bounds} {h : Holders} {x : R
       ];
       once = whole.once;
     });
-    inside = λ j t. s.inside j (and_parts (has b.roots j) _ (sym (is j) ∙ t)).0;
+    inside = λ j t. s.inside j (let e = is j in grind arith);
     holders = subst (λ o. Holding 0 q o h') (sym (fun_ext is)) told;
   }
     where
@@ -107,15 +107,14 @@ module _ {rows : List BlockSet} {p : List ℕ} {b : Bounds} {h : Holders} {x : R
         let on = wide_along l c j y in
         elim (cases_Bool (has b.roots l)) [
           | inl t ↦ d.rooted l c t on
-          | inr f ↦ elim from-where [
-            | inl t ↦ absurd (both_ways (has b.roots l) f t)
-            | inr t ↦
-                let had = s.holders.all l (omega arith) (omega (arith, s.part.len)) f in
-                let whose : at h.owner (at p l) ≡ l =
-                s.part.once (at h.owner (at p l)) l (owner_below (at p l) had) i
-                (s.holders.inside (at p l) had) f (s.holders.owner (at p l) had) in
-                d.onward (at p l) c t had (subst (λ k. is_along rows b k c ≡ true) (sym whose) on)
-          ]
+          | inr f ↦
+              let had = s.holders.all l (omega arith) (omega (arith, s.part.len)) f in
+              let whose : at h.owner (at p l) ≡ l =
+              s.part.once (at h.owner (at p l)) l (owner_below (at p l) had) i
+              (s.holders.inside (at p l) had) f (s.holders.owner (at p l) had) in
+              d.onward (at p l) c
+              (elim from-where [ inl t ↦ absurd (both_ways (has b.roots l) f t) | inr t ↦ t ])
+              had (subst (λ k. is_along rows b k c ≡ true) (sym whose) on)
         ]
 
     reached_row : (l : ℕ) → IsReached l
@@ -182,7 +181,7 @@ module _ {rows : List BlockSet} {p : List ℕ} {b : Bounds} {h : Holders} {x : R
           let e = reached_crowd (length rows) (holds rows) p (has b.roots) most l in
           Decides-at (bit crowd l) (X l) (bits l) (Decides-like (X l) e.0 e.1 (crowd_reached l)) in
           let number : members (length rows) (has b.roots) ≡ short =
-          sym (counted ∙ members-within 64 (length rows) (has b.roots) s.few s.inside) in
+          sym (counted ∙ members-within SET_WIDTH (length rows) (has b.roots) s.few s.inside) in
           let t = short_by (length rows) (holds rows) p (has b.roots) (bit crowd) most crowd_set in
           record {
             none = λ q g.

@@ -118,7 +118,8 @@ module _ {rows : List BlockSet} {b : Bounds} {h : Holders} {x : Reach} {pending 
     apart j t e = both_ways (has x.reached j) (ap (has x.reached) e ∙ r.new) t
 
     pub search_grown : members SET_WIDTH (has reached) ≡ suc (members SET_WIDTH (has x.reached))
-    search_grown = members_with 64 (has x.reached) (has reached) c (omega (arith, r.inside, r.few))
+    search_grown = members_with SET_WIDTH (has x.reached) (has reached) c
+        (omega (arith, r.inside, r.few))
         r.new r.is
 
     from_here : at next.from c ≡ l
@@ -201,7 +202,7 @@ module _ {rows : List BlockSet} {b : Bounds} {h : Holders} {x : Reach} {pending 
     pub search_least : members SET_WIDTH (has reached) ≤ length rows
     search_least = omega (
       arith,
-      members-within 64 (length rows) (has reached) r.few (search_ways x.goal).small,
+      members-within SET_WIDTH (length rows) (has reached) r.few (search_ways x.goal).small,
       members-le (length rows) (has reached),
     )
 

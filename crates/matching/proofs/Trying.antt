@@ -6,9 +6,8 @@
 use Rattle.std.proofs.Common.{◌≡◌, ℕ, ◌+◌, ◌<◌, ◌≤◌, Bool, true, false, not, ◌&&◌, ◌||◌, ◌==◌}
 use Rattle.std.proofs.Common.{nat_lt, ◌⊎◌, List, length, sym, refl, ap, ◌∙◌, subst, inl, inr, arith}
 use Rattle.std.proofs.lemmas.Bool.Decides.{nat_tests}
-use Rattle.std.proofs.lemmas.Bool.{cases_eq, cases_lt, cases_Bool, both_ways, and_parts}
-use Rattle.std.proofs.lemmas.Bool.{or_cases, or_left, or_right}
-use Rattle.std.proofs.lemmas.Bool.{cond-true, cond-false, ltb-false}
+use Rattle.std.proofs.lemmas.Bool.{cases_eq, cases_lt, cases_Bool, both_ways}
+use Rattle.std.proofs.lemmas.Bool.{ltb-false}
 use Rattle.blockset.specs.declared.TheConstants.{MOST_BLOCKS, SET_WIDTH}
 use Rattle.blockset.specs.declared.BlockSet.{BlockSet}
 use Rattle.blockset.specs.Has.{has, IsEmpty, IsLeast}
@@ -68,14 +67,14 @@ trying_start {rows = rows} {l = l} {p = p} {h = h} {live = live} few pairs room 
       pairs = pairs;
       room = room;
       holders = holders;
-      within = λ c t. elim (or_cases (has h.held c) (has goals c) (sym (live-is c) ∙ t)) [
+      within = λ c t. elim (cases_Bool (has h.held c)) [
         | inl e ↦ (
           at h.owner c,
           omega (arith, holders.low c e),
           omega (arith, holders.high c e, pairs.len),
           holders.owner c e,
         )
-        | inr e ↦ (l, omega arith, room, sym (one_is own c e))
+        | inr e ↦ (let z = live-is c in (l, omega arith, room, sym (one_is own c (grind arith))))
       ];
       own = all_live l (omega arith) room;
       shut = λ m x le lt _ _ f _. absurd (both_ways (has live (at p m)) f (all_live m le lt));
@@ -86,11 +85,10 @@ trying_start {rows = rows} {l = l} {p = p} {h = h} {live = live} few pairs room 
     own = record { small = omega (arith, pairs.below l room); is = goals-are }
 
     all_live : (m : ℕ) → l ≤ m → m < length rows → has live (at p m) ≡ true
-    all_live m le lt = elim (cases_eq m l) [
-      | inl e ↦ live-is (at p m) ∙ or_right (has h.held (at p m)) _
-          (ap (λ x. has goals (at p x)) e ∙ one_in own)
-      | inr ne ↦ live-is (at p m) ∙ or_left (has h.held (at p m)) _
-          (holders.all m (omega arith) (omega (arith, pairs.len)) refl)
+    all_live m le lt = let z = live-is (at p m) in elim (cases_eq m l) [
+      | inl e ↦ (let g = ap (λ x. has goals (at p x)) e ∙ one_in own in grind arith)
+      | inr ne ↦
+          (let w = holders.all m (omega arith) (omega (arith, pairs.len)) refl in grind arith)
     ]
 
 module _ {rows : List BlockSet} {l floor : ℕ} {p : List ℕ} {h : Holders}
@@ -184,12 +182,10 @@ module _ {rows : List BlockSet} {l r floor : ℕ} {p : List ℕ} {b : Bounds} {h
 
   pub along_inside : (m c : ℕ) → is_along rows b m c ≡ true → c < length rows
   along_inside m c a =
-      let e = (and_parts (holds rows m c) _ a).1 in
-      let v = t.within c (elim (cases_Bool (has b.roots m)) [
-        | inl x ↦ ap (has b.live) (one_is f.offer c (sym (cond-true _ _ _ x) ∙ e)) ∙ f.live
-        | inr x ↦ sym (cond-false _ _ _ x) ∙ e
-      ]) in
-      subst (λ x. x < length rows) v.3 (t.pairs.below v.0 v.2)
+      let e = f.offer.is c in
+      let at_r = λ (z : c ≡ r). ap (has b.live) z ∙ f.live in
+      let v = t.within c (grind (arith, nat_tests)) in
+      omega (arith, v.3, t.pairs.below v.0 v.2)
 
   -- a pair of another left block to a live right block
   along_live : (m c : ℕ) → (m ≡ l → ⊥) → holds rows m c ≡ true → has b.live c ≡ true
@@ -277,7 +273,7 @@ module _ {rows : List BlockSet} {l r floor : ℕ} {p : List ℕ} {b : Bounds} {h
           let out : has candidates' r ≡ false =
           (let e₁ = left r in
           let e₂ = gone r (d.rooted l r (one_in f.roots) along_offer) in grind arith) in
-          members_less 64 (has candidates) (has candidates') r first.0
+          members_less SET_WIDTH (has candidates) (has candidates') r first.0
           (λ j y. (let e = left j in grind arith)) first.1 out
 
     -- ---- it came to l's own right block, and the pairs along the chain were exchanged
@@ -303,7 +299,7 @@ module _ {rows : List BlockSet} {l r floor : ℕ} {p : List ℕ} {b : Bounds} {h
             below = λ m j. whole.below m j (all m);
             standing = λ m j. elim (came m j) [
               | inl y ↦ ap (holds rows m) y.1 ∙ t.pairs.standing m j
-              | inr y ↦ (and_parts (holds rows m (at q m)) _ (by m y.0 y.1)).0
+              | inr y ↦ (let z = by m y.0 y.1 in grind arith)
             ];
             once = λ m k j i o. whole.once m k j i (all m) (all k) o;
           }
@@ -316,8 +312,8 @@ module _ {rows : List BlockSet} {l r floor : ℕ} {p : List ℕ} {b : Bounds} {h
           ])
           (elim (came l t.room) [
             | inl y ↦ absurd (y.0 (sym (one_is f.roots paired e.was_out)))
-            | inr y ↦ one_is f.offer (at q l) (sym (cond-true _ _ _ (one_in f.roots))
-                ∙ (and_parts (holds rows l (at q l)) _ (by l y.0 y.1)).1)
+            | inr y ↦ one_is f.offer (at q l)
+                (let z = by l y.0 y.1 in let o = one_in f.roots in grind arith)
           ])
 
       pub sent_holders : {h' : Holders}

@@ -13,7 +13,7 @@ use Rattle.matching.proofs.Searching.{search_more, search_retired}
 use Rattle.matching.proofs.chains.search.Goals as goal
 
 pub overflow_cast-rank : goal.overflow_cast-rank
-overflow_cast-rank c = omega (arith, members-le 64 (has c.loop-l.reached))
+overflow_cast-rank c = omega (arith, members-le SET_WIDTH (has c.loop-l.reached))
 
 pub returns-then-contains : goal.returns-then-contains
 returns-then-contains c =
@@ -39,7 +39,7 @@ loop-l-smaller-then-contains-2 c =
       arith,
       search_grown c.loop-l.invariant r,
       search_least c.loop-l.invariant r,
-      members-insert 64 (has c.loop-l.pending) (has c.insert-then-contains-2.new.self) l low
+      members-insert SET_WIDTH (has c.loop-l.pending) (has c.insert-then-contains-2.new.self) l low
           (inserted (has c.loop-l.pending) (has c.insert-then-contains-2.new.self) l low
           c.insert-then-contains-2.ensures),
     )

@@ -8,6 +8,7 @@ use Rattle.pairing.specs.Grid.{at}
 use Rattle.pairing.specs.Optima.{has_pair}
 use Rattle.pairing.specs.Rows.{holds, pairings}
 use Rattle.std.proofs.lemmas.List.{get_or-replicate}
+use Rattle.blockset.specs.declared.TheConstants.{SET_WIDTH}
 use Rattle.blockset.specs.Has.{has, no_blocks}
 use Rattle.matching.proofs.Leading.{AreClasses, classes_more, is_class, in_class}
 use Rattle.matching.proofs.Leading.{class_occurs, put_before, put_inside}
@@ -23,7 +24,8 @@ pub loop-l-init : goal.loop-l-init
 loop-l-init c = record {
   marked = λ m r i j. absurd (omega arith);
   classes = λ i a. inl (λ j. ap (λ s. has s j)
-      (get_or-replicate 64 i c.empty-classes.result no_blocks (omega (arith, c.requires.small)))
+      (get_or-replicate SET_WIDTH i c.empty-classes.result no_blocks
+      (omega (arith, c.requires.small)))
       ∙ c.empty-classes.ensures j);
 }
 
