@@ -3,7 +3,7 @@
 -- Idea: under the greatest prices the perfect pairings of tight pairs are the optimum pairings, and
 -- there is only one list of these in dictionary order. Valid prices that lie near make tables hold
 -- together, whichever optimum pairing they go with.
-use Rattle.std.proofs.Common.{◌≡◌, ℕ, true, ◌↔◌, List, length, refl, subst}
+use Rattle.std.proofs.Common.{◌≡◌, ℕ, ◌↔◌, List, length, refl, subst}
 use Rattle.blockset.specs.declared.BlockSet.{BlockSet}
 use Rattle.cost.specs.declared.Cost.{Ghosts}
 use Rattle.pairing.specs.Grid.{Sane, Optimum}
