@@ -3,12 +3,11 @@
 -- nearer than every other falls to where the nearest of these is as near. Where two are equally
 -- near, no price below its own leaves a held one the nearest: there the nearest free one is taken
 -- if it is as near.
-use Rattle.std.proofs.Common.{◌≡◌, ℕ, Bool, true, false, not, ◌&&◌, eqb, List, ℤ, ◌-ℤ◌, ◌≤ℤ◌, ◌<ℤ◌}
-use Rattle.std.proofs.Common.{sym, refl, ap, ◌∙◌, subst, ⊎_elim, arith}
+use Rattle.std.proofs.Common.{◌≡◌, ℕ, Bool, true, false, not, ◌&&◌, List, ℤ, ◌-ℤ◌, ◌≤ℤ◌, ◌<ℤ◌}
+use Rattle.std.proofs.Common.{refl, arith}
 use Rattle.std.proofs.lemmas.Int.{ints}
 use Rattle.std.proofs.lemmas.Bool.Decides.{nat_tests}
-use Rattle.std.proofs.lemmas.Bool.{cases_eq, cases_Bool, both_ways, and_from, not_from_false}
-use Rattle.std.proofs.lemmas.Bool.{ne_eqb, and_parts, not-true}
+use Rattle.std.proofs.lemmas.Bool.{cases_eq, both_ways}
 use Rattle.cost.specs.declared.Cost.{Ghosts}
 use Rattle.cost.specs.declared.TheConstants.{HALF_RAIL}
 use Rattle.cost.specs.Columns.{Within}

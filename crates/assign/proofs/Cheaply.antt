@@ -2,7 +2,7 @@
 -- Idea: a left block's own right block is at its price exactly, and every other right block that it
 -- stands with is at most at its cost. No right block comes twice, since it is cheapest with one
 -- left block only.
-use Rattle.std.proofs.Common.{◌≡◌, ℕ, Bool, true, List, length, ℤ, sym, ap, ◌∙◌, subst, arith}
+use Rattle.std.proofs.Common.{◌≡◌, ℕ, Bool, List, length, ℤ, arith}
 use Rattle.std.proofs.lemmas.Int.{ints}
 use Rattle.pairing.specs.Grid.{at}
 use Rattle.blockset.specs.Has.{has}
@@ -18,15 +18,11 @@ pub cheaply_kept : {n : ℕ} {stands : ℕ → ℕ → Bool} {cost : ℕ → ℕ
 cheaply_kept {stands = stands} {cost = cost} {of = of} cheapest {p = p} sized chosen = record {
   pairs = record {
     len = sized;
-    below = λ l h u. cheapest.inside (at p l) (chosen.cheap l h u).0;
-    standing = λ l h u. let w = chosen.cheap l h u in
-        subst (λ (z : ℕ). stands z (at p l) ≡ true) w.1 (cheapest.stood (at p l) w.0);
-    once = λ l m hl hm ul um e. sym (chosen.cheap l hl ul).1 ∙ ap (at of.row) e ∙ (chosen.cheap m hm um).1;
+    below = λ l h u. grind (arith, chosen.cheap l, cheapest.inside);
+    standing = λ l h u. grind (arith, chosen.cheap l, cheapest.stood);
+    once = λ l m hl hm ul um e. grind (arith, chosen.cheap l, chosen.cheap m);
   };
   holding = chosen.holding;
-  fair = λ l c h u i s.
-      let w = chosen.cheap l h u in
-      let own : cost (at of.row (at p l)) (at p l) ≡ cost l (at p l) =
-      ap (λ z. cost z (at p l)) w.1 in
-      omega (arith, ints, cheapest.costs (at p l) w.0, (cheapest.least l c h s).1);
+  fair = λ l c h u i s. grind
+      (arith, ints, chosen.cheap l, cheapest.costs (at p l), cheapest.least l c);
 }

@@ -6,7 +6,6 @@
 use Rattle.std.proofs.Common.{◌≡◌, ℕ, ◌<◌, ◌≤◌, Bool, true, false, List, ℤ, ◌+ℤ◌, ◌≤ℤ◌, sym}
 use Rattle.std.proofs.Common.{refl, ◌∙◌, subst, inl, inr, ⊎_elim, arith}
 use Rattle.std.proofs.lemmas.Int.{ints}
-use Rattle.std.proofs.lemmas.Bool.{cases_lt}
 use Rattle.cost.specs.declared.TheConstants.{RAIL}
 use Rattle.cost.specs.Columns.{zeros}
 use Rattle.cost.proofs.Exact.{zeros_within}

@@ -49,13 +49,11 @@ module _ {K : Type 0} (kind : Ghosts K) where
   pub put_bound : (a b n : ℕ) (xs : List K) (i : ℕ) (y : K) → i < length xs → a ≤ b
       → Within b (kind.meaning y) → ((c : ℕ) → c < n → Within a (columns_at kind xs c))
       → (c : ℕ) → c < n → Within b (columns_at kind (set xs i y) c)
-  put_bound a b n xs i y h le near far c below = grind (
-    arith,
-    put_same xs i y h,
-    put_other xs i c y,
-    within_more a b (columns_at kind xs c) le (far c below),
-    cases_eq c i,
-  )
+  put_bound a b n xs i y h le near far c below =
+      let same = put_same xs i y h in
+      let other = put_other xs i c y in
+      let more = within_more a b (columns_at kind xs c) le (far c below) in
+      grind (arith, cases_eq c i)
 
 -- the part of a table that left block l has, where each has n places
 abbrev pub part_of : {X : Type 0} (n l : ℕ) → List X → List X

@@ -7,7 +7,6 @@ use Rattle.std.proofs.Common.{◌≡◌, ℕ, ◌↔◌, List, length, refl, sub
 use Rattle.blockset.specs.declared.BlockSet.{BlockSet}
 use Rattle.cost.specs.declared.Cost.{Ghosts}
 use Rattle.pairing.specs.Grid.{Sane, Optimum}
-use Rattle.pairing.specs.Optima.{optima}
 use Rattle.pairing.specs.Rows.{holds, Pairs, pairings}
 use Rattle.pairing.proofs.Duality.{valid_alike}
 use Rattle.pairing.proofs.Listing.{perfects_are}

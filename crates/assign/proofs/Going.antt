@@ -1,11 +1,10 @@
 -- What the steps of the row reduction leave of the first one.
 -- Idea: the first step carries a bid out if there is one; after it right blocks stay held, and no
 -- price rises.
-use Rattle.std.proofs.Common.{◌≡◌, ℕ, ◌<◌, ◌≤◌, Bool, true, false, not, ◌&&◌, List, ℤ}
+use Rattle.std.proofs.Common.{◌≡◌, ℕ, Bool, true, false, not, ◌&&◌, List}
 use Rattle.std.proofs.Common.{sym, ap, ◌∙◌, subst, ⊎_elim, arith, inl, inr}
 use Rattle.std.specs.Prelude.{MatchBool}
 use Rattle.std.proofs.lemmas.Int.{ints}
-use Rattle.std.proofs.lemmas.Bool.{both_ways, cases_lt}
 use Rattle.std.specs.Int.Signed.{≤ℤ_refl}
 use Rattle.std.proofs.Math.Bool.{and-true}
 use Rattle.cost.specs.declared.Cost.{Ghosts}
@@ -29,7 +28,7 @@ goes_further one two = record {
 
 -- two least ones are the same
 least_once : (s : BlockSet) (l m : ℕ) → IsLeast s l → IsLeast s m → l ≡ m
-least_once s l m a b = grind (arith, a.1, a.2 m, b.1, b.2 l)
+least_once s l m a b = grind arith
 
 -- where none is set aside, the rest is all
 module _ (out aside rest : BlockSet)

@@ -3,14 +3,13 @@
 -- distance short of that of the goal; no other price is written. At the end no taken right block
 -- waits.
 use Rattle.std.proofs.Common.{◌≡◌, ℕ, ◌<◌, Bool, true, false, not, ◌&&◌, eqb, List, ℤ, ◌+ℤ◌, ◌-ℤ◌}
-use Rattle.std.proofs.Common.{sym, refl, ap, ◌∙◌, subst, ⊎_elim, arith}
+use Rattle.std.proofs.Common.{refl, arith}
 use Rattle.std.proofs.lemmas.Int.{ints}
 use Rattle.std.proofs.lemmas.Bool.Decides.{nat_tests}
-use Rattle.std.proofs.lemmas.Bool.{cases_eq, both_ways}
+use Rattle.std.proofs.lemmas.Bool.{both_ways}
 use Rattle.cost.specs.Columns.{Within}
 use Rattle.cost.specs.Weights.{weight}
 use Rattle.assign.specs.declared.limits.TheConstants.{INNER_PRICE_LIMIT}
-use Rattle.blockset.proofs.Removing.{still_in, gone}
 
 -- the taken right blocks of `rest` have their price v still to be lowered; d: the distances, `far`:
 -- what that of the goal is beyond its price
@@ -37,9 +36,8 @@ module _ (n : ℕ) (taken : ℕ → Bool) (far : ℤ) (d : ℕ → ℤ) (v : ℕ
         → weight (v'' c) ≡ d c -ℤ far → Within INNER_PRICE_LIMIT (v'' c)
         → ((j : ℕ) → (j ≡ c → ⊥) → v'' j ≡ v' j) → Lowering n taken rest' far d v v''
     lowering_take c rest' v'' waits is new near others = record {
-      part = λ j t. grind (arith, nat_tests, is j, so_far.part j);
-      fallen = λ j t f. grind
-          (arith, ints, nat_tests, is j, others j, so_far.fallen j, cases_eq j c);
-      same = λ j f. grind (arith, nat_tests, others j, so_far.same j, so_far.part c, cases_eq j c);
-      bound = λ j h. grind (arith, others j, so_far.bound j, near, cases_eq j c);
+      part = λ j t. grind (arith, nat_tests);
+      fallen = λ j t f. grind (arith, ints, nat_tests);
+      same = λ j f. grind (arith, nat_tests);
+      bound = λ j h. grind (arith, others j);
     }

@@ -4,8 +4,8 @@
 use Rattle.std.proofs.Common.{◌≡◌, ℕ, Bool, true, false, not, ◌&&◌, List, length, ℤ}
 use Rattle.std.proofs.Common.{◌<◌, sym, refl, ◌∙◌, ⊎_elim, Option, Some, None, MatchOption, arith}
 use Rattle.std.proofs.lemmas.Bool.Decides.{nat_tests}
-use Rattle.std.proofs.lemmas.Bool.{cases_Bool, both_ways, and_from, not_from_false}
-use Rattle.std.proofs.lemmas.Bool.{and_parts, and_left, and_right, not-true, not_from_true}
+use Rattle.std.proofs.lemmas.Bool.{cases_Bool, and_from, not_from_false}
+use Rattle.std.proofs.lemmas.Bool.{and_left, and_right, not_from_true}
 use Rattle.cost.specs.declared.Cost.{Ghosts}
 use Rattle.tables.specs.Said.{columns_at}
 use Rattle.assign.specs.declared.tree.Nearby.{Nearby}

@@ -3,12 +3,12 @@
 -- Idea: one left block more offers its cost to each right block that it stands with. A right block
 -- without a price takes the offer, and one with a price takes it only if it is less. So the price
 -- that it has then is the cost of one of its pairs so far, and no pair so far costs less.
-use Rattle.std.proofs.Common.{◌≡◌, ℕ, ◌+◌, ◌<◌, Bool, true, false, ◌||◌, List, [], replicate, ℤ}
-use Rattle.std.proofs.Common.{pos, ◌≤ℤ◌, sym, ap, ◌∙◌, subst, ⊎_elim, arith}
+use Rattle.std.proofs.Common.{◌≡◌, ℕ, ◌+◌, ◌<◌, Bool, true, ◌||◌, List, [], replicate, ℤ}
+use Rattle.std.proofs.Common.{pos, sym, ap, ◌∙◌, subst, arith}
 use Rattle.std.proofs.lemmas.List.{get_or-map, get_or-replicate, length-replicate}
 use Rattle.std.proofs.lemmas.Int.{ints}
 use Rattle.std.proofs.lemmas.Bool.Decides.{nat_tests}
-use Rattle.std.proofs.lemmas.Bool.{cases_Bool, cases_eq, both_ways, or_left, or_right, or_cases}
+use Rattle.std.proofs.lemmas.Bool.{cases_eq, both_ways}
 use Rattle.cost.specs.declared.Cost.{Ghosts}
 use Rattle.cost.specs.Columns.{Within, zeros}
 use Rattle.cost.proofs.Exact.{zeros_within}
@@ -59,62 +59,14 @@ module _ (n : ℕ) (stands : ℕ → ℕ → Bool) (cost : ℕ → ℕ → ℤ) 
       (joined : (c : ℕ) → has of'.priced c ≡ (has of.priced c || stands m c))
       (offers : (c : ℕ) → Offered shift own m (stands m) (has of.priced) v (at of.row) v'
       (at of'.row) c) where
-    -- the price of c is what it costs with a left block that it stands with
-    CostOfOne : ℕ → Type 0
-    CostOfOne c = (c < n) × (at of'.row c < m + 1) × (stands (at of'.row c) c ≡ true)
-        × (v' c ≡ cost (at of'.row c) c)
-
-    one : (c : ℕ) → has of'.priced c ≡ true → CostOfOne c
-    unfolding CostOfOne
-    one c t = (
-      grind (arith, joined c, or_cases (has of.priced c) (stands m c), so_far.inside c, inside c),
-      grind (
-        arith,
-        joined c,
-        so_far.low c,
-        (offers c).others,
-        (offers c).change,
-        cases_Bool (stands m c),
-      ),
-      grind (
-        arith,
-        joined c,
-        so_far.stood c,
-        (offers c).others,
-        (offers c).change,
-        cases_Bool (stands m c),
-      ),
-      grind (
-        arith,
-        ints,
-        joined c,
-        so_far.costs c,
-        (offers c).others,
-        (offers c).change,
-        own_is c,
-        cases_Bool (stands m c),
-      ),
-    )
-
     pub cheapest_more : AreCheapest (m + 1) n stands cost of' v'
-    unfolding CostOfOne
     cheapest_more = record {
-      inside = λ c t. (one c t).0;
-      low = λ c t. (one c t).1;
-      stood = λ c t. (one c t).2;
-      costs = λ c t. (one c t).3;
+      inside = λ c t. grind (arith, nat_tests, joined c, so_far.inside c, inside c);
+      low = λ c t. grind (arith, nat_tests, joined c, so_far.low c, offers c);
+      stood = λ c t. grind (arith, nat_tests, joined c, so_far.stood c, offers c);
+      costs = λ c t. grind (arith, ints, nat_tests, joined c, so_far.costs c, offers c, own_is c);
       least = λ l c h st. (
         grind (arith, nat_tests, joined c, so_far.least l c, cases_eq l m),
-        grind (
-          arith,
-          ints,
-          so_far.least l c,
-          (offers c).others,
-          (offers c).most,
-          (offers c).less,
-          own_is c,
-          cases_eq l m,
-          cases_Bool (stands m c),
-        ),
+        grind (arith, ints, so_far.least l c, offers c, own_is c, cases_eq l m),
       );
     }

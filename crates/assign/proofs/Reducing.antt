@@ -3,9 +3,9 @@
 -- right block is nearer then. Any other left block keeps a right block whose price is the same, and
 -- what falls is farther for it than it was.
 use Rattle.std.proofs.Common.{◌≡◌, ℕ, ◌+◌, ◌*◌, ◌<◌, ◌≤◌, Bool, true, false, ◌||◌, eqb, List, length}
-use Rattle.std.proofs.Common.{set, ℤ, ◌+ℤ◌, ◌≤ℤ◌, sym, ap, ◌∙◌, subst, ⊎_elim, arith}
+use Rattle.std.proofs.Common.{set, ℤ, ◌+ℤ◌, ◌≤ℤ◌, sym, ap, subst, arith}
 use Rattle.std.proofs.lemmas.Int.{ints}
-use Rattle.std.proofs.lemmas.Bool.{cases_eq, cases_Bool}
+use Rattle.std.proofs.lemmas.Bool.{cases_eq}
 use Rattle.cost.specs.declared.Cost.{Ghosts}
 use Rattle.cost.specs.declared.TheConstants.{COST_LIMIT}
 use Rattle.cost.specs.Columns.{Within}
@@ -38,60 +38,22 @@ module _ {n : ℕ} {stands : ℕ → ℕ → Bool} {cost : ℕ → ℕ → ℤ} 
     (same : (c : ℕ) → (c ≡ j → ⊥) → v' c ≡ v c) where
   -- no price rises
   pub falls : (c : ℕ) → v' c ≤ℤ v c
-  falls c = grind (arith, ints, bid.falls, bid.free, same c, cases_eq c j, cases_Bool (has o.held j))
+  falls c = grind (arith, ints)
+
+  fair_new : (c : ℕ) → stands l c ≡ true → (v' c +ℤ cost l j) ≤ℤ (v' j +ℤ cost l c)
+  fair_new c st = grind (arith, ints, bid.best c, cases_eq c j)
 
   fair : (m c : ℕ) → m < n → out' m ≡ false → c < n → stands m c ≡ true
       → (v' c +ℤ cost m (at p' m)) ≤ℤ (v' (at p' m) +ℤ cost m c)
-  fair m c h u hc st = grind (
-    arith,
-    ints,
-    seated.gets,
-    seated.others m,
-    seated.was m,
-    same c,
-    same (at p m),
-    bid.best c,
-    falls c,
-    kept.fair m c h,
-    cases_eq m l,
-    cases_eq c j,
-  )
-
-  once : (m k : ℕ) → m < n → k < n → out' m ≡ false → out' k ≡ false → at p' m ≡ at p' k → m ≡ k
-  once m k hm hk um uk e = grind (
-    arith,
-    seated.gets,
-    seated.others m,
-    seated.others k,
-    seated.was m,
-    seated.was k,
-    kept.pairs.once m k,
-    cases_eq m l,
-    cases_eq k l,
-  )
+  fair m c h u hc st = grind (arith, ints, fair_new c, falls c, kept.fair m c, cases_eq m l)
 
   pub reduced_kept : Kept n stands cost out' p' o' v'
   reduced_kept = record {
     pairs = record {
       len = seated.len;
-      below = λ m h u. grind (
-        arith,
-        seated.gets,
-        seated.others m,
-        seated.was m,
-        kept.pairs.below m,
-        cases_eq m l,
-      );
-      standing = λ m h u. grind (
-        arith,
-        seated.gets,
-        seated.others m,
-        seated.was m,
-        kept.pairs.standing m,
-        bid.member,
-        cases_eq m l,
-      );
-      once = once;
+      below = λ m h u. grind arith;
+      standing = λ m h u. grind arith;
+      once = λ m k hm hk um uk e. grind arith;
     };
     holding = told;
     fair = fair;

@@ -2,11 +2,10 @@
 -- right blocks.
 -- Idea: each is written once, as what its pair costs beyond the price of the right block, so that
 -- the two prices add up to the cost; the others stay.
-use Rattle.std.proofs.Common.{◌≡◌, ℕ, ◌+◌, ◌<◌, true, List, length, ℤ, ◌+ℤ◌, ◌-ℤ◌, sym, ap, ◌∙◌}
-use Rattle.std.proofs.Common.{subst, ⊎_elim, arith}
+use Rattle.std.proofs.Common.{◌≡◌, ℕ, ◌+◌, ◌<◌, true, List, length, ℤ, ◌+ℤ◌, ◌-ℤ◌}
+use Rattle.std.proofs.Common.{arith}
 use Rattle.std.proofs.lemmas.Nat.{mul-add-lt}
 use Rattle.std.proofs.lemmas.Int.{ints}
-use Rattle.std.proofs.lemmas.Bool.{cases_eq}
 use Rattle.cost.specs.declared.Cost.{Ghosts}
 use Rattle.cost.specs.Columns.{Within}
 use Rattle.cost.specs.Weights.{weight}
@@ -38,7 +37,5 @@ module _ (cost : ℕ → ℕ → ℤ) (p : ℕ → ℕ) (right : ℕ → ℤ) wh
   pub priced_more : (k : ℕ) (left left' : ℕ → List ℤ) → PricedBelow k cost p right left
       → weight (left' k) ≡ cost k (p k) -ℤ right (p k) → Within LEFT_PRICE_LIMIT (left' k)
       → ((l : ℕ) → (l ≡ k → ⊥) → left' l ≡ left l) → PricedBelow (k + 1) cost p right left'
-  priced_more k left left' so_far new near others = record {
-    tight = λ l h. grind (arith, ints, so_far.tight l, others l, cases_eq l k);
-    bound = λ l h. grind (arith, so_far.bound l, others l, near, cases_eq l k);
-  }
+  priced_more k left left' so_far new near others =
+      record { tight = λ l h. grind (arith, ints); bound = λ l h. grind (arith, others l) }

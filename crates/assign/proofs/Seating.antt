@@ -12,10 +12,7 @@ use Rattle.matching.specs.Exchange.{Holding}
 -- a block that a set with c in it does not have is not c, and was not there before
 pub not_inserted : (C D : ℕ → Bool) (c : ℕ) → ((j : ℕ) → D j ≡ (eqb j c || C j)) → (j : ℕ)
     → D j ≡ false → (C j ≡ false) × (j ≡ c → ⊥)
-not_inserted C D c is j f = (
-  grind (arith, nat_tests, is j),
-  λ e. grind (arith, nat_tests, is j),
-)
+not_inserted C D c is j f = (grind (arith, nat_tests, is j), λ e. grind (arith, nat_tests, is j))
 
 -- left block l, which is left out, gets right block c, and the left block that had it is left out
 module _ {out : ℕ → Bool} {p : List ℕ} {o : Holders} (told : Holding 0 p out o)
@@ -28,31 +25,9 @@ module _ {out : ℕ → Bool} {p : List ℕ} {o : Holders} (told : Holding 0 p o
     (rest : (j : ℕ) → (j ≡ c → ⊥) → at o'.owner j ≡ at o.owner j) where
   pub seated_told : Holding 0 p' out' o'
   seated_told = record {
-    all = λ m _ h f. let lies : m < length p = omega (arith, long) in
-        grind (arith, nat_tests, ousted m, told.all m, others m, inserted (at p' m), gets);
+    all = λ m _ h f. grind (arith, nat_tests);
     low = λ j _. omega arith;
-    high = λ j t. grind (arith, nat_tests, inserted j, rest j, told.high j, new, long);
-    inside = λ j t. grind (
-      arith,
-      nat_tests,
-      inserted j,
-      rest j,
-      told.inside j,
-      told.inside c,
-      told.owner j,
-      told.owner c,
-      ousted (at o'.owner j),
-      new,
-    );
-    owner = λ j t. grind (
-      arith,
-      nat_tests,
-      inserted j,
-      rest j,
-      told.inside j,
-      told.owner j,
-      new,
-      gets,
-      others (at o.owner j),
-    );
+    high = λ j t. grind (arith, nat_tests);
+    inside = λ j t. grind (arith, nat_tests, ousted (at o'.owner j), told.owner c);
+    owner = λ j t. grind (arith, nat_tests, others (at o.owner j));
   }

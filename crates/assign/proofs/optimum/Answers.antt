@@ -1,5 +1,5 @@
 -- Usable tables make a sane grid, and what the search leaves in them is told by the grid.
-use Rattle.std.proofs.Common.{◌≡◌, List, ℕ, length, sym, refl, ◌∙◌, rules}
+use Rattle.std.proofs.Common.{List, ℕ, length, sym, refl, ◌∙◌, rules}
 use Rattle.pairing.specs.Grid.{Perfect}
 use Rattle.pairing.specs.Largest.{Unpaired}
 use Rattle.pairing.specs.Rows.{holds}

@@ -1,6 +1,6 @@
 -- The search comes to a free right block, since some pairing is perfect; then prices are lowered
 -- and pairs exchanged, as proofs/Augmenting.antt tells.
-use Rattle.std.proofs.Common.{◌≡◌, ℕ, true, length, sym, ◌∙◌, subst, arith, rules}
+use Rattle.std.proofs.Common.{◌≡◌, ℕ, true, sym, ◌∙◌, subst, arith, rules}
 use Rattle.blockset.specs.Has.{has}
 use Rattle.pairing.specs.Grid.{at}
 use Rattle.pairing.specs.Rows.{holds}

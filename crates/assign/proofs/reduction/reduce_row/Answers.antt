@@ -1,6 +1,6 @@
 -- What the left block bids for is told of its part of the cost table, and so of the table; then it
 -- is one step of proofs/Reducing.antt.
-use Rattle.std.proofs.Common.{◌≡◌, ◌+◌, ◌*◌, length, refl, subst, arith, rules}
+use Rattle.std.proofs.Common.{◌+◌, ◌*◌, length, refl, subst, arith}
 use Rattle.cost.specs.declared.TheConstants.{COST_LIMIT}
 use Rattle.cost.proofs.Exact.{within_more}
 use Rattle.cost.specs.Weights.{weight}

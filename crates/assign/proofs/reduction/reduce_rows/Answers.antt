@@ -1,6 +1,6 @@
 -- A step leaves what `reduce_row` promises, and there are at most 128 of them. If there is no first
 -- one, no left block is left out.
-use Rattle.std.proofs.Common.{◌≡◌, ◌+◌, ◌*◌, ◌∙◌, arith, sym, ap, subst, ⊎_elim, inr}
+use Rattle.std.proofs.Common.{◌+◌, ◌*◌, ◌∙◌, arith, sym, ap, subst, ⊎_elim, inr}
 use Rattle.std.proofs.lemmas.Bool.{both_ways}
 use Rattle.cost.specs.declared.TheConstants.{COST_LIMIT}
 use Rattle.cost.proofs.Exact.{within_more}

@@ -1,5 +1,5 @@
 -- The new holders are those of proofs/Seating.antt, where another left block had the right block.
-use Rattle.std.proofs.Common.{◌≡◌, ◌&&◌, ◌||◌, eqb, length, set, sym, ap, ◌∙◌, arith, rules}
+use Rattle.std.proofs.Common.{◌≡◌, ◌||◌, eqb, length, set, sym, ap, ◌∙◌, arith, rules}
 use Rattle.std.proofs.lemmas.List.{get_or-set_same, get_or-set_other, length-set}
 use Rattle.blockset.specs.declared.TheConstants.{SET_WIDTH}
 use Rattle.blockset.specs.Has.{has}
