@@ -1,4 +1,5 @@
--- What the search from a left block, the lowered prices and the exchange make of the pairing so far.
+-- What a search, the lowered prices and the exchange along the shortest augmenting path make of the
+-- pairing so far.
 -- Idea: proofs/Adding.antt tells it of lists and functions; here the same is said once of the
 -- tables that `pair_row` is lent, so that each of its calls gets what it asks for.
 use Rattle.std.proofs.Common.{◌≡◌, ℕ, ◌<◌, true, false, ◌||◌, eqb, List, length, ◌+ℤ◌, sym, ap}

@@ -4,6 +4,7 @@
 use Rattle.std.proofs.Common.{◌≡◌, ℕ, Bool, true, false, not, ◌&&◌, List, length, ℤ}
 use Rattle.std.proofs.Common.{◌<◌, sym, refl, ◌∙◌, ⊎_elim, Option, Some, None, MatchOption, arith}
 use Rattle.std.proofs.lemmas.Bool.Decides.{nat_tests}
+use Rattle.std.proofs.lemmas.Int.{ints}
 use Rattle.std.proofs.lemmas.Bool.{cases_Bool, and_from, not_from_false}
 use Rattle.std.proofs.lemmas.Bool.{and_left, and_right, not_from_true}
 use Rattle.cost.specs.declared.Cost.{Ghosts}
@@ -43,26 +44,6 @@ module _ (to reached held rest fresh known free other : ℕ → Bool)
     (known_is : (j : ℕ) → known j ≡ (to j && reached j))
     (free_is : (j : ℕ) → free j ≡ (rest j && not (held j)))
     (other_is : (j : ℕ) → other j ≡ (rest j && held j)) where
-  -- which part a right block is in
-  module _ (c : ℕ) where
-    not_fresh : (to c ≡ false) → fresh c ≡ false
-    not_fresh f = fresh_is c ∙ and_left (to c) (not (reached c)) f
-
-    fresh_no_more : reached c ≡ true → fresh c ≡ false
-    fresh_no_more r = fresh_is c ∙ and_right (to c) (not (reached c)) (not_from_true (reached c) r)
-
-    is_fresh : to c ≡ true → reached c ≡ false → fresh c ≡ true
-    is_fresh t f = fresh_is c ∙ and_from (to c) (not (reached c)) t (not_from_false (reached c) f)
-
-    is_known : to c ≡ true → reached c ≡ true → known c ≡ true
-    is_known t r = known_is c ∙ and_from (to c) (reached c) t r
-
-    not_known : to c ≡ false → known c ≡ false
-    not_known f = known_is c ∙ and_left (to c) (reached c) f
-
-    unknown : reached c ≡ false → known c ≡ false
-    unknown f = known_is c ∙ and_right (to c) (reached c) f
-
   module _ (shift : ℤ) (cost : ℕ → ℤ) (from : ℕ) (d : ℕ → ℤ) (via : ℕ → ℕ) (d₁ : ℕ → ℤ)
       (via₁ : ℕ → ℕ) (d₂ : ℕ → ℤ) (via₂ : ℕ → ℕ) (d₃ : ℕ → ℤ) (via₃ : ℕ → ℕ) (c : ℕ)
       (waiting : to c ≡ true → rest c ≡ true)
@@ -70,56 +51,19 @@ module _ (to reached held rest fresh known free other : ℕ → Bool)
       (second : Offered shift cost from (λ k. free k && known k) (λ _. true) d₁ via₁ d₂ via₂ c)
       (third : Offered shift cost from (λ k. other k && known k) (λ _. true) d₂ via₂ d₃ via₃ c)
     where
-      passed_by : to c ≡ false → Offered shift cost from to reached d via d₃ via₃ c
-      passed_by f =
-          let n = not_known c f in
-          let x = first.others (not_fresh c f) in
-          let y = second.others (and_right (free c) (known c) n) in
-          let z = third.others (and_right (other c) (known c) n) in
-          offered_like shift cost from to to reached reached d d via via d d₃ via via₃ c refl
-          (λ _. refl) refl refl (z.0 ∙ y.0 ∙ x.0) (z.1 ∙ y.1 ∙ x.1)
-          (offered_none shift cost from to reached d via c f)
-
-      at_first : to c ≡ true → reached c ≡ false
-          → Offered shift cost from to reached d via d₃ via₃ c
-      at_first t f =
-          let n = unknown c f in
-          let y = second.others (and_right (free c) (known c) n) in
-          let z = third.others (and_right (other c) (known c) n) in
-          offered_like shift cost from fresh to reached reached d d via via d₁ d₃ via₁ via₃ c
-          (t ∙ sym (is_fresh c t f)) (λ _. refl) refl refl (z.0 ∙ y.0) (z.1 ∙ y.1) first
-
-      among_free : to c ≡ true → reached c ≡ true → held c ≡ false
-          → Offered shift cost from to reached d via d₃ via₃ c
-      among_free t r f =
-          let x = first.others (fresh_no_more c r) in
-          let z = third.others (and_left (other c) (known c)
-          (other_is c ∙ and_right (rest c) (held c) f)) in
-          let here = and_from (free c) (known c)
-          (free_is c ∙ and_from (rest c) (not (held c)) (waiting t) (not_from_false (held c) f))
-          (is_known c t r) in
-          offered_like shift cost from (λ k. free k && known k) to (λ _. true) reached d₁ d via₁ via
-          d₂ d₃ via₂ via₃ c (t ∙ sym here) (λ _. sym r) (sym x.0) (sym x.1) z.0 z.1 second
-
-      among_held : to c ≡ true → reached c ≡ true → held c ≡ true
-          → Offered shift cost from to reached d via d₃ via₃ c
-      among_held t r h =
-          let x = first.others (fresh_no_more c r) in
-          let y = second.others (and_left (free c) (known c)
-          (free_is c ∙ and_right (rest c) (not (held c)) (not_from_true (held c) h))) in
-          let here = and_from (other c) (known c)
-          (other_is c ∙ and_from (rest c) (held c) (waiting t) h) (is_known c t r) in
-          offered_like shift cost from (λ k. other k && known k) to (λ _. true) reached d₂ d via₂
-          via d₃ d₃ via₃ via₃ c (t ∙ sym here) (λ _. sym r) (sym (y.0 ∙ x.0)) (sym (y.1 ∙ x.1)) refl
-          refl third
-
       pub offered_parts : Offered shift cost from to reached d via d₃ via₃ c
-      offered_parts = ⊎_elim
-          (λ (t : to c ≡ true). ⊎_elim
-          (λ (r : reached c ≡ true). ⊎_elim (λ (h : held c ≡ true). among_held t r h)
-          (λ (f : held c ≡ false). among_free t r f) (cases_Bool (held c)))
-          (λ (f : reached c ≡ false). at_first t f) (cases_Bool (reached c)))
-          (λ (f : to c ≡ false). passed_by f) (cases_Bool (to c))
+      offered_parts =
+          let a = fresh_is c in
+          let b = known_is c in
+          let e = free_is c in
+          let f = other_is c in
+          record {
+            others = λ o. (grind (arith, nat_tests), grind (arith, nat_tests));
+            change = λ t. grind (arith, nat_tests, cases_Bool (held c), cases_Bool (reached c));
+            most = λ t. grind
+                (arith, ints, nat_tests, cases_Bool (held c), cases_Bool (reached c));
+            less = λ t r. grind (arith, ints, nat_tests, cases_Bool (held c));
+          }
 
 -- what was found of a set is the nearest of it, however the set is told
 pub found_in : {K : Type 0} (kind : Ghosts K) (set set' : ℕ → Bool) (right d : List K)

@@ -2,8 +2,8 @@
 -- Idea: the price of that right block falls, and no other changes. For the new left block no other
 -- right block is nearer then. Any other left block keeps a right block whose price is the same, and
 -- what falls is farther for it than it was.
-use Rattle.std.proofs.Common.{◌≡◌, ℕ, ◌+◌, ◌*◌, ◌<◌, ◌≤◌, Bool, true, false, ◌||◌, eqb, List, length}
-use Rattle.std.proofs.Common.{set, ℤ, ◌+ℤ◌, ◌≤ℤ◌, sym, ap, subst, arith}
+use Rattle.std.proofs.Common.{◌≡◌, ℕ, ◌+◌, ◌*◌, ◌<◌, ◌≤◌, Bool, true, false, ◌||◌, eqb, List}
+use Rattle.std.proofs.Common.{length, set, ℤ, ◌+ℤ◌, ◌≤ℤ◌, sym, ap, subst, arith}
 use Rattle.std.proofs.lemmas.Int.{ints}
 use Rattle.std.proofs.lemmas.Bool.{cases_eq}
 use Rattle.cost.specs.declared.Cost.{Ghosts}

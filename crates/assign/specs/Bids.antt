@@ -1,4 +1,5 @@
--- Which right block a left block takes from whoever has it, and at what price.
+-- Augmenting row reduction: which right block a left block takes from whoever has it, and at what
+-- price.
 use Rattle.std.specs.Prelude.{◌≡◌, ℕ, ◌+◌, ◌*◌, ◌<◌, ◌≤◌, Bool, true, false, List, length, ℤ}
 use Rattle.std.specs.Prelude.{◌+ℤ◌, ◌≤ℤ◌, ◌<ℤ◌, ◌≢◌, ◌⊎◌, Option, MatchOption}
 use Rattle.cost.specs.declared.Cost.{Ghosts}

@@ -1,5 +1,5 @@
--- The pairing as it grows: the pairs that cost least, and what is kept from one left block to the
--- next.
+-- The pairing as it grows: what is kept from one left block to the next, and the pairs that cost
+-- least.
 use Rattle.std.specs.Prelude.{◌≡◌, ℕ, ◌<◌, ◌≤◌, Bool, true, false, List, length, ℤ, ◌≤ℤ◌, ◌≢◌, ◌↔◌}
 use Rattle.cost.specs.declared.Cost.{Ghosts}
 use Rattle.cost.specs.declared.TheConstants.{COST_LIMIT}
@@ -29,8 +29,8 @@ abbrev pub so_far : {K : Type 0} → (ℕ → Bool) → List ℕ → Holders →
 so_far out partners holders right =
     record { out = out; partners = partners; holders = holders; right = right }
 
--- the prices go with the pairing so far; the price of a right block that was never taken is still a
--- cost, and no price is far
+-- The prices, which are dual prices of the right blocks, go with the pairing so far. The price of a
+-- right block that was never taken is still a cost, and no price is far.
 pub record IsPriced {K : Type 0} (kind : Ghosts K) (rows : List BlockSet) (costs : List K)
     (now : SoFar K) : Type 0 where
   pub kept : Kept (length rows) (holds rows) (cost_weight kind (length rows) costs) now.out

@@ -3,9 +3,9 @@
 //!
 //! Each right block starts at the price of its cheapest pair, and every left block that some right
 //! block is cheapest with is paired at once. The others then take right blocks from one another, as
-//! long as lower prices make up for it, for two steps a left block (row reduction). Those that are
-//! left out still are paired one at a time, each along the cheapest alternating chain to a free
-//! right block (shortest augmenting paths). A last search finds the greatest prices. There are at
+//! long as lower prices make up for it, for two steps a left block (augmenting row reduction). Those
+//! that are left out still are paired one at a time, each along the cheapest alternating path to a
+//! free right block (shortest augmenting paths). A last search finds the greatest prices. There are at
 //! most 2n steps and n + 1 searches of at most n turns, and a step or a turn looks at each right
 //! block at most twice: O(n³) steps, whatever the costs.
 #![tactic(auto)]

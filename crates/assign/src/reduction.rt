@@ -1,6 +1,6 @@
-//! Row reduction: before the searches, left blocks that are left out take right blocks from one
-//! another, and the prices fall by what makes up for it. That pairs most of them at the price of a
-//! look along their rows.
+//! Augmenting row reduction: before the searches, left blocks that are left out take right blocks
+//! from one another, and the prices fall by what makes up for it. That pairs most of them at the
+//! price of a look at the right blocks that each stands with.
 
 ghost use Rattle.std.specs.Prelude.{◌≡◌, ℕ, ◌+◌, ◌*◌, ◌<◌, ◌≤◌, true, length, ℤ, ◌||◌, ◌==◌};
 ghost use Rattle.std.specs.Prelude.{MatchBool, IfSome};

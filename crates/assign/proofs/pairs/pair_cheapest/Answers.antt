@@ -47,8 +47,8 @@ loop-c-preserved-then-contains c =
       can_next = tt;
       is_finite = tt;
       choosing = choosing_take c.args.n priced row c.requires.inside rest out p o
-          c.loop-c.invariant.choosing r
-          rest' steps.others steps.member steps.least (has c.remove.new.self) (set p l r)
+          c.loop-c.invariant.choosing r rest' steps.others steps.member steps.least
+          (has c.remove.new.self) (set p l r)
           (record { held = c.insert.new.self; owner = set who r l }) (length-set p l r)
           c.remove.ensures
           (get_or-set_same p l r 0 in-partners) (λ j ne. get_or-set_other p l j r 0 ne)
