@@ -7,7 +7,7 @@ use Rattle.cost.specs.declared.TheConstants.{COST_LIMIT}
 use Rattle.cost.specs.Columns.{within}
 use Rattle.pairing.specs.Grid.{Grid}
 use Rattle.pairing.specs.Optima.{perfects}
-use Rattle.pairing.specs.Places.{places_of}
+use Rattle.pairing.specs.Places.{places_of, rights_of}
 use Rattle.sheet.specs.declared.fault.Cause.{Cause}
 use Rattle.sheet.specs.declared.fault.Cause.TheVariants.{TableLength, Block, CostRange, Absent}
 use Rattle.sheet.specs.declared.fault.Cause.TheVariants.{NoPerfectPairing}
@@ -49,7 +49,7 @@ abbrev pub pair_tables_fit : ℕ → Lengths → Bool
 pair_tables_fit n h = h.costs == places_of n && h.standing == places_of n
 
 abbrev pub tables_fit : ℕ → Lengths → Bool
-tables_fit n h = pair_tables_fit n h && h.partners == n && h.left == n && h.right == n
+tables_fit n h = pair_tables_fit n h && h.partners == n && h.left == n && h.right == rights_of n
 
 -- what a call needs, in the order in which it is tested, each with the cause of its refusal: the
 -- first that does not hold refuses

@@ -1,6 +1,6 @@
 -- The tables of a sheet, one by one: what is said of each table is said once.
 use Rattle.std.specs.Prelude.{◌≡◌, ℕ, Bool, true, false, List, length}
-use Rattle.pairing.specs.Places.{places_of}
+use Rattle.pairing.specs.Places.{places_of, rights_of}
 use Rattle.tables.specs.Lent.{Lent, lent as as_one}
 use Rattle.session.specs.declared.call.Lengths.{Lengths}
 use Rattle.session.specs.Book.{Phase, opened, settled, walking}
@@ -69,6 +69,7 @@ abbrev pub places_in : ℕ → Table → ℕ
 places_in n the_costs = places_of n
 places_in n the_standing = places_of n
 places_in n the_marks = places_of n
+places_in n the_right = rights_of n
 places_in n _ = n
 
 abbrev pub right_lengths : ℕ → Lengths

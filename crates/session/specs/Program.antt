@@ -4,7 +4,7 @@ use Rattle.std.specs.Prelude.{◌≡◌, ℕ, ◌<◌, Bool, true, false, not, �
 use Rattle.std.specs.Prelude.{⊤, length, Ok, Err, Some, None, Option, Result, slice_index_or}
 use Rattle.cost.specs.declared.Cost.{Ghosts}
 use Rattle.pairing.specs.Grid.{total}
-use Rattle.pairing.specs.Places.{place_of, places_of}
+use Rattle.pairing.specs.Places.{place_of, places_of, rights_of}
 use Rattle.matching.specs.declared.stepping.Step.{Step}
 use Rattle.matching.specs.declared.stepping.Step.TheVariants.{Next as Onward, End}
 use Rattle.tables.specs.Lent.{grid}
@@ -212,9 +212,10 @@ module _ {K : Type 0} (kind : Ghosts K) where
   pub record ShowCells (n : ℕ) (cells : ℕ → ℕ → Option K) (own : TableLists K) : Type 0 where
     pub costs_long : length own.costs ≡ places_of n
     pub standing_long : length own.standing ≡ places_of n
-    pub costs : (l r : ℕ) → l < n → r < n
+    pub costs : (l r : ℕ) → l < n → r < rights_of n
         → slice_index_or own.costs (place_of n l r) kind.zero ≡ cost_in kind.zero (cells l r)
-    pub standing : (l r : ℕ) → l < n → r < n → byte_of n own.standing l r ≡ byte_in (cells l r)
+    pub standing : (l r : ℕ) → l < n → r < rights_of n
+        → byte_of n own.standing l r ≡ byte_in (cells l r)
 
   -- WHAT THE TABLES HOLD after some calls of a program: the pair tables show the book's cells, and
   -- each other table that the state rests on holds what the calls gave of it last, so partners and

@@ -9,7 +9,7 @@ use Rattle.cost.specs.Columns.{plus, minus}
 use Rattle.pairing.specs.Grid.{Grid, total}
 use Rattle.pairing.specs.Largest.{Unpaired}
 use Rattle.pairing.specs.Optima.{optima}
-use Rattle.pairing.specs.Places.{places_of}
+use Rattle.pairing.specs.Places.{places_of, rights_of}
 use Rattle.pairing.specs.Prices.{Greatest}
 use Rattle.matching.specs.Answers.{IsNth, MarksOf}
 use Rattle.matching.specs.declared.augmenting.Shortfall.{Shortfall}
@@ -96,9 +96,9 @@ module _ {K : Type 0} (kind : Ghosts K) (n : ℕ) where
     pub partners_long : length w.partners ≡ n
     pub greatest : Greatest g (columns_at kind w.left) (columns_at kind w.right) w.partners
     pub left_long : length w.left ≡ n
-    pub right_long : length w.right ≡ n
+    pub right_long : length w.right ≡ rights_of n
     pub left_near : Bounded kind PRICE_LIMIT n w.left
-    pub right_near : Bounded kind PRICE_LIMIT n w.right
+    pub right_near : Bounded kind PRICE_LIMIT (rights_of n) w.right
 
   -- the pair's cost, and what it exceeds the two prices by that the settle wrote
   pub record IsQuoted (cell : Option K) (w : Settlement K) (l r : ℕ) (quote : K × K) : Type 0 where

@@ -4,7 +4,7 @@ use Rattle.std.specs.Prelude.{nat_lt, slice_index_or}
 use Rattle.cost.specs.declared.Cost.{Ghosts}
 use Rattle.cost.specs.declared.TheConstants.{COST_LIMIT}
 use Rattle.cost.specs.Columns.{Within}
-use Rattle.pairing.specs.Places.{place_of}
+use Rattle.pairing.specs.Places.{place_of, rights_of}
 use Rattle.tables.specs.PairTables.{HavePlaces, says_stands, says_disturbed, byte_of}
 use Rattle.tables.specs.PairTables.{costs_entered, standing_entered, costs_struck, standing_struck}
 use Rattle.sheet.specs.Needs.{Needs, need, nothing, Responds}
@@ -12,14 +12,14 @@ use Rattle.sheet.specs.declared.fault.Fault.{Fault}
 use Rattle.sheet.specs.declared.fault.Cause.TheVariants.{TableLength, Block, CostRange, Absent}
 use Rattle.sheet.specs.declared.fault.Cause.TheVariants.{Inconsistent}
 
--- there are a left block l and a right block r, of n each
+-- there are a left block l of n, and a right block r of those that face them
 pub record AreBlocks (n l r : ℕ) : Type 0 where
   pub left_below : l < n
-  pub right_below : r < n
+  pub right_below : r < rights_of n
 
 -- the test for it
 abbrev pub are_blocks : (n l r : ℕ) → Bool
-are_blocks n l r = nat_lt l n && nat_lt r n
+are_blocks n l r = nat_lt l n && nat_lt r (rights_of n)
 
 -- the two pair tables hold this
 pub record PairTablesAre {K : Type 0} (costs : List K) (standing : List ℕ) (costs' : List K)

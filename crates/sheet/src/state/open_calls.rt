@@ -2,7 +2,7 @@
 
 ghost use Rattle.std.specs.Prelude.{◌≡◌, ◌<◌, ⊤, length, IfOk, OnOk, OnErr, Some, None};
 ghost use Rattle.tables.specs.PairTables.{cell, ChangesCell, AllAbsent, HavePlaces};
-ghost use Rattle.pairing.specs.Places.{place_of};
+ghost use Rattle.pairing.specs.Places.{place_of, rights_of};
 ghost use Rattle.sheet.specs.Needs.{nothing, Responds};
 ghost use Rattle.sheet.specs.Opening.{Opened};
 ghost use Rattle.sheet.specs.Pairs.{place_needs, strike_needs, Enters, Strikes, Reads};
@@ -106,7 +106,7 @@ impl OpenSheet {
         ensures cell { let n = size_of self.now in
             IfOk result (λ cost. cell K.zero n costs.now standing.now left right ≡ Some cost) }
         ensures no_cell { let n = size_of self.now in
-            HavePlaces n (length costs.now) (length standing.now) → left < n → right < n
+            HavePlaces n (length costs.now) (length standing.now) → left < n → right < rights_of n
             → OnErr result (cell K.zero n costs.now standing.now left right ≡ None) }
     {
         let at = self.find(costs, standing, left, right)?;
