@@ -25,7 +25,8 @@ takes_more ss ts old mid new xs ys a b = (
   a.0 ++ b.0,
   a.1 ∙ ap (λ ws. a.0 ++ ws) b.1 ∙ sym (append_assoc a.0 b.0 new),
   all_fit_more ss ts a.0 b.0 a.2 b.2,
-  ap (λ zs. zs ++ ys) a.3 ∙ ap (λ zs. map integer_in a.0 ++ zs) b.3 ∙ sym (map-append integer_in a.0 b.0),
+  ap (λ zs. zs ++ ys) a.3 ∙ ap (λ zs. map integer_in a.0 ++ zs) b.3
+      ∙ sym (map-append integer_in a.0 b.0),
 )
 
 long : (form : List ℕ) (ss : List Slot) (xs ws : List (List ℕ)) (c : Complaint)

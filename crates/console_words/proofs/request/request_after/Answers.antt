@@ -11,6 +11,7 @@ pub returns-in_ok-act-in-Call-clause-longer : goal.returns-in_ok-act-in-Call-cla
 returns-in_ok-act-in-Call-clause-longer g c = λ complaint more many.
     let act = c.in_ok-act-in-Call in
     rw c.in-Call.is (inr (too_long (form_words g.K.TypedCost.entering c.in-Call.verb)
-    (slots_of g.K.Cost c.in-Call.verb) (words_left c.args.words.now) (words_left c.typed_act.new.words)
-    (numbers_of g.K.Cost g.K.TypedCost.numbers act.act) complaint act.ensures.told more
+    (slots_of g.K.Cost c.in-Call.verb) (words_left c.args.words.now)
+    (words_left c.typed_act.new.words) (numbers_of g.K.Cost g.K.TypedCost.numbers act.act)
+    complaint act.ensures.told more
     (subst (λ form. IsTooMany form complaint) act.ensures.form many)))

@@ -12,6 +12,7 @@ returns-in_ok-cost-in-Enter-clause-told g c =
     let first = subst (λ ws. Takes (a_block ∷ (a_block ∷ [])) ws (words_left c.typed_pair.new.words)
     (pos pair.left ∷ (pos pair.right ∷ []))) c.expect_form.ensures.words pair.ensures.told in
     rw c.in-Enter.is (takes_more (a_block ∷ (a_block ∷ [])) (replicate g.K.Cost.columns a_number)
-    (words_left c.args.words.now) (words_left c.typed_pair.new.words) (words_left c.take_from.new.words)
+    (words_left c.args.words.now) (words_left c.typed_pair.new.words)
+    (words_left c.take_from.new.words)
     (pos pair.left ∷ (pos pair.right ∷ [])) (g.K.TypedCost.numbers c.in_ok-cost-in-Enter.cost)
     first c.in_ok-cost-in-Enter.ensures.told)

@@ -7,5 +7,6 @@ use Rattle.console_words.proofs.request.typed_pair.Goals as goal
 
 pub returns-clause-told : goal.returns-clause-told
 returns-clause-told c = takes_more (a_block ∷ []) (a_block ∷ []) (words_left c.args.words.now)
-    (words_left c.next_block.new.self) (words_left c.next_block-2.new.self) (pos c.in_ok-left.left ∷ [])
-    (pos c.in_ok-right.right ∷ []) c.in_ok-left.ensures.told c.in_ok-right.ensures.told
+    (words_left c.next_block.new.self) (words_left c.next_block-2.new.self)
+    (pos c.in_ok-left.left ∷ []) (pos c.in_ok-right.right ∷ []) c.in_ok-left.ensures.told
+    c.in_ok-right.ensures.told

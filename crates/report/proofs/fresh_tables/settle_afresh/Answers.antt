@@ -1,4 +1,4 @@
--- Where no pairing is perfect, the crowd set and its shortage come along, and no pairing is optimum.
+-- Where no pairing is perfect, none is optimum, and the crowd set and its shortage come along.
 use Rattle.report.proofs.Accepting.{no_optimum}
 use Rattle.report.proofs.fresh_tables.settle_afresh.Goals as goal
 

@@ -26,7 +26,7 @@ returns c =
     let costs = partners_total t c.requires.together z
     (subst (λ u. rail_of z ∷ [] ≡ total (grid plain_kind u) u.partners) same
     c.in-Ok.ensures.1) in
-    over_first g (optima g) t.partners (string_bytes c.push_pairings.new.text) c.requires.settled.first
-    (c.in_ok-push_pairings.ensures ∙ ap (λ s. s ++ listed (optima g))
+    over_first g (optima g) t.partners (string_bytes c.push_pairings.new.text)
+    c.requires.settled.first (c.in_ok-push_pairings.ensures ∙ ap (λ s. s ++ listed (optima g))
     (c.in_ok-push_total_line.ensures
     ∙ ap (λ s. s ++ total_line (z ∷ [])) c.new-text.ensures.bytes ∙ ap total_line costs))

@@ -18,12 +18,13 @@ step-requires-clause-optimum c =
 
 pub returns-in-End : goal.returns-in-End
 returns-in-End c =
-    let ps = optima (grid plain_kind c.args.tables.now) in
+    let g = grid plain_kind c.args.tables.now in
+    let ps = optima g in
     let k = c.loop.counter in
     let start = string_bytes c.args.text.now in
     let text = string_bytes c.push_pairing_line.new.text in
-    let last : k + 1 ≡ length ps = place_last ps (optima_distinct (grid plain_kind c.args.tables.now))
-    k c.loop.list c.step.new.list c.loop.invariant.here c.in-End.ensures in
+    let last : k + 1 ≡ length ps = place_last ps (optima_distinct g) k c.loop.list
+    c.step.new.list c.loop.invariant.here c.in-End.ensures in
     let all : text ≡ start ++ pairing_lines (take 1000 ps) =
     line_more ps start (string_bytes c.loop.text) text k c.loop.list c.loop.invariant.here
     c.loop.invariant.lines c.in_ok-push_pairing_line.ensures
