@@ -2,7 +2,7 @@
 -- Idea: what is left of the file is always the bytes of what is still to come, and the tables are
 -- those after the pairs that came. So the reader meets a sound field each time, which states what
 -- it was written for, and each step takes one pair over from those to come to those that came.
-use Rattle.std.proofs.Common.{◌≡◌, ℕ, List, [], ◌∷◌, ◌++◌, drop, Some, None, Ok, Err, set, sym}
+use Rattle.std.proofs.Common.{◌≡◌, ℕ, List, Option, Result, [], ◌∷◌, ◌++◌, drop, Some, None, Ok, Err, set, sym}
 use Rattle.std.proofs.Common.{refl, ap, ◌∙◌, subst, append_assoc}
 use Rattle.std.proofs.lemmas.List.{append-nil}
 use Rattle.std.specs.List.{flat_map, AllByRecursion}
@@ -10,8 +10,7 @@ use Rattle.cost.specs.declared.plain_kind.Plain.{Plain}
 use Rattle.pairing.specs.Places.{place_of}
 use Rattle.tables.specs.PairTables.{costs_entered, standing_entered}
 use Rattle.sheet.specs.declared.fault.Fault.{Fault}
-use Rattle.sheet.specs.Refusals.{answer, after}
-use Rattle.sheet.proofs.Refused.{from_err, from_ok, renewed}
+use Rattle.sheet.proofs.Refused.{from_err}
 use Rattle.orderfile.specs.declared.record.StatedPair.{StatedPair}
 use Rattle.orderfile.specs.declared.record.Record.{Record}
 use Rattle.orderfile.specs.declared.record.Record.TheVariants.{Pair}
@@ -20,8 +19,9 @@ use Rattle.orderfile.specs.declared.record.Stage.TheVariants.{Start, Sized, Ende
 use Rattle.orderfile.specs.Format.{Order, FitsSheet, PairFits, pair_field, end_field, file_of}
 use Rattle.orderfile.specs.Format.{pair_in, value_of}
 use Rattle.orderfile.specs.Faults.{field_fault}
-use Rattle.orderfile.specs.Records.{next_record, stage_next, record_length}
+use Rattle.orderfile.specs.Records.{StepsFrom, next_record, stage_next, record_length}
 use Rattle.orderfile.specs.Loading.{plain, costs_after, standing_after}
+use Rattle.orderfile.proofs.Reading.{HasPassed}
 use Rattle.orderfile.proofs.Fields.{size_sound, pair_sound, pair_stated, end_sound}
 
 -- entering some pairs and then others
@@ -78,12 +78,12 @@ module _ (order : Order) (costs₀ : List Plain) (standing₀ : List ℕ) where
         → ((p : StatedPair) → next ≡ Pair p → ⊥)
         → IsAhead (stage_next stage rest) (drop (record_length stage rest) rest) costs standing
 
-  module _ (sound : FitsSheet order) (costs : List Plain) (standing : List ℕ) where
+  module _ (fits : FitsSheet order) (costs : List Plain) (standing : List ℕ) where
     -- before the size all pairs are still to come
     meets_size : costs ≡ costs₀ → standing ≡ standing₀ → Meets Start (file_of order) costs standing
     meets_size ec es = record {
       clear = λ at. size_sound order.size (flat_map pair_field order.pairs ++ end_field) at
-          sound.some sound.few;
+          fits.some fits.few;
       fits = λ p e. cc;
       enters = λ p e. cc;
       passes = λ next e other. (
@@ -154,26 +154,21 @@ module _ (order : Order) (costs₀ : List Plain) (standing₀ : List ℕ) where
           → rest ≡ flat_map pair_field todo ++ end_field
           → Meets (Sized order.size) rest costs standing
       meets_next [] rest all left =
-          subst (λ (r : List ℕ). Meets (Sized order.size) r costs standing) (sym left)
-          (meets_end (all ∙ append-nil done))
+          rw left (meets_end (all ∙ append-nil done))
       meets_next (p ∷ todo) rest all left =
           let those : AllByRecursion (PairFits order.size) (p ∷ todo) =
           all_later (PairFits order.size) done (p ∷ todo)
-          (subst (λ (ps : List StatedPair). AllByRecursion (PairFits order.size) ps) all
-          sound.pairs_fit) in
-          subst (λ (r : List ℕ). Meets (Sized order.size) r costs standing)
-          (sym (left ∙ append_assoc (pair_field p) (flat_map pair_field todo) end_field))
+          (subst (AllByRecursion (PairFits order.size)) all fits.pairs_fit) in
+          rw (left ∙ append_assoc (pair_field p) (flat_map pair_field todo) end_field)
           (meets_pair p todo all those.0)
 
     pub meets : (stage : Stage) (rest : List ℕ) → IsAhead stage rest costs standing
         → Meets stage rest costs standing
-    meets Start rest h = subst (λ (r : List ℕ). Meets Start r costs standing) (sym h.0)
-        (meets_size h.1 h.2)
+    meets Start rest h = rw h.0 (meets_size h.1 h.2)
     meets (Sized n) rest h =
         let s = h.1 in
-        subst (λ (m : ℕ). Meets (Sized m) rest costs standing) (sym h.0)
-        (meets_next s.done s.costs_are s.standing_are s.todo rest s.all s.left)
-    meets (Ended n) rest h = subst (λ (r : List ℕ). Meets (Ended n) r costs standing) (sym h.0)
+        rw h.0 (meets_next s.done s.costs_are s.standing_are s.todo rest s.all s.left)
+    meets (Ended n) rest h = rw h.0
         (record {
           clear = λ at. refl;
           fits = λ p e. cc;
@@ -182,47 +177,32 @@ module _ (order : Order) (costs₀ : List Plain) (standing₀ : List ℕ) where
         })
 
 -- a call of `next` on a record reader that stands where this is ahead
-module _ (order : Order) (costs₀ : List Plain) (standing₀ : List ℕ) (sound : FitsSheet order)
-    (stage : Stage) (rest : List ℕ) (at : ℕ) (stage' : Stage) (rest' : List ℕ)
-    (stages : stage' ≡ after (field_fault stage rest at) stage (stage_next stage rest))
-    (passes : rest' ≡ after (field_fault stage rest at) rest (drop (record_length stage rest) rest))
-    (costs : List Plain) (standing : List ℕ)
+module _ (order : Order) (costs₀ : List Plain) (standing₀ : List ℕ) (fits : FitsSheet order)
+    (stage : Stage) (rest : List ℕ) (costs : List Plain) (standing : List ℕ)
     (ahead : IsAhead order costs₀ standing₀ stage rest costs standing) where
   met : Meets order costs₀ standing₀ stage rest costs standing
-  met = meets order costs₀ standing₀ sound costs standing stage rest ahead
-
-  moved : (costs' : List Plain) (standing' : List ℕ)
-      → IsAhead order costs₀ standing₀ (stage_next stage rest) (drop (record_length stage rest) rest)
-      costs' standing'
-      → IsAhead order costs₀ standing₀ stage' rest' costs' standing'
-  moved costs' standing' h =
-      let e = met.clear at in
-      subst (λ (r : List ℕ). IsAhead order costs₀ standing₀ stage' r costs' standing')
-      (renewed _ _ _ e ∙ sym passes)
-      (subst (λ (s : Stage). IsAhead order costs₀ standing₀ s
-      (drop (record_length stage rest) rest) costs' standing') (renewed _ _ _ e ∙ sym stages) h)
+  met = meets order costs₀ standing₀ fits costs standing stage rest ahead
 
   -- it is not refused
-  pub never_refused : (f : Fault) → Err f ≡ answer (field_fault stage rest at)
-      (next_record stage rest) → ⊥
-  never_refused f e =
-      let known = from_err _ _ f e in let clear = met.clear at in
-      cc
+  pub never_refused : {at : ℕ} {r : Result (Option Record) Fault} {stage' : Stage}
+      {rest' : List ℕ} {at' : ℕ} → StepsFrom stage rest at r stage' rest' at' → (f : Fault)
+      → r ≡ Err f → ⊥
+  never_refused {at = at} s f e =
+      let known = from_err _ (next_record stage rest) f (sym e ∙ s.answers) in
+      let clear = met.clear at in cc
 
-  -- where it hands out a pair, the sheet takes it, and this is ahead once it was entered
-  pub handed_next : (p : StatedPair) → Ok (Some (Pair p)) ≡ answer (field_fault stage rest at)
-      (next_record stage rest)
-      → PairFits order.size p
-      × IsAhead order costs₀ standing₀ stage' rest'
-      (costs_entered order.size p.left p.right (plain p.cost) costs)
-      (standing_entered order.size p.left p.right standing)
-  handed_next p answers =
-      let next = sym (from_ok _ _ _ answers).1 in
-      (met.fits p next, moved _ _ (met.enters p next))
+  module _ {at : ℕ} {next : Record} {stage' : Stage} {rest' : List ℕ} {at' : ℕ}
+      (h : HasPassed stage rest at (Some next) stage' rest' at') where
+    -- where it hands out a pair, the sheet takes it, and this is ahead once it was entered
+    pub handed_next : (p : StatedPair) → next ≡ Pair p → PairFits order.size p
+        × IsAhead order costs₀ standing₀ stage' rest'
+        (costs_entered order.size p.left p.right (plain p.cost) costs)
+        (standing_entered order.size p.left p.right standing)
+    handed_next p e =
+        let same : next_record stage rest ≡ Some (Pair p) = sym h.next ∙ ap Some e in
+        (met.fits p same, rw (h.stages, h.passes) (met.enters p same))
 
-  -- where it hands out another record, this is ahead of the same tables
-  pub passed_next : (next : Record) → ((p : StatedPair) → next ≡ Pair p → ⊥)
-      → Ok (Some next) ≡ answer (field_fault stage rest at) (next_record stage rest)
-      → IsAhead order costs₀ standing₀ stage' rest' costs standing
-  passed_next next other answers =
-      moved _ _ (met.passes next (sym (from_ok _ _ _ answers).1) other)
+    -- where it hands out another record, this is ahead of the same tables
+    pub passed_next : ((p : StatedPair) → next ≡ Pair p → ⊥)
+        → IsAhead order costs₀ standing₀ stage' rest' costs standing
+    passed_next other = rw (h.stages, h.passes) (met.passes next (sym h.next) other)

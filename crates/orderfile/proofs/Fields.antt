@@ -35,9 +35,9 @@ pub end_sound : (n : ℕ) (more : List ℕ) (at : ℕ) → field_fault (Sized n)
 end_sound n more at = grind (arith, nat_tests)
 
 -- a number within 10^9 fits 64 bits
-pub fits : (z : ℤ) → nat_abs z ≤ 1000000000 → SFits w64 z
-fits (pos k) small = record { sfits = omega arith }
-fits (negsuc k) small = record { sfits = omega arith }
+pub cost_fits : (z : ℤ) → nat_abs z ≤ 1000000000 → SFits w64 z
+cost_fits (pos k) small = record { sfits = omega arith }
+cost_fits (negsuc k) small = record { sfits = omega arith }
 
 bits_fit : (z : ℤ) → nat_abs z ≤ 1000000000 → of_z w64 z < 18446744073709551616
 bits_fit (pos k) small = omega arith
@@ -53,7 +53,7 @@ pair_stated p more small =
     (of_z w64 p.cost / 16777216 % 256) (of_z w64 p.cost / 65536 % 256) (of_z w64 p.cost / 256 % 256)
     (of_z w64 p.cost % 256)) ≡ p.cost =
     ap (to_z w64) (bytes_spell (of_z w64 p.cost) (bits_fit p.cost small)) ∙ to_z-of_z w64 p.cost
-    (fits p.cost small) in
+    (cost_fits p.cost small) in
     ap (λ z. record { left = p.left; right = p.right; cost = z }) e
 
 pub pair_sound : (n : ℕ) (p : StatedPair) (more : List ℕ) (at : ℕ) → PairFits n p

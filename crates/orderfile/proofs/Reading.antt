@@ -4,12 +4,11 @@
 -- where no record is left, the front is the whole file.
 use Rattle.std.proofs.Common.{◌≡◌, ℕ, ◌+◌, ◌-◌, ◌<◌, ◌≤◌, eqb, List, [], ◌++◌, length, get_or}
 use Rattle.std.proofs.Common.{drop}
-use Rattle.std.proofs.Common.{Some, None, Ok, Option, sym, refl, ap, ◌∙◌, subst, ⊎_elim, append-nil}
+use Rattle.std.proofs.Common.{Some, None, Ok, Option, Result, sym, refl, ap, ◌∙◌, subst, ⊎_elim, append-nil}
 use Rattle.std.proofs.Common.{arith}
 use Rattle.std.proofs.lemmas.List.{get_or-append-add, length-append, length-drop, nil_from_length}
 use Rattle.std.proofs.lemmas.Bool.{eqb-true}
 use Rattle.sheet.specs.declared.fault.Fault.{Fault}
-use Rattle.sheet.specs.Refusals.{answer, after}
 use Rattle.sheet.proofs.Refused.{required, from_ok, renewed}
 use Rattle.orderfile.specs.declared.record.StatedPair.{StatedPair}
 use Rattle.orderfile.specs.declared.record.Record.{Record}
@@ -18,7 +17,8 @@ use Rattle.orderfile.specs.declared.record.Stage.{Stage}
 use Rattle.orderfile.specs.declared.record.Stage.TheVariants.{Start, Sized, Ended}
 use Rattle.orderfile.specs.Format.{Order, States, tag_of, value_of}
 use Rattle.orderfile.specs.Faults.{field_fault, front, FrontFits, FirstFault}
-use Rattle.orderfile.specs.Records.{record_in, next_record, stage_after, stage_next, record_length}
+use Rattle.orderfile.specs.Records.{StepsFrom, record_in, next_record, stage_after, stage_next}
+use Rattle.orderfile.specs.Records.{record_length}
 use Rattle.orderfile.proofs.Fields.{AreBytes, extent-fits}
 use Rattle.orderfile.proofs.Fronts.{grow, size_next, pair_or_end}
 
@@ -129,45 +129,46 @@ record_long Start rest next e = omega arith
 record_long (Sized n) rest next e = omega arith
 record_long (Ended n) rest next e = cc
 
--- what a call of `next` on a record reader tells
-module _ (stage : Stage) (rest : List ℕ) (at : ℕ) (stage' : Stage) (rest' : List ℕ) (at' : ℕ)
-    (stages : stage' ≡ after (field_fault stage rest at) stage (stage_next stage rest))
-    (passes : rest' ≡ after (field_fault stage rest at) rest (drop (record_length stage rest) rest))
-    (moves : at' ≡ after (field_fault stage rest at) at (at + record_length stage rest)) where
-  pub next_reads : (file : List ℕ) (o : Option Record) → IsReadTo file stage rest at → AreBytes file
-      → Ok o ≡ answer (field_fault stage rest at) (next_record stage rest)
-      → IsReadTo file stage' rest' at'
-  next_reads file o reading bytes answers =
-      let e = (from_ok (field_fault stage rest at) (next_record stage rest) o answers).0 in
-      let a : IsReadTo file (stage_next stage rest) (drop (record_length stage rest) rest)
-      (at + record_length stage rest) = reading_more file stage rest at reading bytes e in
-      let b : IsReadTo file stage' (drop (record_length stage rest) rest)
-      (at + record_length stage rest) =
-      subst (λ (s : Stage). IsReadTo file s (drop (record_length stage rest) rest)
-      (at + record_length stage rest)) (renewed _ _ _ e ∙ sym stages) a in
-      let d : IsReadTo file stage' rest' (at + record_length stage rest) =
-      subst (λ (r : List ℕ). IsReadTo file stage' r (at + record_length stage rest))
-      (renewed _ _ _ e ∙ sym passes) b in
-      subst (λ (k : ℕ). IsReadTo file stage' rest' k) (renewed _ _ _ e ∙ sym moves) d
+-- a call of `next` on a record reader answered a record or none, and the reader stands behind it
+pub record HasPassed (stage : Stage) (rest : List ℕ) (at : ℕ) (answered : Option Record)
+    (stage' : Stage) (rest' : List ℕ) (at' : ℕ) : Type 0 where
+  pub clear : field_fault stage rest at ≡ None
+  pub next : answered ≡ next_record stage rest
+  pub stages : stage' ≡ stage_next stage rest
+  pub passes : rest' ≡ drop (record_length stage rest) rest
+  pub moves : at' ≡ at + record_length stage rest
 
-  pub next_stage : (next : Record) → Ok (Some next) ≡ answer (field_fault stage rest at)
-      (next_record stage rest) → stage' ≡ stage_after stage next
-  next_stage next answers =
-      let found = from_ok (field_fault stage rest at) (next_record stage rest) (Some next) answers
-      in
-      stages ∙ sym (renewed _ _ _ found.0) ∙ stage_is stage rest next (sym found.1)
+pub passed : {stage : Stage} {rest : List ℕ} {at : ℕ} {r : Result (Option Record) Fault}
+    {stage' : Stage} {rest' : List ℕ} {at' : ℕ} → StepsFrom stage rest at r stage' rest' at'
+    → (answered : Option Record) → r ≡ Ok answered
+    → HasPassed stage rest at answered stage' rest' at'
+passed {stage = stage} {rest = rest} {at = at} s answered e =
+    let found = from_ok (field_fault stage rest at) (next_record stage rest) answered
+    (sym e ∙ s.answers) in
+    record {
+      clear = found.0;
+      next = found.1;
+      stages = s.stages ∙ sym (renewed _ _ _ found.0);
+      passes = s.passes ∙ sym (renewed _ _ _ found.0);
+      moves = s.moves ∙ sym (renewed _ _ _ found.0);
+    }
 
-  pub next_shorter : (next : Record) → Ok (Some next) ≡ answer (field_fault stage rest at)
-      (next_record stage rest) → length rest' < length rest
-  next_shorter next answers =
-      let found = from_ok (field_fault stage rest at) (next_record stage rest) (Some next) answers
-      in
-      let left : length rest' ≡ length rest - record_length stage rest =
-      ap length (passes ∙ sym (renewed _ _ _ found.0))
-      ∙ length-drop (record_length stage rest) rest in
-      omega (
-        arith,
-        left,
-        passed-fits stage rest at found.0,
-        record_long stage rest next (sym found.1),
-      )
+pub next_reads : {stage : Stage} {rest : List ℕ} {at : ℕ} {o : Option Record} {stage' : Stage}
+    {rest' : List ℕ} {at' : ℕ} (file : List ℕ) → HasPassed stage rest at o stage' rest' at'
+    → IsReadTo file stage rest at → AreBytes file → IsReadTo file stage' rest' at'
+next_reads file p reading bytes =
+    rw (p.stages, p.passes, p.moves) (reading_more file _ _ _ reading bytes p.clear)
+
+module _ {stage : Stage} {rest : List ℕ} {at : ℕ} {next : Record} {stage' : Stage}
+    {rest' : List ℕ} {at' : ℕ} (p : HasPassed stage rest at (Some next) stage' rest' at') where
+  pub next_stage : stage' ≡ stage_after stage next
+  next_stage = p.stages ∙ stage_is stage rest next (sym p.next)
+
+  pub next_shorter : length rest' < length rest
+  next_shorter = omega (
+    arith,
+    ap length p.passes,
+    length-drop (record_length stage rest) rest,
+    passed-fits stage rest at p.clear,
+    record_long stage rest next (sym p.next),
+  )

@@ -3,7 +3,7 @@
 -- neither reading can stop where the other goes on, and the bytes of a sound pair tell which pair
 -- it is.
 use Rattle.std.proofs.Common.{◌≡◌, ℕ, ◌≤◌, List, [], ◌∷◌, ◌++◌, length, get_or, drop, Some, None}
-use Rattle.std.proofs.Common.{Ok, Err, Result, sym, refl, ap, ◌∙◌, subst, inl, inr, append_assoc}
+use Rattle.std.proofs.Common.{Ok, Err, Result, ◌⊎◌, sym, refl, ap, ◌∙◌, inl, inr, append_assoc}
 use Rattle.std.proofs.Common.{append-nil, arith}
 use Rattle.std.specs.List.{flat_map, AllByRecursion}
 use Rattle.sheet.specs.declared.fault.Fault.{Fault}
@@ -84,30 +84,26 @@ one_reading (Ended n) Start ps qs r s hp hq stop-r stop-s e =
     absurd (stop-s n ((flat_map pair_field ps ++ end_field) ++ r) hp.some hp.few (sym e))
 one_reading (Sized n) (Sized m) ps qs r s hp hq stop-r stop-s e =
     let size = size_first n m _ _ e in
-    let stop : BeginsNoPair n s = subst (λ (k : ℕ). BeginsNoPair k s) (sym size.0) stop-s.0 in
-    let sound : AllByRecursion (PairFits n) qs = subst (λ (k : ℕ). AllByRecursion (PairFits k) qs)
-    (sym size.0) hq.pairs_fit in
-    let same = same_pairs n ps qs r s hp.pairs_fit sound stop-r.0 stop size.1 in
+    let stop : BeginsNoPair n s = rw size.0 stop-s.0 in
+    let those : AllByRecursion (PairFits n) qs = rw size.0 hq.pairs_fit in
+    let same = same_pairs n ps qs r s hp.pairs_fit those stop-r.0 stop size.1 in
     (ap Sized size.0, same.0, same.1)
 one_reading (Sized n) (Ended m) ps qs r s hp hq stop-r stop-s e =
     let size = size_first n m _ _ e in
-    let sound : AllByRecursion (PairFits n) qs = subst (λ (k : ℕ). AllByRecursion (PairFits k) qs)
-    (sym size.0) hq.pairs_fit in
-    let same = same_pairs n ps qs r (end_field ++ s) hp.pairs_fit sound stop-r.0
+    let those : AllByRecursion (PairFits n) qs = rw size.0 hq.pairs_fit in
+    let same = same_pairs n ps qs r (end_field ++ s) hp.pairs_fit those stop-r.0
     (end_not_pair n s) (size.1 ∙ append_assoc (flat_map pair_field qs) end_field s) in
     absurd (stop-r.1 s same.1)
 one_reading (Ended n) (Sized m) ps qs r s hp hq stop-r stop-s e =
     let size = size_first n m _ _ e in
-    let sound : AllByRecursion (PairFits m) ps = subst (λ (k : ℕ). AllByRecursion (PairFits k) ps)
-    size.0 hp.pairs_fit in
-    let same = same_pairs m ps qs (end_field ++ r) s sound hq.pairs_fit (end_not_pair m r)
+    let those : AllByRecursion (PairFits m) ps = rw (← size.0) hp.pairs_fit in
+    let same = same_pairs m ps qs (end_field ++ r) s those hq.pairs_fit (end_not_pair m r)
     stop-s.0 (sym (append_assoc (flat_map pair_field ps) end_field r) ∙ size.1) in
     absurd (stop-s.1 r (sym same.1))
 one_reading (Ended n) (Ended m) ps qs r s hp hq stop-r stop-s e =
     let size = size_first n m _ _ e in
-    let sound : AllByRecursion (PairFits n) qs = subst (λ (k : ℕ). AllByRecursion (PairFits k) qs)
-    (sym size.0) hq.pairs_fit in
-    let same = same_pairs n ps qs (end_field ++ r) (end_field ++ s) hp.pairs_fit sound
+    let those : AllByRecursion (PairFits n) qs = rw size.0 hq.pairs_fit in
+    let same = same_pairs n ps qs (end_field ++ r) (end_field ++ s) hp.pairs_fit those
     (end_not_pair n r) (end_not_pair n s)
     (sym (append_assoc (flat_map pair_field ps) end_field r) ∙ size.1
     ∙ append_assoc (flat_map pair_field qs) end_field s) in
@@ -145,21 +141,16 @@ module _ (file : List ℕ) where
       (sym same.0) ∙ ap (λ r. field_fault (Ended o.size) r (length (front t.stage t.pairs)))
       (sym same.2))
 
+  verdict : ((order : Order) × States file order) ⊎ ((f : Fault) × FirstFault file f)
+      → HasOneVerdict file
+  verdict some =
+      record { some = some; one_order = one_order; one_fault = one_fault; not_both = not_both }
+
   pub verdict_order : (order : Order) → States file order → HasOneVerdict file
-  verdict_order order s = record {
-    some = inl (order, s);
-    one_order = one_order;
-    one_fault = one_fault;
-    not_both = not_both;
-  }
+  verdict_order order s = verdict (inl (order, s))
 
   pub verdict_fault : (f : Fault) → FirstFault file f → HasOneVerdict file
-  verdict_fault f s = record {
-    some = inr (f, s);
-    one_order = one_order;
-    one_fault = one_fault;
-    not_both = not_both;
-  }
+  verdict_fault f s = verdict (inr (f, s))
 
   pub checked_states : (order : Order) (r : Result ℕ Fault) → States file order → r ≡ Ok order.size
       → IsChecked file r

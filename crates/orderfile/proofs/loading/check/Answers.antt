@@ -1,12 +1,8 @@
 -- A fault is the first one of the file; where no record is left, the file states what was read.
-use Rattle.std.proofs.Common.{◌≡◌, Some, None, Ok, Err, sym, ap, ◌∙◌, subst, arith}
+use Rattle.std.proofs.Common.{◌≡◌, Some, None, Ok, Err, sym, ap, ◌∙◌, arith}
 use Rattle.std.proofs.lemmas.Result.{err_from_is_err_and}
-use Rattle.sheet.specs.Refusals.{answer}
-use Rattle.sheet.proofs.Refused.{from_err, from_ok}
-use Rattle.orderfile.specs.declared.record.Stage.{Stage}
-use Rattle.orderfile.specs.Faults.{field_fault}
-use Rattle.orderfile.specs.Records.{next_record}
-use Rattle.orderfile.proofs.Reading.{IsKnownSize, reading_fault, reading_done, next_reads, next_stage}
+use Rattle.sheet.proofs.Refused.{from_err}
+use Rattle.orderfile.proofs.Reading.{reading_fault, reading_done, passed, next_reads, next_stage}
 use Rattle.orderfile.proofs.Reading.{known_still}
 use Rattle.orderfile.proofs.Verdicts.{checked_states, checked_faulty}
 use Rattle.orderfile.proofs.loading.check.Goals as goal
@@ -21,32 +17,19 @@ returns-in_err-record c =
 
 pub loop-record-preserved : goal.loop-record-preserved
 loop-record-preserved c =
-    let was = c.loop-record.records in
-    let now' = c.next.new.self in
-    let answers : Ok (Some c.in-Some.record) ≡ answer
-    (field_fault was.stage was.fields.rest.now was.fields.at)
-    (next_record was.stage was.fields.rest.now) = ap Ok (sym c.in-Some.is)
-    ∙ c.in_ok-record.ensures.answers in (
-      next_reads was.stage was.fields.rest.now was.fields.at now'.stage now'.fields.rest.now
-          now'.fields.at c.next.ensures.stages c.next.ensures.passes c.next.ensures.moves
-          c.args.file.now (Some c.in-Some.record) c.loop-record.invariant.0
-          (λ i. omega (arith, c.type_inv.file i)) answers,
-      subst (λ (s : Stage). IsKnownSize s c.loop-record.size)
-          (sym (next_stage was.stage was.fields.rest.now was.fields.at now'.stage
-          now'.fields.rest.now
-          now'.fields.at c.next.ensures.stages c.next.ensures.passes c.next.ensures.moves
-          c.in-Some.record answers))
-          (known_still was.stage c.in-Some.record c.loop-record.size c.in_default-record.not-Size
-          c.loop-record.invariant.1),
+    let next = passed c.in_ok-record.ensures (Some c.in-Some.record) (ap Ok c.in-Some.is) in (
+      next_reads c.args.file.now next c.loop-record.invariant.0
+          (λ i. omega (arith, c.type_inv.file i)),
+      rw (next_stage next)
+          (known_still c.loop-record.records.stage c.in-Some.record c.loop-record.size
+          c.in_default-record.not-Size c.loop-record.invariant.1),
     )
 
 pub returns : goal.returns
 returns c =
     let was = c.loop-record.records in
-    let found = from_ok (field_fault was.stage was.fields.rest.now was.fields.at)
-    (next_record was.stage was.fields.rest.now) None
-    (ap Ok (sym c.in_default.is) ∙ c.in_ok-record.ensures.answers) in
-    let done = reading_done c.args.file.now was.stage was.fields.rest.now
-    was.fields.at c.loop-record.size c.loop-record.invariant.0 c.loop-record.invariant.1 found.0
-    (sym found.1) in
+    let none = passed c.in_ok-record.ensures None (ap Ok c.in_default.is) in
+    let done = reading_done c.args.file.now was.stage was.fields.rest.now was.fields.at
+    c.loop-record.size c.loop-record.invariant.0 c.loop-record.invariant.1 none.clear
+    (sym none.next) in
     checked_states c.args.file.now done.0 _ done.1 (ap Ok done.2)
