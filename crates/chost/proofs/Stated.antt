@@ -57,30 +57,16 @@ short_buffer o out short After = inl ((λ room. absurd (omega (arith, short, roo
 
 module _ (o : Order) (r : Result Sheet Fault) (costs : List Plain) (standing : List ℕ)
     (accepted : Accepted o r costs standing) (out : List ℕ) (room : o.size ≤ length out) where
+  stands_there : (p : List ℕ) × PerfectIn (grid_stated o) p
+      → (p : List ℕ) × PerfectIn (plain_grid o.size costs standing) p
+  stands_there h = (h.0, (loaded_perfect o r costs standing accepted h.0).1 h.1)
+
   -- no pairing is perfect
   pub unpaired : (call : HostCall)
       → ((p : List ℕ) × PerfectIn (plain_grid o.size costs standing) p → ⊥)
       → IsFirstUnmet (call_needs (grid_stated o) out call) (fault NoPerfectPairing 0)
-  unpaired First none = inr (
-    room,
-    inl (
-      (λ h. none (
-        h.0,
-        (loaded_perfect o r costs standing accepted h.0).1 h.1,
-      )),
-      refl,
-    ),
-  )
-  unpaired After none = inr (
-    room,
-    inl (
-      (λ h. none (
-        h.0,
-        (loaded_perfect o r costs standing accepted h.0).1 h.1,
-      )),
-      refl,
-    ),
-  )
+  unpaired First none = inr (room, inl ((λ h. none (stands_there h)), refl))
+  unpaired After none = inr (room, inl ((λ h. none (stands_there h)), refl))
 
   paired : (p : List ℕ) × PerfectIn (plain_grid o.size costs standing) p
       → (p : List ℕ) × PerfectIn (grid_stated o) p
@@ -148,9 +134,9 @@ module _ (o : Order) (r : Result Sheet Fault) (costs : List Plain) (standing : L
 
 -- ---- In tables with room for the sheet that the file states
 
-module _ (call : HostCall) (file out : List ℕ) (costs₀ costs : List Plain) (standing₀ standing : List ℕ)
-    (partners list : List ℕ) (left right : List Plain) (sheet : Sheet)
-    (loaded : Loaded file costs₀ standing₀ (Ok sheet) costs standing)
+module _ {file : List ℕ} {costs₀ costs : List Plain} {standing₀ standing : List ℕ} {sheet : Sheet}
+    (loaded : Loaded file costs₀ standing₀ (Ok sheet) costs standing) (call : HostCall)
+    (out partners list : List ℕ) (left right : List Plain)
     (rooms : (o : Order) → States file o → HasRoomFor o.size (length costs₀) (length standing₀)
     (length partners) (length left) (length right) (length list) (length out)) where
   stated : (o : Order) × States file o

@@ -17,6 +17,7 @@ use Rattle.orderfile.specs.Format.{Order, PairFits}
 use Rattle.orderfile.specs.Loading.{plain, plain_cell, costs_after, standing_after, or_else}
 use Rattle.orderfile.specs.Loading.{cost_stated}
 use Rattle.orderfile.specs.Loading.{Shows}
+use Rattle.std.proofs.Common.{slice_set, ◌==◌, if◌then◌else◌}
 
 -- one pair that is entered
 module _ (n : ℕ) (p : StatedPair) (costs : List Plain) (standing : List ℕ)
@@ -33,21 +34,21 @@ module _ (n : ℕ) (p : StatedPair) (costs : List Plain) (standing : List ℕ)
       (standing_entered n p.left p.right standing) l r
 
   entered : new ≡ or_else (option_map plain
-      (cond (eqb p.left l && eqb p.right r) (Some p.cost) None)) old
+      (if p.left == l && p.right == r then Some p.cost else None)) old
   unfolding old new
   entered =
       ⊎_elim
-      (λ here. let both = and_parts (eqb p.left l) (eqb p.right r) here in
+      (λ here. let both = and_parts (p.left == l) (p.right == r) here in
       sym (ap₂ (λ i j. plain_cell n
       (costs_entered n p.left p.right (plain p.cost) costs)
       (standing_entered n p.left p.right standing) i j) (eqb-true _ _ both.0) (eqb-true _ _ both.1))
       ∙ change.changed
-      ∙ ap (λ b. or_else (option_map plain (cond b (Some p.cost) None)) old) (sym here))
+      ∙ ap (λ b. or_else (option_map plain (if b then Some p.cost else None)) old) (sym here))
       (λ elsewhere. change.others l r hl hr
       (λ same. both_ways _ elsewhere
       (and_from _ _ (eq-eqb _ _ (sym same.0)) (eq-eqb _ _ (sym same.1))))
-      ∙ ap (λ b. or_else (option_map plain (cond b (Some p.cost) None)) old) (sym elsewhere))
-      (cases_Bool (eqb p.left l && eqb p.right r))
+      ∙ ap (λ b. or_else (option_map plain (if b then Some p.cost else None)) old) (sym elsewhere))
+      (cases_Bool ((p.left == l) && (p.right == r)))
 
 or_else_mapped : (a b : Option ℤ) (c : Option Plain) → or_else (option_map plain a)
     (or_else (option_map plain b) c) ≡ or_else (option_map plain (or_else a b)) c
@@ -63,17 +64,17 @@ unfolding old new
 cells_after n [] costs standing s have l r hl hr = refl
 cells_after n (p ∷ ps) costs standing s have l r hl hr =
     let k = place_of n p.left p.right in
-    let fits : HavePlaces n (length (set costs k (plain p.cost))) (length (set standing k 1)) =
+    let fits : HavePlaces n (length (slice_set costs k (plain p.cost))) (length (slice_set standing k 1)) =
     record {
       costs = length-set costs k (plain p.cost) ∙ have.costs;
       standing = length-set standing k 1 ∙ have.standing;
     } in
-    cells_after n ps (set costs k (plain p.cost)) (set standing k 1) s.1 fits l r hl hr
+    cells_after n ps (slice_set costs k (plain p.cost)) (slice_set standing k 1) s.1 fits l r hl hr
     ∙ ap (or_else (option_map plain (cost_stated ps l r)))
     (entered n p costs standing
     (written (plain (pos 0)) n costs standing p.left p.right have
     s.0.left_below s.0.right_below 1 (plain p.cost) k refl) l r hl hr)
-    ∙ or_else_mapped (cost_stated ps l r) (cond (eqb p.left l && eqb p.right r) (Some p.cost) None)
+    ∙ or_else_mapped (cost_stated ps l r) (if p.left == l && p.right == r then Some p.cost else None)
     (plain_cell n costs standing l r)
 
 or_else_none : (a : Option Plain) → or_else a None ≡ a

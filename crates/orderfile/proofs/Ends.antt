@@ -22,6 +22,7 @@ use Rattle.orderfile.specs.Loading.{IsChecked, Accepted, Loaded}
 use Rattle.orderfile.proofs.Cells.{shows_order}
 use Rattle.orderfile.proofs.Grids.{same_grid, entered_tables}
 use Rattle.orderfile.proofs.Verdicts.{one_order, one_fault, not_both, verdict_order, verdict_fault}
+use Rattle.blockset.specs.declared.TheConstants.{MOST_BLOCKS}
 
 -- what an answer of `check` tells
 pub checked_err : (file : List ℕ) (f : Fault) → IsChecked file (Err f) → FirstFault file f

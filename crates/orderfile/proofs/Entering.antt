@@ -23,19 +23,20 @@ use Rattle.orderfile.specs.Records.{StepsFrom, next_record, stage_next, record_l
 use Rattle.orderfile.specs.Loading.{plain, costs_after, standing_after}
 use Rattle.orderfile.proofs.Reading.{HasPassed}
 use Rattle.orderfile.proofs.Fields.{size_sound, pair_sound, pair_stated, end_sound}
+use Rattle.std.proofs.Common.{slice_set}
 
 -- entering some pairs and then others
 pub costs_append : (n : ℕ) (ps qs : List StatedPair) (costs : List Plain)
     → costs_after n (ps ++ qs) costs ≡ costs_after n qs (costs_after n ps costs)
 costs_append n [] qs costs = refl
 costs_append n (p ∷ ps) qs costs =
-    costs_append n ps qs (set costs (place_of n p.left p.right) (plain p.cost))
+    costs_append n ps qs (slice_set costs (place_of n p.left p.right) (plain p.cost))
 
 pub standing_append : (n : ℕ) (ps qs : List StatedPair) (standing : List ℕ)
     → standing_after n (ps ++ qs) standing ≡ standing_after n qs (standing_after n ps standing)
 standing_append n [] qs standing = refl
 standing_append n (p ∷ ps) qs standing =
-    standing_append n ps qs (set standing (place_of n p.left p.right) 1)
+    standing_append n ps qs (slice_set standing (place_of n p.left p.right) 1)
 
 all_later : {X : Type 0} (P : X → Type 0) (xs ys : List X) → AllByRecursion P (xs ++ ys)
     → AllByRecursion P ys

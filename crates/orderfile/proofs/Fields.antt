@@ -5,7 +5,7 @@
 -- the bytes that the format would write.
 use Rattle.std.proofs.Common.{◌≡◌, ℕ, zero, suc, ◌+◌, ◌/◌, ◌%◌, ◌<◌, ◌≤◌, false, not, ltb}
 use Rattle.std.proofs.Common.{List, [], ◌∷◌, ◌++◌, length, get_or, drop, ℤ, pos, negsuc, nat_abs}
-use Rattle.std.proofs.Common.{None, sym, ap, ◌∙◌, add-zero, arith, length-drop, length-take, w64}
+use Rattle.std.proofs.Common.{None, sym, refl, ap, ◌∙◌, add-zero, arith, length-drop, length-take, w64}
 use Rattle.std.proofs.Common.{SFits, to_z, of_z}
 use Rattle.std.proofs.lemmas.List.{drop_more, get_or-take, get_or-drop}
 use Rattle.std.proofs.lemmas.Int.{to_z-of_z, of_z-to_z}
@@ -14,19 +14,23 @@ use Rattle.std.proofs.lemmas.Bool.Decides.{nat_tests}
 use Rattle.sheet.proofs.Pairs.{blocks_from}
 use Rattle.orderfile.specs.declared.record.StatedPair.{StatedPair}
 use Rattle.orderfile.specs.declared.record.Stage.TheVariants.{Start, Sized}
+use Rattle.orderfile.specs.declared.format.TheConstants.{PAIR_TAG, PAIR_LENGTH}
 use Rattle.orderfile.specs.Format.{PairFits, size_field, pair_field, end_field, eight_bytes}
 use Rattle.orderfile.specs.Format.{tag_of, length_of, extent, value_of, overruns, pair_in}
 use Rattle.orderfile.specs.Faults.{field_fault}
 use Rattle.orderfile.specs.Records.{size_in}
 use Rattle.orderfile.proofs.Bytes.{spelled, bytes_spell, spelled_bytes}
+use Rattle.std.proofs.Common.{slice_index, nat_lt, unsigned_abs}
+use Rattle.cost.specs.declared.TheConstants.{COST_LIMIT}
+use Rattle.blockset.specs.declared.TheConstants.{MOST_BLOCKS}
 
 -- each number of a list is a byte
 abbrev pub AreBytes : List ℕ → Type 0
-AreBytes xs = (i : ℕ) → get_or xs i 0 < 256
+AreBytes xs = (i : ℕ) → slice_index xs i < 256
 
 -- sound fields have no fault
 
-pub size_sound : (n : ℕ) (more : List ℕ) (at : ℕ) → 1 ≤ n → n ≤ 64
+pub size_sound : (n : ℕ) (more : List ℕ) (at : ℕ) → 1 ≤ n → n ≤ MOST_BLOCKS
     → field_fault Start (size_field n ++ more) at ≡ None
 size_sound n more at some few = grind (arith, nat_tests)
 
@@ -35,15 +39,15 @@ pub end_sound : (n : ℕ) (more : List ℕ) (at : ℕ) → field_fault (Sized n)
 end_sound n more at = grind (arith, nat_tests)
 
 -- a number within 10^9 fits 64 bits
-pub cost_fits : (z : ℤ) → nat_abs z ≤ 1000000000 → SFits w64 z
+pub cost_fits : (z : ℤ) → unsigned_abs z ≤ COST_LIMIT → SFits w64 z
 cost_fits (pos k) small = record { sfits = omega arith }
 cost_fits (negsuc k) small = record { sfits = omega arith }
 
-bits_fit : (z : ℤ) → nat_abs z ≤ 1000000000 → of_z w64 z < 18446744073709551616
+bits_fit : (z : ℤ) → unsigned_abs z ≤ COST_LIMIT → of_z w64 z < 18446744073709551616
 bits_fit (pos k) small = omega arith
 bits_fit (negsuc k) small = omega arith
 
-pub pair_stated : (p : StatedPair) (more : List ℕ) → nat_abs p.cost ≤ 1000000000
+pub pair_stated : (p : StatedPair) (more : List ℕ) → unsigned_abs p.cost ≤ COST_LIMIT
     → pair_in (value_of (pair_field p ++ more)) ≡ p
 pair_stated p more small =
     let e : to_z w64
@@ -60,8 +64,8 @@ pub pair_sound : (n : ℕ) (p : StatedPair) (more : List ℕ) (at : ℕ) → Pai
     → field_fault (Sized n) (pair_field p ++ more) at ≡ None
 pair_sound n p more at s =
     let e = pair_stated p more s.cost_within in
-    let cost : ltb 1000000000 (nat_abs (pair_in (value_of (pair_field p ++ more))).cost) ≡ false =
-    ap (λ q. ltb 1000000000 (nat_abs q.cost)) e ∙ grind (arith, nat_tests, s.cost_within) in
+    let cost : nat_lt COST_LIMIT (unsigned_abs (pair_in (value_of (pair_field p ++ more))).cost) ≡ false =
+    ap (λ q. nat_lt COST_LIMIT (unsigned_abs q.cost)) e ∙ grind (arith, nat_tests, s.cost_within) in
     let whole : overruns (pair_field p ++ more) ≡ false = grind (arith, nat_tests) in
     cond-false _ _ _ whole
     ∙ cond-false _ _ _ (ap not (blocks_from n p.left p.right s.left_below s.right_below))
@@ -72,15 +76,15 @@ pair_sound n p more at s =
 -- k bytes from the place i on
 firsts : ℕ → ℕ → List ℕ → List ℕ
 firsts zero i xs = []
-firsts (suc k) i xs = get_or xs i 0 ∷ firsts k (i + 1) xs
+firsts (suc k) i xs = slice_index xs i ∷ firsts k (i + 1) xs
 
 peel : (k i : ℕ) (xs : List ℕ) → i + k ≤ length xs → drop i xs ≡ firsts k i xs ++ drop (i + k) xs
 unfolding firsts
 peel zero i xs h = ap (λ j. drop j xs) (sym (add-zero i))
 peel (suc k) i xs h =
     let e : (i + 1) + k ≡ i + suc k = omega arith in
-    drop_more xs i 0 (omega arith) ∙ ap (λ t. get_or xs i 0 ∷ t) (peel k (i + 1) xs (omega arith))
-    ∙ ap (λ j. get_or xs i 0 ∷ (firsts k (i + 1) xs ++ drop j xs)) e
+    drop_more xs i 0 (omega arith) ∙ ap (λ t. slice_index xs i ∷ t) (peel k (i + 1) xs (omega arith))
+    ∙ ap (λ j. slice_index xs i ∷ (firsts k (i + 1) xs ++ drop j xs)) e
 
 -- a whole field
 module _ (rest : List ℕ) (whole : overruns rest ≡ false) where
@@ -93,12 +97,22 @@ module _ (rest : List ℕ) (whole : overruns rest ≡ false) where
   pub value_length : length (value_of rest) ≡ length_of rest
   value_length = simp (length-take, length-drop) (omega (arith, header_fits, extent-fits))
 
-  value_at : (i : ℕ) → i < length_of rest → get_or (value_of rest) i 0 ≡ get_or rest (3 + i) 0
+  value_at : (i : ℕ) → i < length_of rest → slice_index (value_of rest) i ≡ slice_index rest (3 + i)
   value_at i h = get_or-take (length_of rest) (drop 3 rest) i 0 h ∙ get_or-drop 3 rest i 0
 
+  firsts-value : (k i : ℕ) → i + k ≤ length_of rest
+      → firsts k (3 + i) rest ≡ firsts k i (value_of rest)
+  unfolding firsts
+  firsts-value zero i h = refl
+  firsts-value (suc k) i h =
+      let next : 3 + i + 1 ≡ 3 + (i + 1) = omega arith in
+      ap (λ x. x ∷ firsts k (3 + i + 1) rest) (sym (value_at i (omega arith)))
+      ∙ ap (λ t. slice_index (value_of rest) i ∷ t)
+      (ap (λ j. firsts k j rest) next ∙ firsts-value k (i + 1) (omega arith))
+
   -- the two bytes of a length below 256
-  length_bytes : (k : ℕ) → k < 256 → length (value_of rest) ≡ k → (get_or rest 1 0 ≡ 0)
-      × (get_or rest 2 0 ≡ k)
+  length_bytes : (k : ℕ) → k < 256 → length (value_of rest) ≡ k → (slice_index rest 1 ≡ 0)
+      × (slice_index rest 2 ≡ k)
   length_bytes k h e = (omega (arith, value_length), omega (arith, value_length))
 
   pub size_bytes : tag_of rest ≡ 1 → length (value_of rest) ≡ 1
@@ -106,7 +120,7 @@ module _ (rest : List ℕ) (whole : overruns rest ≡ false) where
   unfolding firsts
   size_bytes tag long =
       let two = length_bytes 1 (omega arith) long in
-      let v0 : get_or (value_of rest) 0 0 ≡ get_or rest 3 0 =
+      let v0 : slice_index (value_of rest) 0 ≡ slice_index rest 3 =
       value_at 0 (omega (arith, value_length)) in
       let front : firsts 4 0 rest ≡ size_field (size_in (value_of rest)) =
       cc (tag, two.0, two.1, v0) in
@@ -125,48 +139,25 @@ module _ (rest : List ℕ) (whole : overruns rest ≡ false) where
   pair_bytes bytes tag long =
       let v = value_of rest in
       let ten : length_of rest ≡ 10 = sym value_length ∙ long in
-      let at : (i : ℕ) → i < 10 → get_or v i 0 ≡ get_or rest (3 + i) 0 =
-      λ i h. value_at i (omega (arith, ten)) in
-      let low : (i : ℕ) → i < 10 → get_or v i 0 < 256 = λ i h. omega (arith, at i h, bytes (3 + i))
-      in
-      let number : ℕ = spelled (get_or v 2 0) (get_or v 3 0) (get_or v 4 0) (get_or v 5 0)
-      (get_or v 6 0) (get_or v 7 0) (get_or v 8 0) (get_or v 9 0) in
-      let small : number < 18446744073709551616 =
-      omega (
-        arith,
-        low 2 (omega arith),
-        low 3 (omega arith),
-        low 4 (omega arith),
-        low 5 (omega arith),
-        low 6 (omega arith),
-        low 7 (omega arith),
-        low 8 (omega arith),
-        low 9 (omega arith),
-      ) in
-      let spells : eight_bytes (of_z w64 (to_z w64 number)) ≡ get_or v 2 0 ∷ get_or v 3 0
-      ∷ get_or v 4 0 ∷ get_or v 5 0 ∷ get_or v 6 0 ∷ get_or v 7 0 ∷ get_or v 8 0 ∷ get_or v 9 0
-      ∷ [] =
-      ap eight_bytes (of_z-to_z w64 number small) ∙ spelled_bytes _ _ _ _ _ _ _ _
-      (low 2 (omega arith)) (low 3 (omega arith)) (low 4 (omega arith)) (low 5 (omega arith))
-      (low 6 (omega arith)) (low 7 (omega arith)) (low 8 (omega arith)) (low 9 (omega arith)) in
+      let low : (i : ℕ) → i < 10 → slice_index v i < 256 =
+      λ i h. omega (arith, value_at i (omega (arith, ten)), bytes (3 + i)) in
+      let l2 = low 2 (omega arith) in
+      let l3 = low 3 (omega arith) in
+      let l4 = low 4 (omega arith) in
+      let l5 = low 5 (omega arith) in
+      let l6 = low 6 (omega arith) in
+      let l7 = low 7 (omega arith) in
+      let l8 = low 8 (omega arith) in
+      let l9 = low 9 (omega arith) in
+      let number : ℕ = spelled (slice_index v 2) (slice_index v 3) (slice_index v 4)
+      (slice_index v 5) (slice_index v 6) (slice_index v 7) (slice_index v 8) (slice_index v 9) in
+      let small : number < 18446744073709551616 = omega arith in
+      let spells : eight_bytes (of_z w64 (to_z w64 number)) ≡ firsts 8 2 v =
+      ap eight_bytes (of_z-to_z w64 number small)
+      ∙ spelled_bytes _ _ _ _ _ _ _ _ l2 l3 l4 l5 l6 l7 l8 l9 in
       let two = length_bytes 10 (omega arith) long in
-      let front : firsts 13 0 rest ≡ 2 ∷ 0 ∷ 10 ∷ get_or v 0 0 ∷ get_or v 1 0 ∷ get_or v 2 0
-      ∷ get_or v 3 0 ∷ get_or v 4 0 ∷ get_or v 5 0 ∷ get_or v 6 0 ∷ get_or v 7 0 ∷ get_or v 8 0
-      ∷ get_or v 9 0 ∷ [] =
-      cc (
-        tag,
-        two.0,
-        two.1,
-        at 0 (omega arith),
-        at 1 (omega arith),
-        at 2 (omega arith),
-        at 3 (omega arith),
-        at 4 (omega arith),
-        at 5 (omega arith),
-        at 6 (omega arith),
-        at 7 (omega arith),
-        at 8 (omega arith),
-        at 9 (omega arith),
-      ) in
+      let front : firsts 13 0 rest ≡ PAIR_TAG ∷ 0 ∷ PAIR_LENGTH ∷ firsts 10 0 v =
+      cc (tag, two.0, two.1, firsts-value 10 0 (omega (arith, ten))) in
       peel 13 0 rest (omega (arith, ten, extent-fits)) ∙ ap (λ t. t ++ drop 13 rest)
-      (front ∙ ap (λ t. 2 ∷ 0 ∷ 10 ∷ get_or v 0 0 ∷ get_or v 1 0 ∷ t) (sym spells))
+      (front ∙ ap (λ t. PAIR_TAG ∷ 0 ∷ PAIR_LENGTH ∷ slice_index v 0 ∷ slice_index v 1 ∷ t)
+      (sym spells))

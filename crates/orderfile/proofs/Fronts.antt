@@ -23,9 +23,12 @@ use Rattle.orderfile.specs.Faults.{size_checks, pair_checks, end_checks, record_
 use Rattle.orderfile.specs.Faults.{front, FrontFits}
 use Rattle.orderfile.specs.Records.{size_in, record_in, stage_after, stage_next, record_length}
 use Rattle.orderfile.proofs.Fields.{AreBytes, value_length, size_bytes, pair_bytes, end_bytes}
+use Rattle.std.proofs.Common.{slice_index, nat_lt, unsigned_abs, ◌==◌}
+use Rattle.cost.specs.declared.TheConstants.{COST_LIMIT}
+use Rattle.blockset.specs.declared.TheConstants.{MOST_BLOCKS}
 
 differ_false : (a b : ℕ) → differ a b ≡ false → a ≡ b
-differ_false a b e = eqb-true a b (not-false (eqb a b) e)
+differ_false a b e = eqb-true a b (not-false (a == b) e)
 
 -- what a size field without a fault tells
 pub record IsSizeField (rest : List ℕ) : Type 0 where
@@ -33,15 +36,15 @@ pub record IsSizeField (rest : List ℕ) : Type 0 where
   pub tag : tag_of rest ≡ 1
   pub long : length (value_of rest) ≡ 1
   pub some : 1 ≤ size_in (value_of rest)
-  pub few : size_in (value_of rest) ≤ 64
+  pub few : size_in (value_of rest) ≤ MOST_BLOCKS
 
 pub size_next : (rest : List ℕ) (at : ℕ) → field_fault Start rest at ≡ None → IsSizeField rest
 size_next rest at e =
     let v = value_of rest in
     let whole = cleared (overruns rest) _ (record_fault Start (tag_of rest) v at) e in
-    let tag = required (eqb (tag_of rest) 1) _ (first_of (size_checks v at)) whole.1 in
+    let tag = required (tag_of rest == 1) _ (first_of (size_checks v at)) whole.1 in
     let long = cleared (differ (length v) 1) _ _ tag.1 in
-    let size = cleared (eqb (get_or v 0 0) 0 || ltb 64 (get_or v 0 0)) _ _ long.1 in
+    let size = cleared (slice_index v 0 == 0 || nat_lt MOST_BLOCKS (slice_index v 0)) _ _ long.1 in
     let fit = size.0 in
     record {
       whole = whole.0;
@@ -70,7 +73,7 @@ pair_checked n rest at whole tag e =
     let v = value_of rest in
     let long = cleared (differ (length v) 10) _ _ e in
     let blocks = cleared (not (are_blocks n (pair_in v).left (pair_in v).right)) _ _ long.1 in
-    let cost = cleared (ltb 1000000000 (nat_abs (pair_in v).cost)) _ _ blocks.1 in
+    let cost = cleared (nat_lt COST_LIMIT (unsigned_abs (pair_in v).cost)) _ _ blocks.1 in
     let below = blocks_told n (pair_in v).left (pair_in v).right (not-false _ blocks.0) in
     let within = cost.0 in
     record {
@@ -93,13 +96,13 @@ pair_or_end n rest at e =
     ⊎_elim
     (λ two. inl
     (pair_checked n rest at whole.0 (eqb-true _ _ two)
-    (sym (cond-true (eqb (tag_of rest) 2) _ _ two) ∙ whole.1)))
+    (sym (cond-true (tag_of rest == 2) _ _ two) ∙ whole.1)))
     (λ other.
-    let three = required (eqb (tag_of rest) 3) (fault Tag at) (first_of (end_checks v at))
-    (sym (cond-false (eqb (tag_of rest) 2) _ _ other) ∙ whole.1) in
+    let three = required (tag_of rest == 3) (fault Tag at) (first_of (end_checks v at))
+    (sym (cond-false (tag_of rest == 2) _ _ other) ∙ whole.1) in
     let long = cleared (differ (length v) 0) (fault FieldLength at) None three.1 in
     inr (record { whole = whole.0; tag = eqb-true _ _ three.0; long = differ_false _ _ long.0 }))
-    (cases_Bool (eqb (tag_of rest) 2))
+    (cases_Bool (tag_of rest == 2))
 
 -- a front that grew by the next field, or by nothing at the end
 abbrev pub GrowsFront : Stage → List StatedPair → List ℕ → Stage → Type 0
@@ -114,7 +117,7 @@ grow_size pairs rest h =
     let e : stage_next Start rest ≡ Sized n =
     ap (λ t. stage_after Start (record_in t (value_of rest))) h.tag in
     let four : extent rest ≡ 4 = ap (λ k. 3 + k) (sym (value_length rest h.whole) ∙ h.long) in
-    subst (λ (s : Stage). GrowsFront Start pairs rest s) (sym e) (
+    rw e (
       [],
       size_bytes rest h.whole h.tag h.long ∙ ap (λ k. size_field n ++ drop k rest) (sym four),
       record { some = h.some; few = h.few; pairs_fit = tt },
@@ -129,7 +132,7 @@ grow_pair n pairs rest bytes s h =
     ap (λ t. stage_after (Sized n) (record_in t (value_of rest))) h.tag in
     let thirteen : extent rest ≡ 13 = ap (λ k. 3 + k) (sym (value_length rest h.whole) ∙ h.long) in
     let before : List ℕ = size_field n ++ flat_map pair_field pairs in
-    subst (λ (t : Stage). GrowsFront (Sized n) pairs rest t) (sym e) (
+    rw e (
       pairs ++ p ∷ [],
       ap (λ t. before ++ t) (pair_bytes rest h.whole bytes h.tag h.long)
           ∙ sym (append_assoc before (pair_field p) (drop 13 rest))
@@ -152,7 +155,7 @@ grow_end n pairs rest s h =
     ap (λ t. stage_after (Sized n) (record_in t (value_of rest))) h.tag in
     let three : extent rest ≡ 3 = ap (λ k. 3 + k) (sym (value_length rest h.whole) ∙ h.long) in
     let before : List ℕ = size_field n ++ flat_map pair_field pairs in
-    subst (λ (t : Stage). GrowsFront (Sized n) pairs rest t) (sym e) (
+    rw e (
       pairs,
       ap (λ t. before ++ t) (end_bytes rest h.whole h.tag h.long)
           ∙ sym (append_assoc before end_field (drop 3 rest))

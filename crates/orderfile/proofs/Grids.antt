@@ -24,6 +24,8 @@ use Rattle.orderfile.specs.Format.{Order, FitsSheet, PairFits}
 use Rattle.orderfile.specs.Loading.{plain, plain_kind, plain_grid, costs_after, standing_after}
 use Rattle.orderfile.specs.Loading.{or_else, names_blocks, cost_stated, stated_columns, grid_stated}
 use Rattle.orderfile.specs.Loading.{Shows}
+use Rattle.std.proofs.Common.{slice_index_or, unsigned_abs, slice_set, if◌then◌else◌}
+use Rattle.cost.specs.declared.TheConstants.{COST_LIMIT}
 
 -- ---- The costs that an order states
 
@@ -31,30 +33,30 @@ or_else_some : (a b : Option ℤ) (z : ℤ) → or_else a b ≡ Some z → (a �
 or_else_some (Some x) b z e = inl e
 or_else_some None b z e = inr e
 
-cond_some : (b : Bool) (x z : ℤ) → cond b (Some x) None ≡ Some z → x ≡ z
+cond_some : (b : Bool) (x z : ℤ) → (if b then Some x else None) ≡ Some z → x ≡ z
 cond_some true x z e = cc
 cond_some false x z e = cc
 
 -- they are within the limit
 stated_small : (n : ℕ) (ps : List StatedPair) → AllByRecursion (PairFits n) ps → (l r : ℕ) (z : ℤ)
-    → cost_stated ps l r ≡ Some z → nat_abs z ≤ 1000000000
+    → cost_stated ps l r ≡ Some z → unsigned_abs z ≤ COST_LIMIT
 stated_small n [] s l r z e = cc
 stated_small n (p ∷ ps) s l r z e =
     ⊎_elim (λ later. stated_small n ps s.1 l r z later)
-    (λ here. subst (λ x. nat_abs x ≤ 1000000000)
+    (λ here. subst (λ x. unsigned_abs x ≤ COST_LIMIT)
     (cond_some (names_blocks l r p) p.cost z here) s.0.cost_within)
-    (or_else_some (cost_stated ps l r) (cond (names_blocks l r p) (Some p.cost) None) z e)
+    (or_else_some (cost_stated ps l r) (if names_blocks l r p then Some p.cost else None) z e)
 
 -- ---- What a cell tells
 
-cell_stands : (b : Bool) (x : Plain) (o : Option ℤ) → cond b (Some x) None ≡ option_map plain o
+cell_stands : (b : Bool) (x : Plain) (o : Option ℤ) → (if b then Some x else None) ≡ option_map plain o
     → b ≡ is_some o
 cell_stands true x (Some z) e = refl
 cell_stands true x None e = cc
 cell_stands false x (Some z) e = cc
 cell_stands false x None e = refl
 
-cell_cost : (b : Bool) (x : Plain) (o : Option ℤ) → cond b (Some x) None ≡ option_map plain o
+cell_cost : (b : Bool) (x : Plain) (o : Option ℤ) → (if b then Some x else None) ≡ option_map plain o
     → b ≡ true → (z : ℤ) × (o ≡ Some z) × (x ≡ plain z)
 cell_cost true x (Some z) e h = (z, refl, cc)
 cell_cost true x None e h = cc
@@ -72,7 +74,7 @@ module _ (order : Order) (sound : AllByRecursion (PairFits order.size) order.pai
   unfolding byte_says
   cost_shown l r hl hr h =
       let at = place_of order.size l r in
-      let x = get_or costs at (plain (pos 0)) in
+      let x = slice_index_or costs at (plain (pos 0)) in
       let stated = cost_stated order.pairs l r in
       let told = cell_cost (byte_says l r) x stated (shows l r hl hr) h in
       let z = told.0 in
@@ -88,7 +90,7 @@ module _ (order : Order) (sound : AllByRecursion (PairFits order.size) order.pai
     size = refl;
     columns = refl;
     stands = λ l r hl hr. cell_stands (byte_says l r)
-        (get_or costs (place_of order.size l r) (plain (pos 0))) (cost_stated order.pairs l r)
+        (slice_index_or costs (place_of order.size l r) (plain (pos 0))) (cost_stated order.pairs l r)
         (shows l r hl hr);
     cost = cost_shown;
   }
@@ -96,9 +98,9 @@ module _ (order : Order) (sound : AllByRecursion (PairFits order.size) order.pai
 -- ---- Order
 
 -- a stated cost means a number within the limit
-means_small : (z : ℤ) → nat_abs z ≤ 1000000000 → Within 1000000000 (rail_of z ∷ [])
+means_small : (z : ℤ) → unsigned_abs z ≤ COST_LIMIT → Within COST_LIMIT (rail_of z ∷ [])
 means_small z small =
-    (subst (λ x. nat_abs x ≤ 1000000000) (sym (rail_of_same z (omega arith))) small, tt)
+    (subst (λ x. unsigned_abs x ≤ COST_LIMIT) (sym (rail_of_same z (omega arith))) small, tt)
 
 after_in_order : (n : ℕ) (ps : List StatedPair) (costs : List Plain) (standing : List ℕ)
     → AllByRecursion (PairFits n) ps → length costs ≡ places_of n → length standing ≡ places_of n
@@ -110,7 +112,7 @@ after_in_order : (n : ℕ) (ps : List StatedPair) (costs : List Plain) (standing
 after_in_order n [] costs standing s ec eb o = (ec, eb, o)
 after_in_order n (p ∷ ps) costs standing s ec eb o =
     let at = place_of n p.left p.right in
-    after_in_order n ps (set costs at (plain p.cost)) (set standing at 1) s.1
+    after_in_order n ps (slice_set costs at (plain p.cost)) (slice_set standing at 1) s.1
     (length-set costs at (plain p.cost) ∙ ec) (length-set standing at 1 ∙ eb)
     (wrote_in_order plain_kind (places_of n) costs standing ec eb at 1 (plain p.cost) refl
     (λ _. means_small p.cost s.0.cost_within) o)

@@ -24,6 +24,7 @@ use Rattle.orderfile.specs.declared.record.StatedPair.{StatedPair}
 use Rattle.orderfile.specs.Loading.{plain, plain_kind, names_blocks}
 use Rattle.orderfile.specs.Saving.{plain_in_order, times, StandsAtCost, AreStandingPairs, pair_at}
 use Rattle.orderfile.specs.Saving.{pairs_at, pairs_listed}
+use Rattle.std.proofs.Common.{nat_le, unsigned_abs}
 
 -- how often a list of pairs names two blocks, part by part
 times-append : (l r : ℕ) (ps qs : List StatedPair)
@@ -135,7 +136,7 @@ module _ (n : ℕ) (costs : List Plain) (standing : List ℕ) where
         (eqb_tells k (place_of n l r))
 
 -- a plain cost that its kind finds within the limit is a number within it
-small : (z : ℤ) → (leb (nat_abs (rail_of z)) COST_LIMIT && true) ≡ true → nat_abs z ≤ COST_LIMIT
+small : (z : ℤ) → (nat_le (unsigned_abs (rail_of z)) COST_LIMIT && true) ≡ true → unsigned_abs z ≤ COST_LIMIT
 small (pos k) e = grind (arith, nat_tests)
 small (negsuc k) e = grind (arith, nat_tests)
 

@@ -24,6 +24,8 @@ use Rattle.sheet.specs.declared.fault.Fault.{Fault}
 use Rattle.orderfile.specs.Format.{Order, States}
 use Rattle.orderfile.specs.Faults.{FirstFault}
 use Rattle.orderfile.specs.Loading.{plain_grid, grid_stated, Accepted, Loaded}
+use Rattle.std.proofs.Common.{unsigned_abs}
+use Rattle.cost.specs.declared.TheConstants.{COST_LIMIT}
 
 -- ---- The ends of a load
 
@@ -84,7 +86,7 @@ module _ (order : Order) (r : Result Sheet Fault) (costs : List Plain) (standing
 
 -- ---- Totals
 
-rail_back : (z : ℤ) → nat_abs (rail_of z) ≤ 64000000000 → rail_of z ≡ z
+rail_back : (z : ℤ) → unsigned_abs (rail_of z) ≤ 64000000000 → rail_of z ≡ z
 rail_back (pos k) h = ap pos (omega arith)
 rail_back (negsuc k) h = ap negsuc (omega arith)
 
@@ -92,6 +94,6 @@ module _ (g : Grid) (s : Sane g) (p : List ℕ) (h : PerfectIn g p) where
   -- a plain value that means the total of a perfect pairing is that number
   pub total_means : (z : ℤ) → rail_of z ∷ [] ≡ total g p → z ∷ [] ≡ total g p
   total_means z e =
-      let near : Within (g.size * 1000000000) (rail_of z ∷ []) =
-      subst (Within (g.size * 1000000000)) (sym e) (total-within g s p h g.size (omega arith)) in
+      let near : Within (g.size * COST_LIMIT) (rail_of z ∷ []) =
+      subst (Within (g.size * COST_LIMIT)) (sym e) (total-within g s p h g.size (omega arith)) in
       ap (λ x. x ∷ []) (sym (rail_back z (omega (arith, s.few, near.0)))) ∙ e

@@ -21,6 +21,7 @@ use Rattle.orderfile.specs.Records.{StepsFrom, record_in, next_record, stage_aft
 use Rattle.orderfile.specs.Records.{record_length}
 use Rattle.orderfile.proofs.Fields.{AreBytes, extent-fits}
 use Rattle.orderfile.proofs.Fronts.{grow, size_next, pair_or_end}
+use Rattle.std.proofs.Common.{slice_index, ◌==◌}
 
 pub record IsReadTo (file : List ℕ) (stage : Stage) (rest : List ℕ) (at : ℕ) : Type 0 where
   pub pairs : List StatedPair
@@ -44,8 +45,8 @@ passed-fits (Ended n) rest at e = omega arith
 
 bytes_left : (file front' rest : List ℕ) → file ≡ front' ++ rest → AreBytes file → AreBytes rest
 bytes_left file front' rest e bytes i =
-    let same : get_or file (length front' + i) 0 ≡ get_or rest i 0 =
-    ap (λ t. get_or t (length front' + i) 0) e ∙ get_or-append-add front' rest i 0 in
+    let same : slice_index file (length front' + i) ≡ slice_index rest i =
+    ap (λ t. slice_index t (length front' + i)) e ∙ get_or-append-add front' rest i 0 in
     omega (arith, same, bytes (length front' + i))
 
 module _ (file : List ℕ) (stage : Stage) (rest : List ℕ) (at : ℕ)
@@ -96,7 +97,7 @@ reading_done file Start rest at size h known e none = cc
 reading_done file (Sized n) rest at size h known e none = cc
 reading_done file (Ended n) rest at size h known e none =
     let empty : rest ≡ [] =
-    nil_from_length rest (eqb-true _ _ (required (eqb (length rest) 0) _ None e).0) in (
+    nil_from_length rest (eqb-true _ _ (required (length rest == 0) _ None e).0) in (
       record { size = n; pairs = h.pairs },
       record {
         is_file = h.splits ∙ ap (λ t. front (Ended n) h.pairs ++ t) empty ∙ append-nil _;

@@ -32,6 +32,8 @@ use Rattle.orderfile.proofs.Grids.{same_grid}
 use Rattle.orderfile.proofs.Listed.{pairs_listed_count, times-cons}
 use Rattle.orderfile.specs.Saving.{saved_length, plain_in_order, save_refusal, pairs_listed, times}
 use Rattle.orderfile.specs.Saving.{StandsAtCost, AreStandingPairs, HoldsFile, Reloads, Saved}
+use Rattle.std.proofs.Common.{◌==◌, if◌then◌else◌}
+use Rattle.blockset.specs.declared.TheConstants.{MOST_BLOCKS}
 
 -- what pairs that stand state of l and r: nothing where they name it never, else what the cell
 -- holds
@@ -42,25 +44,25 @@ stated_is : (n : ℕ) (costs : List Plain) (standing : List ℕ) (l r : ℕ) (ps
     × (plain_cell n costs standing l r ≡ Some (plain z)))
 stated_is n costs standing l r [] s = inl (refl, refl)
 stated_is n costs standing l r (p ∷ ps) s =
-    let here : Bool = eqb p.left l && eqb p.right r in
+    let here : Bool = (p.left == l) && (p.right == r) in
     ⊎_elim
     (λ none. ⊎_elim
     (λ yes'.
-    let both = and_parts (eqb p.left l) (eqb p.right r) yes' in
+    let both = and_parts (p.left == l) (p.right == r) yes' in
     inr (
       p.cost,
-      ap (λ o. or_else o (cond here (Some p.cost) None)) none.0 ∙ cond-true here _ _ yes',
+      ap (λ o. or_else o (if here then Some p.cost else None)) none.0 ∙ cond-true here _ _ yes',
       ap (λ k. plain_cell n costs standing k r) (sym (eqb-true _ _ both.0))
           ∙ ap (plain_cell n costs standing p.left) (sym (eqb-true _ _ both.1))
           ∙ s.0.stands,
     ))
     (λ no'. inl (
-      ap (λ o. or_else o (cond here (Some p.cost) None)) none.0
+      ap (λ o. or_else o (if here then Some p.cost else None)) none.0
           ∙ cond-false here _ _ no',
-      times-cons l r p ps ∙ ap (λ b. cond b 1 0 + times l r ps) no' ∙ omega (arith, none.1),
+      times-cons l r p ps ∙ ap (λ b. (if b then 1 else 0) + times l r ps) no' ∙ omega (arith, none.1),
     ))
     (cases_Bool here))
-    (λ some. inr (some.0, ap (λ o. or_else o (cond here (Some p.cost) None)) some.1, some.2))
+    (λ some. inr (some.0, ap (λ o. or_else o (if here then Some p.cost else None)) some.1, some.2))
     (stated_is n costs standing l r ps s.1)
 
 pub names_stated : (n : ℕ) (costs : List Plain) (standing : List ℕ) (pairs : List StatedPair)
@@ -123,7 +125,7 @@ same_as_third n costs costs' standing standing' order a b = record {
       ∙ sym (a.cost l r i j (a.stands l r i j ∙ sym (b.stands l r i j) ∙ k));
 }
 
-module _ (n : ℕ) (some : 1 ≤ n) (few : n ≤ 64) (costs : List Plain) (standing out : List ℕ) where
+module _ (n : ℕ) (some : 1 ≤ n) (few : n ≤ MOST_BLOCKS) (costs : List Plain) (standing out : List ℕ) where
   reloads : (out' : List ℕ) → length costs ≡ places_of n → HoldsFile n costs standing out out'
       → Reloads n costs standing (take (saved_length standing) out')
   reloads out' long w costs₀ standing₀ r costs' standing' fit h =

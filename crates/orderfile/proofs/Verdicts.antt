@@ -15,6 +15,8 @@ use Rattle.orderfile.specs.Format.{value_of, pair_in}
 use Rattle.orderfile.specs.Faults.{field_fault, front, FrontFits, FirstFault}
 use Rattle.orderfile.specs.Loading.{HasOneVerdict, IsChecked}
 use Rattle.orderfile.proofs.Fields.{size_sound, pair_sound, pair_stated, end_sound}
+use Rattle.std.proofs.Common.{slice_index}
+use Rattle.blockset.specs.declared.TheConstants.{MOST_BLOCKS}
 
 -- the bytes do not begin with a sound pair
 BeginsNoPair : ℕ → List ℕ → Type 0
@@ -22,7 +24,7 @@ BeginsNoPair n rest = (p : StatedPair) (more : List ℕ) → PairFits n p → re
 
 -- no sound field comes next
 CannotGoOn : Stage → List ℕ → Type 0
-CannotGoOn Start rest = (n : ℕ) (more : List ℕ) → 1 ≤ n → n ≤ 64 → rest ≡ size_field n ++ more → ⊥
+CannotGoOn Start rest = (n : ℕ) (more : List ℕ) → 1 ≤ n → n ≤ MOST_BLOCKS → rest ≡ size_field n ++ more → ⊥
 CannotGoOn (Sized n) rest = BeginsNoPair n rest × ((more : List ℕ) → rest ≡ end_field ++ more → ⊥)
 CannotGoOn (Ended n) rest = Unit {0}
 
@@ -42,7 +44,7 @@ stuck_at (Ended n) rest at f h = tt
 
 end_not_pair : (n : ℕ) (rest : List ℕ) → BeginsNoPair n (end_field ++ rest)
 unfolding BeginsNoPair
-end_not_pair n rest p more s e = let tags : ◌≡◌ {A = ℕ} 3 2 = ap (λ t. get_or t 0 0) e in
+end_not_pair n rest p more s e = let tags : ◌≡◌ {A = ℕ} 3 2 = ap (λ t. slice_index t 0) e in
     omega arith
 
 same_pairs : (n : ℕ) (ps qs : List StatedPair) (r s : List ℕ) → AllByRecursion (PairFits n) ps
@@ -66,7 +68,7 @@ abbrev AreSameReadings : Stage → List StatedPair → List ℕ → Stage → Li
 AreSameReadings a ps r b qs s = (a ≡ b) × (ps ≡ qs) × (r ≡ s)
 
 size_first : (n m : ℕ) (r s : List ℕ) → size_field n ++ r ≡ size_field m ++ s → (n ≡ m) × (r ≡ s)
-size_first n m r s e = (ap (λ t. get_or t 3 0) e, ap (drop 4) e)
+size_first n m r s e = (ap (λ t. slice_index t 3) e, ap (drop 4) e)
 
 -- two readings that cannot go on are the same
 one_reading : (a b : Stage) (ps qs : List StatedPair) (r s : List ℕ) → FrontFits a ps

@@ -35,16 +35,14 @@ returns-in_err-settled c =
     let refusal = c.in_err-settled.field-0.0 in
     let out = c.args.out.now in
     subst (λ a. AnswersHost c.args.call c.args.file.now out a out) (sym (p.1 ∙ ap Err p.2))
-    (settle_refused c.args.call c.args.file.now out c.args.costs.now c.load.new.costs
-    c.args.standing.now c.load.new.standing c.args.partners.now c.args.list.now c.args.left.now
-    c.args.right.now c.in_ok-sheet.sheet c.in_ok-sheet.ensures c.requires refusal.fault
+    (settle_refused c.in_ok-sheet.ensures c.args.call out c.args.partners.now c.args.list.now
+    c.args.left.now c.args.right.now c.requires refusal.fault
     c.in_err-settled.ensures.unmet)
 
 pub write_blocks-requires-clause-room : goal.write_blocks-requires-clause-room
 write_blocks-requires-clause-room c =
-    partners_fit c.args.call c.args.file.now c.args.out.now c.args.costs.now c.load.new.costs
-    c.args.standing.now c.load.new.standing c.args.partners.now c.args.list.now c.args.left.now
-    c.args.right.now c.in_ok-sheet.sheet c.in_ok-sheet.ensures c.requires c.in_ok-settled.settled
+    partners_fit c.in_ok-sheet.ensures c.args.call c.args.out.now c.args.partners.now c.args.list.now
+    c.args.left.now c.args.right.now c.requires c.in_ok-settled.settled
     c.settle.new.partners c.settle.new.left c.settle.new.right c.in_ok-settled.ensures
 
 pub write_blocks-requires-clause-bytes : goal.write_blocks-requires-clause-bytes
@@ -56,25 +54,22 @@ write_blocks-requires-clause-bytes c =
 
 pub step_on-requires-clause-list_long : goal.step_on-requires-clause-list_long
 step_on-requires-clause-list_long c =
-    list_fits c.args.call c.args.file.now c.args.out.now c.args.costs.now c.load.new.costs
-    c.args.standing.now c.load.new.standing c.args.partners.now c.args.list.now c.args.left.now
-    c.args.right.now c.in_ok-sheet.sheet c.in_ok-sheet.ensures c.requires
+    list_fits c.in_ok-sheet.ensures c.args.call c.args.out.now c.args.partners.now c.args.list.now
+    c.args.left.now c.args.right.now c.requires
     ∙ sym (ap size_of c.in_ok-settled.ensures.same)
 
 pub step_on-requires-clause-room : goal.step_on-requires-clause-room
 step_on-requires-clause-room c =
     subst (λ s. size_of s ≤ length c.args.out.now) (sym c.in_ok-settled.ensures.same)
-    (out_fits c.args.call c.args.file.now c.args.out.now c.args.costs.now c.load.new.costs
-    c.args.standing.now c.load.new.standing c.args.partners.now c.args.list.now c.args.left.now
-    c.args.right.now c.in_ok-sheet.sheet c.in_ok-sheet.ensures c.requires)
+    (out_fits c.in_ok-sheet.ensures c.args.call c.args.out.now c.args.partners.now c.args.list.now
+    c.args.left.now c.args.right.now c.requires)
 
 pub returns-in-First : goal.returns-in-First
 returns-in-First c =
     let out' = c.write_blocks.new.out in
     subst (λ k. AnswersHost k c.args.file.now c.args.out.now (Ok Next) out') (sym c.in-First.is)
-    (first_answered First c.args.file.now c.args.out.now c.args.costs.now c.load.new.costs
-    c.args.standing.now c.load.new.standing c.args.partners.now c.args.list.now c.args.left.now
-    c.args.right.now c.in_ok-sheet.sheet c.in_ok-sheet.ensures c.requires c.in_ok-settled.settled
+    (first_answered c.in_ok-sheet.ensures First c.args.out.now c.args.partners.now c.args.list.now
+    c.args.left.now c.args.right.now c.requires c.in_ok-settled.settled
     c.settle.new.partners c.settle.new.left c.settle.new.right c.in_ok-settled.ensures out'
     c.write_blocks.ensures)
 
@@ -82,8 +77,7 @@ pub returns-in-After : goal.returns-in-After
 returns-in-After c =
     subst (λ k. AnswersHost k c.args.file.now c.args.out.now c.step_on.result c.step_on.new.out)
     (sym c.in-After.is)
-    (next_answered After c.args.file.now c.args.out.now c.args.costs.now c.load.new.costs
-    c.args.standing.now c.load.new.standing c.args.partners.now c.args.list.now c.args.left.now
-    c.args.right.now c.in_ok-sheet.sheet c.in_ok-sheet.ensures c.requires c.in_ok-settled.settled
+    (next_answered c.in_ok-sheet.ensures After c.args.out.now c.args.partners.now c.args.list.now
+    c.args.left.now c.args.right.now c.requires c.in_ok-settled.settled
     c.settle.new.partners c.settle.new.left c.settle.new.right c.in_ok-settled.ensures
     c.step_on.result c.step_on.new.out c.step_on.ensures)
