@@ -1,7 +1,7 @@
 -- The cells of the tables after pairs were entered in turn are what the pairs state.
 -- Idea: entering a pair changes its own cell and no other, so each entry decides its cell unless a
 -- later one does, which is how a list of pairs is read.
-use Rattle.std.proofs.Common.{◌≡◌, ℕ, ◌<◌, cond, ◌&&◌, eqb, List, [], ◌∷◌, length, set, replicate}
+use Rattle.std.proofs.Common.{◌≡◌, ℕ, ◌<◌, ◌&&◌, List, [], ◌∷◌, length, replicate}
 use Rattle.std.proofs.Common.{ℤ}
 use Rattle.std.proofs.Common.{pos, Some, None, Option, sym, refl, ap, ap₂, ◌∙◌, ⊎_elim}
 use Rattle.std.proofs.lemmas.List.{length-set, length-replicate}
@@ -64,7 +64,8 @@ unfolding old new
 cells_after n [] costs standing s have l r hl hr = refl
 cells_after n (p ∷ ps) costs standing s have l r hl hr =
     let k = place_of n p.left p.right in
-    let fits : HavePlaces n (length (slice_set costs k (plain p.cost))) (length (slice_set standing k 1)) =
+    let fits : HavePlaces n (length (slice_set costs k (plain p.cost)))
+    (length (slice_set standing k 1)) =
     record {
       costs = length-set costs k (plain p.cost) ∙ have.costs;
       standing = length-set standing k 1 ∙ have.standing;
@@ -74,7 +75,8 @@ cells_after n (p ∷ ps) costs standing s have l r hl hr =
     (entered n p costs standing
     (written (plain (pos 0)) n costs standing p.left p.right have
     s.0.left_below s.0.right_below 1 (plain p.cost) k refl) l r hl hr)
-    ∙ or_else_mapped (cost_stated ps l r) (if p.left == l && p.right == r then Some p.cost else None)
+    ∙ or_else_mapped (cost_stated ps l r)
+    (if p.left == l && p.right == r then Some p.cost else None)
     (plain_cell n costs standing l r)
 
 or_else_none : (a : Option Plain) → or_else a None ≡ a

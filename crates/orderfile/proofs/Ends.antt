@@ -33,7 +33,8 @@ checked_err file f h =
     subst (λ (x : Fault). FirstFault file x) same g.1)
     h.verdict.some
 
-pub checked_ok : (file : List ℕ) (n : ℕ) → IsChecked file (Ok n) → (order : Order) × States file order
+pub checked_ok : (file : List ℕ) (n : ℕ) → IsChecked file (Ok n) → (order : Order)
+    × States file order
     × (order.size ≡ n)
 checked_ok file n h =
     ⊎_elim
@@ -110,7 +111,8 @@ module _ (file : List ℕ) (costs : List Plain) (standing : List ℕ) (r : Resul
       }
 
 -- what opening tells, for the size that the file states
-module _ (order : Order) (n : ℕ) (size : order.size ≡ n) (sound : FitsSheet order) (costs : List Plain)
+module _ (order : Order) (n : ℕ) (size : order.size ≡ n) (sound : FitsSheet order)
+    (costs : List Plain)
     (standing : List ℕ) (costs' : List Plain) (standing' : List ℕ) where
   is_size : IsSize n
   is_size = record { some = omega (arith, sound.some); few = omega (arith, sound.few) }

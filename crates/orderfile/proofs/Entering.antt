@@ -2,7 +2,8 @@
 -- Idea: what is left of the file is always the bytes of what is still to come, and the tables are
 -- those after the pairs that came. So the reader meets a sound field each time, which states what
 -- it was written for, and each step takes one pair over from those to come to those that came.
-use Rattle.std.proofs.Common.{◌≡◌, ℕ, List, Option, Result, [], ◌∷◌, ◌++◌, drop, Some, None, Ok, Err, set, sym}
+use Rattle.std.proofs.Common.{◌≡◌, ℕ, List, Option, Result, [], ◌∷◌, ◌++◌, drop, Some, None}
+use Rattle.std.proofs.Common.{Err, sym}
 use Rattle.std.proofs.Common.{refl, ap, ◌∙◌, subst, append_assoc}
 use Rattle.std.proofs.lemmas.List.{append-nil}
 use Rattle.std.specs.List.{flat_map, AllByRecursion}

@@ -3,9 +3,10 @@
 -- Idea: one way the bytes are written out, so that the checks compute. The other way the checks fix
 -- the tag and the length, so that the first bytes can be peeled off one by one and compared with
 -- the bytes that the format would write.
-use Rattle.std.proofs.Common.{◌≡◌, ℕ, zero, suc, ◌+◌, ◌/◌, ◌%◌, ◌<◌, ◌≤◌, false, not, ltb}
-use Rattle.std.proofs.Common.{List, [], ◌∷◌, ◌++◌, length, get_or, drop, ℤ, pos, negsuc, nat_abs}
-use Rattle.std.proofs.Common.{None, sym, refl, ap, ◌∙◌, add-zero, arith, length-drop, length-take, w64}
+use Rattle.std.proofs.Common.{◌≡◌, ℕ, zero, suc, ◌+◌, ◌/◌, ◌%◌, ◌<◌, ◌≤◌, false, not}
+use Rattle.std.proofs.Common.{List, [], ◌∷◌, ◌++◌, length, drop, ℤ, pos, negsuc}
+use Rattle.std.proofs.Common.{None, sym, refl, ap, ◌∙◌, add-zero, arith, length-drop, length-take}
+use Rattle.std.proofs.Common.{w64}
 use Rattle.std.proofs.Common.{SFits, to_z, of_z}
 use Rattle.std.proofs.lemmas.List.{drop_more, get_or-take, get_or-drop}
 use Rattle.std.proofs.lemmas.Int.{to_z-of_z, of_z-to_z}
@@ -64,7 +65,8 @@ pub pair_sound : (n : ℕ) (p : StatedPair) (more : List ℕ) (at : ℕ) → Pai
     → field_fault (Sized n) (pair_field p ++ more) at ≡ None
 pair_sound n p more at s =
     let e = pair_stated p more s.cost_within in
-    let cost : nat_lt COST_LIMIT (unsigned_abs (pair_in (value_of (pair_field p ++ more))).cost) ≡ false =
+    let cost : nat_lt COST_LIMIT (unsigned_abs (pair_in (value_of (pair_field p ++ more))).cost)
+    ≡ false =
     ap (λ q. nat_lt COST_LIMIT (unsigned_abs q.cost)) e ∙ grind (arith, nat_tests, s.cost_within) in
     let whole : overruns (pair_field p ++ more) ≡ false = grind (arith, nat_tests) in
     cond-false _ _ _ whole
@@ -83,7 +85,8 @@ unfolding firsts
 peel zero i xs h = ap (λ j. drop j xs) (sym (add-zero i))
 peel (suc k) i xs h =
     let e : (i + 1) + k ≡ i + suc k = omega arith in
-    drop_more xs i 0 (omega arith) ∙ ap (λ t. slice_index xs i ∷ t) (peel k (i + 1) xs (omega arith))
+    drop_more xs i 0 (omega arith) ∙ ap (λ t. slice_index xs i ∷ t)
+    (peel k (i + 1) xs (omega arith))
     ∙ ap (λ j. slice_index xs i ∷ (firsts k (i + 1) xs ++ drop j xs)) e
 
 -- a whole field

@@ -1,8 +1,8 @@
 -- How a file is read: a front of fields without a fault grows by one field at a time.
 -- Idea: a field without a fault is the bytes of what it states, so the front and the field together
 -- are again the bytes of a front.
-use Rattle.std.proofs.Common.{◌≡◌, ℕ, ◌+◌, ◌≤◌, false, not, ◌||◌, eqb, ltb, ◌⊎◌, List, [], ◌∷◌}
-use Rattle.std.proofs.Common.{◌++◌, length, get_or, drop, nat_abs, None, sym, refl, ap, ◌∙◌, subst}
+use Rattle.std.proofs.Common.{◌≡◌, ℕ, ◌+◌, ◌≤◌, false, not, ◌||◌, ◌⊎◌, List, [], ◌∷◌}
+use Rattle.std.proofs.Common.{◌++◌, length, drop, None, sym, refl, ap, ◌∙◌}
 use Rattle.std.proofs.Common.{inl, inr, ⊎_elim, append_assoc, arith}
 use Rattle.std.proofs.ByRecursion.{All-push}
 use Rattle.std.proofs.lemmas.List.{flat_map_more}
@@ -110,7 +110,8 @@ GrowsFront stage pairs rest stage' = (more : List StatedPair)
     × (front stage pairs ++ rest ≡ front stage' more ++ drop (record_length stage rest) rest)
     × FrontFits stage' more
 
-grow_size : (pairs : List StatedPair) (rest : List ℕ) → IsSizeField rest → GrowsFront Start pairs rest
+grow_size : (pairs : List StatedPair) (rest : List ℕ) → IsSizeField rest
+    → GrowsFront Start pairs rest
     (stage_next Start rest)
 grow_size pairs rest h =
     let n = size_in (value_of rest) in
@@ -124,7 +125,8 @@ grow_size pairs rest h =
     )
 
 grow_pair : (n : ℕ) (pairs : List StatedPair) (rest : List ℕ) → AreBytes rest
-    → FitsSheet (record { size = n; pairs = pairs }) → IsPairField n rest → GrowsFront (Sized n) pairs rest
+    → FitsSheet (record { size = n; pairs = pairs }) → IsPairField n rest
+    → GrowsFront (Sized n) pairs rest
     (stage_next (Sized n) rest)
 grow_pair n pairs rest bytes s h =
     let p = pair_in (value_of rest) in
@@ -148,7 +150,8 @@ grow_pair n pairs rest bytes s h =
     )
 
 grow_end : (n : ℕ) (pairs : List StatedPair) (rest : List ℕ)
-    → FitsSheet (record { size = n; pairs = pairs }) → IsEndField rest → GrowsFront (Sized n) pairs rest
+    → FitsSheet (record { size = n; pairs = pairs }) → IsEndField rest
+    → GrowsFront (Sized n) pairs rest
     (stage_next (Sized n) rest)
 grow_end n pairs rest s h =
     let e : stage_next (Sized n) rest ≡ Ended n =

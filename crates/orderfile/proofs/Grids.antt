@@ -3,8 +3,8 @@
 -- Idea: a cell tells both whether its pair stands and at what cost. A stated cost is within the
 -- limit, so as a plain cost it means itself. Blank tables are in order, and entering a pair of a
 -- sound order keeps them so, since it writes one byte 1 beside one small cost.
-use Rattle.std.proofs.Common.{◌≡◌, ℕ, ◌<◌, ◌≤◌, Bool, true, false, cond, ◌⊎◌, List, []}
-use Rattle.std.proofs.Common.{◌∷◌, length, get_or, set, replicate, ℤ, pos, nat_abs, Some, None}
+use Rattle.std.proofs.Common.{◌≡◌, ℕ, ◌<◌, ◌≤◌, Bool, true, false, ◌⊎◌, List, []}
+use Rattle.std.proofs.Common.{◌∷◌, length, replicate, ℤ, pos, Some, None}
 use Rattle.std.proofs.Common.{Option, sym, refl, ap, ◌∙◌, subst, inl, inr, ⊎_elim, arith}
 use Rattle.std.proofs.lemmas.List.{length-set, length-replicate, get_or-map}
 use Rattle.std.specs.Option.{option_map, is_some}
@@ -49,14 +49,16 @@ stated_small n (p ∷ ps) s l r z e =
 
 -- ---- What a cell tells
 
-cell_stands : (b : Bool) (x : Plain) (o : Option ℤ) → (if b then Some x else None) ≡ option_map plain o
+cell_stands : (b : Bool) (x : Plain) (o : Option ℤ) → (if b then Some x else None)
+    ≡ option_map plain o
     → b ≡ is_some o
 cell_stands true x (Some z) e = refl
 cell_stands true x None e = cc
 cell_stands false x (Some z) e = cc
 cell_stands false x None e = refl
 
-cell_cost : (b : Bool) (x : Plain) (o : Option ℤ) → (if b then Some x else None) ≡ option_map plain o
+cell_cost : (b : Bool) (x : Plain) (o : Option ℤ) → (if b then Some x else None)
+    ≡ option_map plain o
     → b ≡ true → (z : ℤ) × (o ≡ Some z) × (x ≡ plain z)
 cell_cost true x (Some z) e h = (z, refl, cc)
 cell_cost true x None e h = cc
@@ -90,7 +92,8 @@ module _ (order : Order) (sound : AllByRecursion (PairFits order.size) order.pai
     size = refl;
     columns = refl;
     stands = λ l r hl hr. cell_stands (byte_says l r)
-        (slice_index_or costs (place_of order.size l r) (plain (pos 0))) (cost_stated order.pairs l r)
+        (slice_index_or costs (place_of order.size l r) (plain (pos 0)))
+        (cost_stated order.pairs l r)
         (shows l r hl hr);
     cost = cost_shown;
   }

@@ -2,8 +2,8 @@
 -- Idea: they are taken from the places one after another, and a place tells its pair. So a pair of
 -- blocks is named at its own place and at no other, and there exactly if it stands.
 use Rattle.std.proofs.Common.{◌≡◌, ℕ, zero, suc, ◌+◌, ◌/◌, ◌%◌, ◌<◌, ◌≤◌, Bool, true, false}
-use Rattle.std.proofs.Common.{if◌then◌else◌, ◌&&◌, ◌==◌, leb, List, [], ◌∷◌, ◌++◌, length, drop}
-use Rattle.std.proofs.Common.{slice_index, slice_index_or, ℤ, pos, negsuc, nat_abs, Some, None, sym}
+use Rattle.std.proofs.Common.{if◌then◌else◌, ◌&&◌, ◌==◌, List, [], ◌∷◌, ◌++◌, length, drop}
+use Rattle.std.proofs.Common.{slice_index, slice_index_or, ℤ, pos, negsuc, Some, None, sym}
 use Rattle.std.proofs.Common.{refl, ap, ◌∙◌, ⊎_elim, append_assoc, add-zero, count_by, arith}
 use Rattle.std.proofs.ByRecursion.{All-append}
 use Rattle.std.proofs.lemmas.Nat.{div-add-mod', div_below, mod_below, mul-add-lt}
@@ -136,7 +136,8 @@ module _ (n : ℕ) (costs : List Plain) (standing : List ℕ) where
         (eqb_tells k (place_of n l r))
 
 -- a plain cost that its kind finds within the limit is a number within it
-small : (z : ℤ) → (nat_le (unsigned_abs (rail_of z)) COST_LIMIT && true) ≡ true → unsigned_abs z ≤ COST_LIMIT
+small : (z : ℤ) → (nat_le (unsigned_abs (rail_of z)) COST_LIMIT && true) ≡ true
+    → unsigned_abs z ≤ COST_LIMIT
 small (pos k) e = grind (arith, nat_tests)
 small (negsuc k) e = grind (arith, nat_tests)
 

@@ -3,7 +3,7 @@
 -- Idea: the file states an order, so loading shows in each cell what the pairs state. A pair of
 -- blocks that stands is named once, at its cost, and one that is absent is not named, so that is
 -- what the cell held.
-use Rattle.std.proofs.Common.{◌≡◌, ℕ, ◌+◌, ◌*◌, ◌<◌, ◌≤◌, Bool, cond, not, ◌&&◌, eqb}
+use Rattle.std.proofs.Common.{◌≡◌, ℕ, ◌+◌, ◌*◌, ◌<◌, ◌≤◌, Bool, not, ◌&&◌}
 use Rattle.std.proofs.Common.{◌⊎◌, List, [], ◌∷◌, ◌++◌, length, take, drop, ℤ, Some, None, Ok}
 use Rattle.std.proofs.Common.{Err, Result, sym, refl, ap, ◌∙◌, inl, inr, ⊎_elim}
 use Rattle.std.proofs.Common.{count_by, nat_lt, arith}
@@ -59,7 +59,8 @@ stated_is n costs standing l r (p ∷ ps) s =
     (λ no'. inl (
       ap (λ o. or_else o (if here then Some p.cost else None)) none.0
           ∙ cond-false here _ _ no',
-      times-cons l r p ps ∙ ap (λ b. (if b then 1 else 0) + times l r ps) no' ∙ omega (arith, none.1),
+      times-cons l r p ps ∙ ap (λ b. (if b then 1 else 0) + times l r ps) no'
+          ∙ omega (arith, none.1),
     ))
     (cases_Bool here))
     (λ some. inr (some.0, ap (λ o. or_else o (if here then Some p.cost else None)) some.1, some.2))
@@ -91,7 +92,8 @@ pub listed_length : (n : ℕ) (costs : List Plain) (standing : List ℕ)
 listed_length n costs standing eb = joined_length (pairs_listed n costs standing 0 (places_of n))
     ∙ ap (λ k. PAIR_FIELD * k) (pairs_listed_count n costs standing 0 (places_of n) (omega arith))
 
-pub file_length : (n : ℕ) (ps : List StatedPair) → length (file_of (record { size = n; pairs = ps }))
+pub file_length : (n : ℕ) (ps : List StatedPair)
+    → length (file_of (record { size = n; pairs = ps }))
     ≡ SIZE_FIELD + length (flat_map pair_field ps) + END_FIELD
 file_length n ps = length-append (size_field n) (flat_map pair_field ps ++ end_field)
     ∙ omega (arith, length-append (flat_map pair_field ps) end_field)
@@ -125,7 +127,8 @@ same_as_third n costs costs' standing standing' order a b = record {
       ∙ sym (a.cost l r i j (a.stands l r i j ∙ sym (b.stands l r i j) ∙ k));
 }
 
-module _ (n : ℕ) (some : 1 ≤ n) (few : n ≤ MOST_BLOCKS) (costs : List Plain) (standing out : List ℕ) where
+module _ (n : ℕ) (some : 1 ≤ n) (few : n ≤ MOST_BLOCKS) (costs : List Plain)
+    (standing out : List ℕ) where
   reloads : (out' : List ℕ) → length costs ≡ places_of n → HoldsFile n costs standing out out'
       → Reloads n costs standing (take (saved_length standing) out')
   reloads out' long w costs₀ standing₀ r costs' standing' fit h =

@@ -2,7 +2,7 @@
 -- Idea: go along two readings of the same bytes side by side. A sound field has no fault, so
 -- neither reading can stop where the other goes on, and the bytes of a sound pair tell which pair
 -- it is.
-use Rattle.std.proofs.Common.{◌≡◌, ℕ, ◌≤◌, List, [], ◌∷◌, ◌++◌, length, get_or, drop, Some, None}
+use Rattle.std.proofs.Common.{◌≡◌, ℕ, ◌≤◌, List, [], ◌∷◌, ◌++◌, length, drop, Some, None}
 use Rattle.std.proofs.Common.{Ok, Err, Result, ◌⊎◌, sym, refl, ap, ◌∙◌, inl, inr, append_assoc}
 use Rattle.std.proofs.Common.{append-nil, arith}
 use Rattle.std.specs.List.{flat_map, AllByRecursion}
@@ -20,11 +20,13 @@ use Rattle.blockset.specs.declared.TheConstants.{MOST_BLOCKS}
 
 -- the bytes do not begin with a sound pair
 BeginsNoPair : ℕ → List ℕ → Type 0
-BeginsNoPair n rest = (p : StatedPair) (more : List ℕ) → PairFits n p → rest ≡ pair_field p ++ more → ⊥
+BeginsNoPair n rest = (p : StatedPair) (more : List ℕ) → PairFits n p → rest ≡ pair_field p
+    ++ more → ⊥
 
 -- no sound field comes next
 CannotGoOn : Stage → List ℕ → Type 0
-CannotGoOn Start rest = (n : ℕ) (more : List ℕ) → 1 ≤ n → n ≤ MOST_BLOCKS → rest ≡ size_field n ++ more → ⊥
+CannotGoOn Start rest = (n : ℕ) (more : List ℕ) → 1 ≤ n → n ≤ MOST_BLOCKS → rest ≡ size_field n
+    ++ more → ⊥
 CannotGoOn (Sized n) rest = BeginsNoPair n rest × ((more : List ℕ) → rest ≡ end_field ++ more → ⊥)
 CannotGoOn (Ended n) rest = Unit {0}
 
@@ -64,7 +66,8 @@ same_pairs n (p ∷ ps) (q ∷ qs) r s hp hq stop-r stop-s e =
     let tail : ps ≡ qs = others.0 in
     (cc, others.1)
 
-abbrev AreSameReadings : Stage → List StatedPair → List ℕ → Stage → List StatedPair → List ℕ → Type 0
+abbrev AreSameReadings : Stage → List StatedPair → List ℕ → Stage → List StatedPair → List ℕ
+    → Type 0
 AreSameReadings a ps r b qs s = (a ≡ b) × (ps ≡ qs) × (r ≡ s)
 
 size_first : (n m : ℕ) (r s : List ℕ) → size_field n ++ r ≡ size_field m ++ s → (n ≡ m) × (r ≡ s)

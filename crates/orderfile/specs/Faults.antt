@@ -19,7 +19,8 @@ use Rattle.orderfile.specs.Format.{FitsSheet, size_field, pair_field, file_of, t
 use Rattle.orderfile.specs.Format.{overruns, pair_in}
 
 -- the field that begins `rest`, which stands at the offset `at`, handed out as a part of the file
-pub record IsHandedOut (rest : List ℕ) (at : ℕ) (tag : ℕ) (value : List ℕ) (place : ℕ) : Type 0 where
+pub record IsHandedOut (rest : List ℕ) (at : ℕ) (tag : ℕ) (value : List ℕ)
+    (place : ℕ) : Type 0 where
   pub whole : overruns rest ≡ false
   pub tag_is : tag ≡ tag_of rest
   pub value_is : value ≡ value_of rest

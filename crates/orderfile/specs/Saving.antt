@@ -38,7 +38,8 @@ abbrev pub times : ℕ → ℕ → List StatedPair → ℕ
 times l r pairs = count_by (names_blocks l r) pairs
 
 -- a pair that stands in the tables at this cost
-pub record StandsAtCost (n : ℕ) (costs : List Plain) (standing : List ℕ) (p : StatedPair) : Type 0 where
+pub record StandsAtCost (n : ℕ) (costs : List Plain) (standing : List ℕ)
+    (p : StatedPair) : Type 0 where
   pub fits : PairFits n p
   pub stands : plain_cell n costs standing p.left p.right ≡ Some (plain p.cost)
 
@@ -73,7 +74,8 @@ pub record Saved (n : ℕ) (costs : List Plain) (standing out : List ℕ) (r : R
     (out' : List ℕ) : Type 0 where
   pub answers : r ≡ answer (save_refusal n costs standing (length out)) (saved_length standing)
   pub stays : (f : Fault) → save_refusal n costs standing (length out) ≡ Some f → out' ≡ out
-  pub writes : save_refusal n costs standing (length out) ≡ None → HoldsFile n costs standing out out'
+  pub writes : save_refusal n costs standing (length out) ≡ None
+      → HoldsFile n costs standing out out'
   pub reloads : save_refusal n costs standing (length out) ≡ None
       → Reloads n costs standing
       (take (saved_length standing) out')

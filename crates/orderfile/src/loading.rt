@@ -38,8 +38,8 @@ pub fn load(file: &[u8], costs: &mut [Plain], standing: &mut [u8]) -> Result<Ope
     Ok(sheet)
 }
 
-/// Enters the pairs of a file of size n, which is known to have no fault: so the reader, which tests
-/// it again, hands out all of its records.
+/// Enters the pairs of a file of size n, which is known to have no fault: so the reader, which
+/// tests it again, hands out all of its records.
 fn enter_all(n: u16, file: &[u8], costs: &mut [Plain], standing: &mut [u8])
     requires stated { (order : Order) × States file.now order × (order.size ≡ n) }
     requires places { HavePlaces n (length costs.old) (length standing.old) }

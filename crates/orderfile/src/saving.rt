@@ -64,8 +64,8 @@ fn write_file(n: u16, costs: &[Plain], standing: &[u8], out: &mut [u8])
     put(out, at, &[END_TAG, 0, END_LENGTH]);
 }
 
-/// Writes the standing pairs behind the size field, by left and then by right block, and answers the
-/// offset behind them.
+/// Writes the standing pairs behind the size field, by left and then by right block, and answers
+/// the offset behind them.
 fn write_pairs(n: u16, costs: &[Plain], standing: &[u8], out: &mut [u8]) -> usize
     requires some { 1 ≤ n }
     requires few { n ≤ MOST_BLOCKS }

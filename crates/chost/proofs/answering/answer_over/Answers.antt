@@ -41,7 +41,8 @@ returns-in_err-settled c =
 
 pub write_blocks-requires-clause-room : goal.write_blocks-requires-clause-room
 write_blocks-requires-clause-room c =
-    partners_fit c.in_ok-sheet.ensures c.args.call c.args.out.now c.args.partners.now c.args.list.now
+    partners_fit c.in_ok-sheet.ensures c.args.call c.args.out.now c.args.partners.now
+    c.args.list.now
     c.args.left.now c.args.right.now c.requires c.in_ok-settled.settled
     c.settle.new.partners c.settle.new.left c.settle.new.right c.in_ok-settled.ensures
 

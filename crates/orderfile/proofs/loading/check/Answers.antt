@@ -1,5 +1,5 @@
 -- A fault is the first one of the file; where no record is left, the file states what was read.
-use Rattle.std.proofs.Common.{◌≡◌, Some, None, Ok, Err, sym, ap, ◌∙◌, arith}
+use Rattle.std.proofs.Common.{Some, None, Ok, Err, sym, ap, ◌∙◌, arith}
 use Rattle.std.proofs.lemmas.Result.{err_from_is_err_and}
 use Rattle.sheet.proofs.Refused.{from_err}
 use Rattle.orderfile.proofs.Reading.{reading_fault, reading_done, passed, next_reads, next_stage}

@@ -11,7 +11,8 @@ use Rattle.orderfile.proofs.saving.pair_at.Goals as goal
 use Rattle.std.proofs.Common.{slice_index_or}
 
 pair_is : (n : ℕ) (costs : List Plain) (l r k : ℕ) (z : ℤ) → k ≡ place_of n l r
-    → place_of n l r / n ≡ l → place_of n l r % n ≡ r → z ≡ (slice_index_or costs k (plain (pos 0))).0
+    → place_of n l r / n ≡ l → place_of n l r % n ≡ r → z
+    ≡ (slice_index_or costs k (plain (pos 0))).0
     → ◌≡◌ {A = StatedPair} (record { left = l; right = r; cost = z })
     (pair_at n costs (place_of n l r))
 pair_is n costs l r k z here el er ez =

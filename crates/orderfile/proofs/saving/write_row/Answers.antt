@@ -7,7 +7,8 @@ use Rattle.tables.specs.PairTables.{says_stands}
 use Rattle.orderfile.specs.Format.{pair_field}
 use Rattle.orderfile.specs.Saving.{pair_at}
 use Rattle.orderfile.specs.declared.format.TheConstants.{PAIR_FIELD}
-use Rattle.orderfile.proofs.Buffer.{bytes_of_one, bytes_of_none, writes_none, room_next, writes_next}
+use Rattle.orderfile.proofs.Buffer.{bytes_of_one, bytes_of_none, writes_none, room_next}
+use Rattle.orderfile.proofs.Buffer.{writes_next}
 use Rattle.orderfile.proofs.saving.write_row.Goals as goal
 use Rattle.orderfile.proofs.saving.write_row.Goals.{then-stands, else-stands}
 
@@ -49,7 +50,8 @@ loop-right-preserved c =
           (next (pair_field (pair_at n costs k))
           (sym (bytes_of_one n costs standing k (byte true w.if-stands.ensures)))
           (at + PAIR_FIELD) w.put_pair.new.out (omega arith)
-          (w.put_pair.ensures ∙ ap (λ p. take at out ++ (pair_field p ++ drop (at + PAIR_FIELD) out))
+          (w.put_pair.ensures ∙ ap (λ p. take at out ++ (pair_field p
+          ++ drop (at + PAIR_FIELD) out))
           (w.pair_at.ensures ∙ ap (pair_at n costs) (sym c.place.ensures ∙ sym here))))
       | else-stands w ↦
           simp (w.out-is, w.at-is)
