@@ -15,12 +15,12 @@ use Rattle.std.proofs.lemmas.Bool.{and_from, both_ways, not-true, not_from_false
 use Rattle.blockset.specs.Has.{has}
 use Rattle.blockset.specs.Sets.{members}
 use Rattle.blockset.proofs.Members.{members_with, members_like, members_no, inject_le}
-use Rattle.pairing.specs.Grid.{at, Perfect}
-use Rattle.pairing.specs.Chains.{Shut}
+use Rattle.pairing.specs.Grid.{at, IsPerfect}
+use Rattle.pairing.specs.Chains.{IsShut}
 use Rattle.pairing.proofs.Crowds.{left_out_le, perfect_partial}
 use Rattle.matching.specs.declared.chains.Holders.{Holders}
 use Rattle.matching.specs.declared.chains.Reach.{Reach}
-use Rattle.matching.specs.Exchange.{without, GivesDistinct, Holding, Ways, Exchanged}
+use Rattle.matching.specs.Exchange.{without, GivesDistinct, AreHolders, HasWaysBack, IsExchanged}
 use Rattle.matching.proofs.Exchanging.{without_from}
 use Rattle.assign.specs.Search.{stage, from_row, Kept, Grown}
 use Rattle.assign.proofs.Growing.{own_row}
@@ -56,7 +56,7 @@ module _ (n k : ℕ) (stands : ℕ → ℕ → Bool) (cost : ℕ → ℕ → ℤ
       (g : Grown n stands cost out (from_row stands cost k) p o v d at_stage (at from) t f)
       (inside : (c : ℕ) → taken c ≡ true → c < n) where
     -- the chains back from the taken right blocks
-    pub ways_of : Ways p out reach
+    pub ways_of : HasWaysBack p out reach
     ways_of = record {
       inside = λ c m. omega (arith, inside c m, kept.pairs.len);
       taker = λ c m. ⊎_elim (λ s. omega (arith, s.0, room, kept.pairs.len))
@@ -77,7 +77,7 @@ module _ (n k : ℕ) (stands : ℕ → ℕ → Bool) (cost : ℕ → ℕ → ℤ
     }
 
     -- they lead to the root of the search
-    pub root_is : (r : ℕ) (p' : List ℕ) → Exchanged p p' out reach r → r ≡ k
+    pub root_is : (r : ℕ) (p' : List ℕ) → IsExchanged p p' out reach r → r ≡ k
     root_is r p' x =
         ⊎_elim
         (λ s. absurd (s.0 refl))
@@ -103,8 +103,8 @@ module _ (n k : ℕ) (stands : ℕ → ℕ → Bool) (cost : ℕ → ℕ → ℤ
     module _ (hf : f < n) (mf : 2 ≤ at_stage f) (free : has o.held f ≡ false)
         (v' : ℕ → ℤ) (fallen : (c : ℕ) → taken c ≡ true → v' c +ℤ d f ≡ d c +ℤ v f)
         (same : (c : ℕ) → taken c ≡ false → v' c ≡ v c) (p' : List ℕ) (o' : Holders)
-        (x : Exchanged p p' out reach k)
-        (told : Holding 0 p' (without out k) o') where
+        (x : IsExchanged p p' out reach k)
+        (told : AreHolders 0 p' (without out k) o') where
       fallen_at : (c : ℕ) → 2 ≤ at_stage c → v' c +ℤ d f ≡ d c +ℤ v f
       fallen_at c m = fallen c (taken_is taken seen rank c m)
 
@@ -217,7 +217,7 @@ module _ (n k : ℕ) (stands : ℕ → ℕ → Bool) (cost : ℕ → ℕ → ℤ
     closed c h m = ⊎_elim (λ (z : at_stage c < 2). absurd (done c h (omega arith)))
         (λ (z : 2 ≤ at_stage c). taken_is taken seen rank c z) (cases_lt (at_stage c) 2)
 
-    shut : Shut n stands (λ l. eqb l k || looked_at l) taken
+    shut : IsShut n stands (λ l. eqb l k || looked_at l) taken
     unfolding looked_at
     shut l c hl hc x s = ⊎_elim
         (λ (e : eqb l k ≡ true). closed c hc
@@ -256,7 +256,7 @@ module _ (n k : ℕ) (stands : ℕ → ℕ → Bool) (cost : ℕ → ℕ → ℤ
         unpaired))
         (λ z. z) (cases_Bool (not (out k) && taken (at p k)))
 
-    pub never : (q : List ℕ) → Perfect n stands q → ⊥
+    pub never : (q : List ℕ) → IsPerfect n stands q → ⊥
     never q h =
         let more = members_with n looked_at (λ l. eqb l k || looked_at l) k room root_apart
         (λ l. refl) in

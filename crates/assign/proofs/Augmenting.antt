@@ -6,15 +6,15 @@ use Rattle.std.proofs.Common.{◌≡◌, ℕ, ◌<◌, true, false, ◌||◌, eq
 use Rattle.std.proofs.Common.{subst, arith, Option, Some, None}
 use Rattle.cost.specs.declared.Cost.{Ghosts}
 use Rattle.cost.specs.declared.TheConstants.{COST_LIMIT}
-use Rattle.cost.specs.Columns.{Within}
+use Rattle.cost.specs.Columns.{AreWithin}
 use Rattle.cost.specs.Weights.{weight}
 use Rattle.blockset.specs.declared.BlockSet.{BlockSet}
 use Rattle.blockset.specs.Has.{has}
-use Rattle.pairing.specs.Grid.{at, Perfect}
+use Rattle.pairing.specs.Grid.{at, IsPerfect}
 use Rattle.pairing.specs.Rows.{holds}
 use Rattle.matching.specs.declared.chains.Holders.{Holders}
-use Rattle.matching.specs.Exchange.{without, GivesDistinct, Holding, Ways, Exchanged}
-use Rattle.tables.specs.Said.{columns_at, Bounded}
+use Rattle.matching.specs.Exchange.{without, GivesDistinct, AreHolders, HasWaysBack, IsExchanged}
+use Rattle.tables.specs.Said.{columns_at, AreValuesWithin}
 use Rattle.assign.specs.declared.limits.TheConstants.{INNER_PRICE_LIMIT}
 use Rattle.assign.specs.declared.tree.Tree.{Tree}
 use Rattle.assign.specs.Weighed.{weight_at, cost_weight}
@@ -45,7 +45,7 @@ module _ {K : Type 0} {kind : Ghosts K} {rows : List BlockSet} {costs : List K} 
   leads = s.grown now.out now.partners s.paired.kept
 
   -- it does not end without a goal
-  pub no_end : tree.taken.goal ≡ None → (q : List ℕ) → Perfect (length rows) (holds rows) q → ⊥
+  pub no_end : tree.taken.goal ≡ None → (q : List ℕ) → IsPerfect (length rows) (holds rows) q → ⊥
   no_end is q perfect =
       let stuck = subst Leads is leads in
       never (length rows) k (holds rows) (cost_weight kind (length rows) costs) now.out
@@ -59,7 +59,7 @@ module _ {K : Type 0} {kind : Ghosts K} {rows : List BlockSet} {costs : List K} 
     pub goal_taken : has tree.taken.reached f ≡ true
     goal_taken = taken_is (has tree.taken.reached) (has tree.seen) tree.taken.rank f end.1
 
-    pub goal_unsold : Within COST_LIMIT (columns_at kind now.right f)
+    pub goal_unsold : AreWithin COST_LIMIT (columns_at kind now.right f)
     goal_unsold = s.paired.unsold f end.0 end.2
 
     pub distinct : GivesDistinct (length now.partners) now.partners now.out
@@ -67,7 +67,7 @@ module _ {K : Type 0} {kind : Ghosts K} {rows : List BlockSet} {costs : List K} 
         (distinct_of (length rows) (holds rows) (cost_weight kind (length rows) costs) now.out
         now.partners now.holders (weight_at kind now.right) s.paired.kept)
 
-    pub ways : Ways now.partners now.out tree.taken
+    pub ways : HasWaysBack now.partners now.out tree.taken
     ways = ways_of (length rows) k (holds rows) (cost_weight kind (length rows) costs) now.out
         now.partners now.holders (weight_at kind now.right) s.paired.kept s.room s.unpaired
         (weight_at kind dist) tree.taken (has tree.seen) end.3.0 f end.3.1 s.inside
@@ -87,9 +87,9 @@ module _ {K : Type 0} {kind : Ghosts K} {rows : List BlockSet} {costs : List K} 
         ≡ weight_at kind dist c +ℤ weight_at kind now.right f)
         → ((c : ℕ) → has tree.taken.reached c ≡ false
         → columns_at kind right' c ≡ columns_at kind now.right c)
-        → Bounded kind INNER_PRICE_LIMIT (length rows) right' → {p' : List ℕ} {r : ℕ}
-        → Exchanged now.partners p' now.out tree.taken r → (o' : Holders)
-        → (Holding 0 now.partners now.out now.holders → Holding 0 p' (without now.out r) o')
+        → AreValuesWithin kind INNER_PRICE_LIMIT (length rows) right' → {p' : List ℕ} {r : ℕ}
+        → IsExchanged now.partners p' now.out tree.taken r → (o' : Holders)
+        → (AreHolders 0 now.partners now.out now.holders → AreHolders 0 p' (without now.out r) o')
         → ((c : ℕ) → has o'.held c ≡ (eqb c f || has now.holders.held c))
         → IsPriced kind rows costs (so_far (without now.out k) p' o' right')
     augmented right' fallen same bounded {p' = p'} {r = r} exchanged o' told held =
@@ -104,12 +104,13 @@ module _ {K : Type 0} {kind : Ghosts K} {rows : List BlockSet} {costs : List K} 
               s.paired.kept s.room s.unpaired d tree.taken (has tree.seen) end.3.0 f end.3.1
               s.inside end.0 end.1 end.2 (weight_at kind right') fallen
               (λ c t. ap weight (same c t)) p' o'
-              (subst (Exchanged now.partners p' now.out tree.taken) root exchanged)
-              (subst (λ z. Holding 0 p' (without now.out z) o') root (told s.paired.kept.holding));
+              (subst (IsExchanged now.partners p' now.out tree.taken) root exchanged)
+              (subst (λ z. AreHolders 0 p' (without now.out z) o') root (told
+              s.paired.kept.holding));
           priced = bounded;
           unsold = λ c h q.
               let free = not_inserted (has now.holders.held) (has o'.held) f held c q in
-              subst (Within COST_LIMIT)
+              subst (AreWithin COST_LIMIT)
               (sym (same c (untaken (length rows) k (holds rows) cost now.out now.partners
               now.holders v s.paired.kept s.room s.unpaired d tree.taken (has tree.seen) end.3.0
               f end.3.1 s.inside c h free.0 free.1))) (s.paired.unsold c h free.0);

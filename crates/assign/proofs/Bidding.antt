@@ -10,7 +10,7 @@ use Rattle.std.proofs.lemmas.Bool.Decides.{nat_tests}
 use Rattle.std.proofs.lemmas.Bool.{cases_eq, both_ways}
 use Rattle.cost.specs.declared.Cost.{Ghosts}
 use Rattle.cost.specs.declared.TheConstants.{HALF_RAIL}
-use Rattle.cost.specs.Columns.{Within}
+use Rattle.cost.specs.Columns.{AreWithin}
 use Rattle.cost.proofs.Exact.{within_more}
 use Rattle.blockset.proofs.Removing.{still_in}
 use Rattle.matching.specs.Exchange.{without}
@@ -21,7 +21,7 @@ use Rattle.assign.specs.Bids.{IsBestBid}
 
 -- a key is so near that two of them compare as they weigh
 pub key_near : {K : Type 0} {kind : Ghosts K} {set : ℕ → Bool} {right dist : List K} {at : Nearby K}
-    → NearestWithKey kind set right dist at → Within HALF_RAIL (kind.meaning at.key)
+    → NearestWithKey kind set right dist at → AreWithin HALF_RAIL (kind.meaning at.key)
 key_near {kind = kind} {at = at} near =
     within_more KEY_LIMIT HALF_RAIL (kind.meaning at.key) (omega arith) near.bound
 

@@ -10,7 +10,7 @@ use Rattle.std.proofs.lemmas.Bool.{lt-ltb, ne_eqb}
 use Rattle.blockset.specs.Has.{has}
 use Rattle.pairing.specs.Grid.{at}
 use Rattle.matching.specs.declared.chains.Holders.{Holders}
-use Rattle.matching.specs.Exchange.{Holding}
+use Rattle.matching.specs.Exchange.{AreHolders}
 use Rattle.matching.proofs.Inserting.{new_in, old_in, old_from}
 use Rattle.blockset.proofs.Removing.{still_in, gone, out_of}
 
@@ -22,7 +22,7 @@ pub record Choosing (n : ℕ) (priced : ℕ → Bool) (row : ℕ → ℕ) (rest 
   pub none : (l : ℕ) → l < n → out l ≡ true → (c : ℕ) → priced c ≡ true → rest c ≡ false → row c ≢ l
   pub cheap : (l : ℕ) → l < n → out l ≡ false → (priced (at p l) ≡ true) × (row (at p l) ≡ l)
   pub first : (l : ℕ) → l < n → out l ≡ false → (c : ℕ) → priced c ≡ true → row c ≡ l → at p l ≤ c
-  pub holding : Holding 0 p out o
+  pub holding : AreHolders 0 p out o
   pub part : (c : ℕ) → rest c ≡ true → priced c ≡ true
   pub free : (c : ℕ) → rest c ≡ true → has o.held c ≡ false
 
@@ -140,7 +140,8 @@ module _ (n : ℕ) (priced : ℕ → Bool) (row : ℕ → ℕ) (inside : (c : �
             (λ (e : j ≡ c). ap (at p') (ap (at o'.owner) e ∙ new-owner) ∙ new ∙ sym e)
             (λ (e : j ≡ c → ⊥).
             let m' = old_from held (has o'.held) c more j m e in
-            ap (at p') (same-owner j e) ∙ same (at o.owner j) (other (at o.owner j) (had.inside j m'))
+            ap (at p') (same-owner j e) ∙ same (at o.owner j) (other (at o.owner j) (had.inside j
+            m'))
             ∙ had.owner j m')
             (cases_eq j c);
       };
@@ -149,7 +150,7 @@ module _ (n : ℕ) (priced : ℕ → Bool) (row : ℕ → ℕ) (inside : (c : �
           more j ∙ neither j w.1 (so_far.free j w.0);
     }
       where
-        had : Holding 0 p out o
+        had : AreHolders 0 p out o
         had = so_far.holding
 
         before : (l : ℕ) → out' l ≡ false → (l ≡ row c → ⊥) → out l ≡ false

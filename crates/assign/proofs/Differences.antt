@@ -4,7 +4,7 @@
 -- place.
 use Rattle.std.proofs.Common.{◌≡◌, ℕ, ◌<◌, List, length, set, ℤ, ◌-ℤ◌, sym, ap, ◌∙◌, subst, ap₂}
 use Rattle.cost.specs.declared.Cost.{Ghosts}
-use Rattle.cost.specs.Columns.{Within}
+use Rattle.cost.specs.Columns.{AreWithin}
 use Rattle.cost.specs.Weights.{weight}
 use Rattle.tables.specs.Said.{columns_at}
 use Rattle.assign.proofs.Entries.{put_same}
@@ -21,6 +21,6 @@ module _ {K : Type 0} (kind : Ghosts K) (xs : List K) (i : ℕ) (y : K)
   put_weighs p p' q q' e f g = ap weight (put_same kind xs i y inside)
       ∙ difference_weighs (weight (kind.meaning y)) p p' q q' e f g
 
-  pub put_within : (limit : ℕ) → Within limit (kind.meaning y)
-      → Within limit (columns_at kind (set xs i y) i)
-  put_within limit w = subst (Within limit) (sym (put_same kind xs i y inside)) w
+  pub put_within : (limit : ℕ) → AreWithin limit (kind.meaning y)
+      → AreWithin limit (columns_at kind (set xs i y) i)
+  put_within limit w = subst (AreWithin limit) (sym (put_same kind xs i y inside)) w

@@ -11,11 +11,11 @@ use Rattle.cost.specs.Columns.{zeros}
 use Rattle.cost.proofs.Exact.{zeros_within}
 use Rattle.cost.specs.Weights.{weight}
 use Rattle.cost.proofs.Weights.{weight_zeros}
-use Rattle.pairing.specs.Grid.{Grid, Sane, at, Perfect}
-use Rattle.pairing.specs.Prices.{Value, Valid, Greatest}
+use Rattle.pairing.specs.Grid.{Grid, IsSane, at, IsPerfect}
+use Rattle.pairing.specs.Prices.{IsCostValue, AreValid, AreGreatest}
 use Rattle.pairing.proofs.Weighing.{zeros_sized, value_from, value_same, price_from, price_same}
 use Rattle.pairing.proofs.Attained.{Attained, attained_greatest}
-use Rattle.pairing.specs.Inside.{Alike}
+use Rattle.pairing.specs.Inside.{AreAlike}
 use Rattle.pairing.proofs.Alike.{perfect_like}
 use Rattle.matching.specs.declared.chains.Holders.{Holders}
 use Rattle.assign.specs.Search.{from_all, Kept, Grown}
@@ -24,7 +24,7 @@ use Rattle.assign.proofs.Growing.{own_row}
 -- a pairing that leaves no left block out is perfect
 pub perfect_of : (n : ℕ) (stands : ℕ → ℕ → Bool) (cost : ℕ → ℕ → ℤ) (p : List ℕ) (o : Holders)
     (v : ℕ → ℤ) (out : ℕ → Bool) → Kept n stands cost out p o v
-    → ((l : ℕ) → l < n → out l ≡ false) → Perfect n stands p
+    → ((l : ℕ) → l < n → out l ≡ false) → IsPerfect n stands p
 perfect_of n stands cost p o v out kept all = record {
   len = kept.pairs.len;
   below = λ l h. kept.pairs.below l h (all l h);
@@ -32,15 +32,15 @@ perfect_of n stands cost p o v out kept all = record {
   once = λ l m h i e. kept.pairs.once l m h i (all l h) (all m i) e;
 }
 
-module _ (g : Grid) (s : Sane g) (stands : ℕ → ℕ → Bool) (alike : Alike g.size stands g.stands)
+module _ (g : Grid) (s : IsSane g) (stands : ℕ → ℕ → Bool) (alike : AreAlike g.size stands g.stands)
     (p : List ℕ) (o : Holders) (v : ℕ → ℤ) (out : ℕ → Bool)
     (kept : Kept g.size stands (λ l r. weight (g.cost l r)) out p o v)
-    (all : (l : ℕ) → l < g.size → out l ≡ false) (perfect : Perfect g.size stands p)
+    (all : (l : ℕ) → l < g.size → out l ≡ false) (perfect : IsPerfect g.size stands p)
     (d : ℕ → ℤ) (stage via : ℕ → ℕ) where
   module _ (t : ℕ) (grown : Grown g.size stands (λ l r. weight (g.cost l r)) out from_all
       p o v d stage via t g.size) (done : (c : ℕ) → c < g.size → stage c ≡ 1 → ⊥)
-      (left right : ℕ → List ℤ) (lefts : (l : ℕ) → l < g.size → Value g.columns (left l))
-      (rights : (r : ℕ) → r < g.size → Value g.columns (right r))
+      (left right : ℕ → List ℤ) (lefts : (l : ℕ) → l < g.size → IsCostValue g.columns (left l))
+      (rights : (r : ℕ) → r < g.size → IsCostValue g.columns (right r))
       (same : (r : ℕ) → r < g.size → weight (right r) ≡ d r)
       (tight : (l : ℕ) → l < g.size → weight (left l) +ℤ weight (right (at p l)) ≡ weight
       (g.cost l (at p l))) where
@@ -57,7 +57,7 @@ module _ (g : Grid) (s : Sane g) (stands : ℕ → ℕ → Bool) (alike : Alike 
         (grown.relaxed (at p l) c hp hc (every (at p l) hp) (λ z. omega arith)
         (subst (λ (z : ℕ). stands z c ≡ true) (sym e) st)).1
 
-    valid : Valid g left right p
+    valid : AreValid g left right p
     valid = record {
       lefts = lefts;
       rights = rights;
@@ -78,7 +78,7 @@ module _ (g : Grid) (s : Sane g) (stands : ℕ → ℕ → Bool) (alike : Alike 
           (tight l hl);
     }
 
-    zero_value : Value g.columns (zeros g.columns)
+    zero_value : IsCostValue g.columns (zeros g.columns)
     zero_value =
         record { sized = zeros_sized g.columns; on_rail = zeros_within RAIL g.columns }
 
@@ -100,7 +100,7 @@ module _ (g : Grid) (s : Sane g) (stands : ℕ → ℕ → Bool) (alike : Alike 
         ))
         (grown.source r h (omega (arith, every r h)))
 
-    pub greatest : Greatest g left right p
+    pub greatest : AreGreatest g left right p
     greatest = attained_greatest g s left right p
         (perfect_like g.size stands g.stands alike p perfect) valid stage attained
         (λ r h. value_from g.columns (right r) (zeros g.columns) (rights r h) zero_value

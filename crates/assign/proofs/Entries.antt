@@ -7,7 +7,7 @@ use Rattle.std.proofs.lemmas.Bool.{cases_eq}
 use Rattle.std.proofs.lemmas.List.{get_or-set_same, get_or-set_other, map-set, length-map}
 use Rattle.cost.specs.declared.Cost.{Ghosts}
 use Rattle.cost.specs.declared.TheConstants.{COST_LIMIT}
-use Rattle.cost.specs.Columns.{Within}
+use Rattle.cost.specs.Columns.{AreWithin}
 use Rattle.cost.specs.Weights.{weight}
 use Rattle.blockset.specs.declared.BlockSet.{BlockSet}
 use Rattle.pairing.specs.Places.{place_of}
@@ -31,9 +31,9 @@ module _ {K : Type 0} (kind : Ghosts K) where
 
   -- a value that was read is within what its place is within
   pub read_within : (a b : ℕ) (xs : List K) (i : ℕ) (x : K) → i < length xs → x ≡ get_or xs i x
-      → a ≤ b → Within a (columns_at kind xs i) → Within b (kind.meaning x)
+      → a ≤ b → AreWithin a (columns_at kind xs i) → AreWithin b (kind.meaning x)
   read_within a b xs i x h e le w = within_more a b (kind.meaning x) le
-      (subst (Within a) (sym (value_at kind xs i x h e)) w)
+      (subst (AreWithin a) (sym (value_at kind xs i x h e)) w)
 
   -- and weighs what the table says there
   pub read_weighs : (xs : List K) (i : ℕ) (x : K) → i < length xs → x ≡ get_or xs i x
@@ -47,8 +47,8 @@ module _ {K : Type 0} (kind : Ghosts K) where
 
   -- a table that one value is written to is within what the value and the table were within
   pub put_bound : (a b n : ℕ) (xs : List K) (i : ℕ) (y : K) → i < length xs → a ≤ b
-      → Within b (kind.meaning y) → ((c : ℕ) → c < n → Within a (columns_at kind xs c))
-      → (c : ℕ) → c < n → Within b (columns_at kind (set xs i y) c)
+      → AreWithin b (kind.meaning y) → ((c : ℕ) → c < n → AreWithin a (columns_at kind xs c))
+      → (c : ℕ) → c < n → AreWithin b (columns_at kind (set xs i y) c)
   put_bound a b n xs i y h le near far c below =
       let same = put_same xs i y h in
       let other = put_other xs i c y in
@@ -69,4 +69,4 @@ module _ {K : Type 0} {kind : Ghosts K} {rows : List BlockSet} {costs : List K}
       (lent.inside l c room t)
 
   pub part_modest : BoundedOn kind COST_LIMIT (holds rows l) (part_of (length rows) l costs)
-  part_modest c t = subst (Within COST_LIMIT) (sym (part_is c t)) (lent.modest l c room t)
+  part_modest c t = subst (AreWithin COST_LIMIT) (sym (part_is c t)) (lent.modest l c room t)

@@ -6,15 +6,15 @@
 use Rattle.std.proofs.Common.{◌≡◌, ℕ, ◌↔◌, List, length, refl, subst}
 use Rattle.blockset.specs.declared.BlockSet.{BlockSet}
 use Rattle.cost.specs.declared.Cost.{Ghosts}
-use Rattle.pairing.specs.Grid.{Sane, Optimum}
-use Rattle.pairing.specs.Rows.{holds, Pairs, pairings}
+use Rattle.pairing.specs.Grid.{IsSane, IsOptimum}
+use Rattle.pairing.specs.Rows.{holds, IsPerfectOver, pairings}
 use Rattle.pairing.proofs.Duality.{valid_alike}
 use Rattle.pairing.proofs.Listing.{perfects_are}
 use Rattle.matching.specs.Answers.{IsNth}
 use Rattle.matching.proofs.Nth.{contains_nth, nth_optimum}
 use Rattle.tables.specs.Lent.{Lent, grid, left_price, right_price, IsUsable, ArePriced}
 use Rattle.tables.specs.PairRows.{AreTightRows}
-use Rattle.tables.specs.Together.{Together}
+use Rattle.tables.specs.Together.{HoldTogether}
 use Rattle.tables.specs.Sound.{IsSound}
 use Rattle.tables.proofs.Orderly.{sane_in_order}
 use Rattle.tables.proofs.Tightness.{pairs_optimum, pairings_are_optima}
@@ -34,7 +34,7 @@ solved_still kind t p l r w ep el er =
 
 -- valid prices that lie near make usable tables hold together
 together : {K : Type 0} (kind : Ghosts K) (t : Lent K) → IsUsable kind t → Settled kind t
-    → Together kind t
+    → HoldTogether kind t
 together kind t usable s = record {
   pair_tables = record {
     few = usable.few;
@@ -66,22 +66,22 @@ module _ {K : Type 0} {kind : Ghosts K} {t : Lent K} (given : AreSolved kind t) 
   -- over the tight rows of solved tables, the pairings are the optimum ones
   module _ (wide : (x : K) → length (kind.meaning x) ≡ kind.columns) (rows : List BlockSet)
       (made : AreTightRows kind t rows) where
-    sane : Sane (grid kind t)
+    sane : IsSane (grid kind t)
     sane = sane_in_order kind wide t.size t.costs t.standing given.usable.few
         given.usable.lengths.room.costs_long given.usable.in_order
 
-    own : Optimum (grid kind t) t.partners
+    own : IsOptimum (grid kind t) t.partners
     own = given.solved.optimum
 
-    are : (q : List ℕ) → Pairs rows q ↔ Optimum (grid kind t) q
+    are : (q : List ℕ) → IsPerfectOver rows q ↔ IsOptimum (grid kind t) q
     are = pairs_optimum kind t rows made sane t.partners own.perfect prices.greatest.valid
 
-    pub paired : Pairs rows t.partners
+    pub paired : IsPerfectOver rows t.partners
     paired = (are t.partners).1 own
 
     first : (q : List ℕ) → IsNth (pairings rows) 0 q → Settled kind (record t { partners = q })
     first q h =
-        let o : Optimum (grid kind t) q =
+        let o : IsOptimum (grid kind t) q =
         (are q).0 (((perfects_are (length rows) (holds rows)).list.are q).0
         (contains_nth (pairings rows) 0 q h)) in
         record {
@@ -104,7 +104,7 @@ module _ {K : Type 0} {kind : Ghosts K} {t : Lent K} (given : AreSolved kind t) 
 
     -- with the first pairing over them the tables are settled, and hold together
     pub settled : (q : List ℕ) → length q ≡ length t.partners → IsNth (pairings rows) 0 q
-        → Settled kind (record t { partners = q }) × Together kind (record t { partners = q })
+        → Settled kind (record t { partners = q }) × HoldTogether kind (record t { partners = q })
     settled q same h = (
       first q h,
       together kind (record t { partners = q })

@@ -159,7 +159,8 @@ module _ (n : ℕ) (stands : ℕ → ℕ → Bool) (cost : ℕ → ℕ → ℤ) 
           let tb = taken b hb mb in
           ⊎_elim
           (λ (e : b ≡ a).
-          let s' : stands (at o.owner a) c ≡ true = subst (λ (z : ℕ). stands (at o.owner z) c ≡ true) e
+          let s' : stands (at o.owner a) c ≡ true = subst (λ (z : ℕ). stands (at o.owner z) c ≡
+          true) e
           s in
           let ta = taken a ha ma in
           subst (λ (z : ℕ). (1 ≤ stage' c)

@@ -9,7 +9,7 @@ use Rattle.std.proofs.lemmas.Int.{ints}
 use Rattle.std.proofs.lemmas.Bool.{cases_eq, both_ways, and_left}
 use Rattle.cost.specs.declared.TheConstants.{COST_LIMIT, RAIL}
 use Rattle.cost.specs.declared.Cost.{Ghosts}
-use Rattle.cost.specs.Columns.{Within}
+use Rattle.cost.specs.Columns.{AreWithin}
 use Rattle.cost.specs.Weights.{weight}
 use Rattle.assign.specs.declared.limits.TheConstants.{SHIFT_LIMIT}
 use Rattle.tables.specs.Said.{columns_at}
@@ -51,8 +51,9 @@ module _ (shift : List ℤ) (cost : ℕ → List ℤ) (from : ℕ) (set to : ℕ
     (via : ℕ → ℕ) where
   -- how far the distance of c can be, if it was not farther before
   abbrev pub NoFarther : (d d' : ℕ → List ℤ) → ℕ → Type 0
-  NoFarther d d' c = (b : ℕ) → Within b shift → b ≤ SHIFT_LIMIT → Within (b + COST_LIMIT) (d c)
-      → Within (b + COST_LIMIT) (d' c)
+  NoFarther d d' c = (b : ℕ) → AreWithin b shift → b ≤ SHIFT_LIMIT
+      → AreWithin (b + COST_LIMIT) (d c)
+      → AreWithin (b + COST_LIMIT) (d' c)
 
   pub record Looking (rest : ℕ → Bool) (d' : ℕ → List ℤ) (via' : ℕ → ℕ) : Type 0 where
     pub waits : (c : ℕ) → rest c ≡ true → (d' c ≡ d c) × (via' c ≡ via c)
@@ -100,10 +101,10 @@ module _ (shift : List ℤ) (cost : ℕ → List ℤ) (from : ℕ) (set to : ℕ
             refl (ap weight x.0) x.1 (h.done j (gone rest rest' c removed j f ne)))
             (cases_eq j c);
         near = λ j b s le old. ⊎_elim
-            (λ (e : j ≡ c). subst (λ (z : ℕ). Within (b + COST_LIMIT) (d'' z)) (sym e)
-            (near b s le (subst (Within (b + COST_LIMIT)) (sym w.0)
-            (subst (λ (z : ℕ). Within (b + COST_LIMIT) (d z)) e old))))
-            (λ (ne : j ≡ c → ⊥). subst (Within (b + COST_LIMIT)) (sym (others j ne).0)
+            (λ (e : j ≡ c). subst (λ (z : ℕ). AreWithin (b + COST_LIMIT) (d'' z)) (sym e)
+            (near b s le (subst (AreWithin (b + COST_LIMIT)) (sym w.0)
+            (subst (λ (z : ℕ). AreWithin (b + COST_LIMIT) (d z)) e old))))
+            (λ (ne : j ≡ c → ⊥). subst (AreWithin (b + COST_LIMIT)) (sym (others j ne).0)
             (h.near j b s le old))
             (cases_eq j c);
       }
@@ -119,7 +120,7 @@ module _ {K : Type 0} (kind : Ghosts K) (dist right : List K) (i : ℕ) (x y z :
       let b = ap weight (value_at kind right i y inside y-is) in
       omega (arith, ints)
 
-  pub key_reaches : ((a b : ℕ) → Within a (kind.meaning x) → Within b (kind.meaning y)
-      → a + b ≤ RAIL → Within (a + b) (kind.meaning z)) → KeyReach kind right dist i z
-  key_reaches bound a b far priced le = bound a b (subst (Within a) (sym x-is) far)
+  pub key_reaches : ((a b : ℕ) → AreWithin a (kind.meaning x) → AreWithin b (kind.meaning y)
+      → a + b ≤ RAIL → AreWithin (a + b) (kind.meaning z)) → KeyReach kind right dist i z
+  key_reaches bound a b far priced le = bound a b (subst (AreWithin a) (sym x-is) far)
       (read_within kind b b right i y inside y-is (omega arith) priced) le

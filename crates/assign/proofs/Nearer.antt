@@ -8,7 +8,7 @@ use Rattle.std.proofs.lemmas.Int.{ints}
 use Rattle.std.proofs.lemmas.Bool.{and_parts, and_from, cases_Bool, both_ways, not-true}
 use Rattle.std.proofs.lemmas.Bool.{not_from_false}
 use Rattle.cost.specs.declared.Cost.{Ghosts}
-use Rattle.cost.specs.Columns.{Within}
+use Rattle.cost.specs.Columns.{AreWithin}
 use Rattle.cost.specs.Weights.{weight}
 use Rattle.assign.specs.declared.tree.Nearby.{Nearby}
 use Rattle.assign.specs.Weighed.{weight_at}
@@ -33,7 +33,7 @@ near_still kind set right d d' near long same h =
       key = h.key ∙ ap (λ z. z -ℤ weight_at kind right near.block) (sym here);
       bound = h.bound;
       reach = λ x y far priced le. h.reach x y
-          (subst (λ z. Within x z) (same near.block h.nearest.member) far) priced le;
+          (subst (λ z. AreWithin x z) (same near.block h.nearest.member) far) priced le;
     }
 
 module _ {K : Type 0} (kind : Ghosts K) (set held free other : ℕ → Bool)

@@ -6,7 +6,7 @@ use Rattle.std.proofs.Common.{◌≤ℤ◌, sym, ap, ◌∙◌, subst, inl, inr,
 use Rattle.std.proofs.lemmas.Int.{ints}
 use Rattle.std.proofs.lemmas.Bool.{cases_eq, both_ways}
 use Rattle.cost.specs.declared.TheConstants.{COST_LIMIT}
-use Rattle.cost.specs.Columns.{Within}
+use Rattle.cost.specs.Columns.{AreWithin}
 use Rattle.cost.specs.Weights.{weight}
 use Rattle.assign.specs.declared.limits.TheConstants.{SHIFT_LIMIT}
 use Rattle.assign.specs.Offers.{Offered}
@@ -16,9 +16,9 @@ module _ (shift : List ℤ) (cost : ℕ → List ℤ) (from : ℕ) (to reached :
     (via : ℕ → ℕ) where
   -- how far the distance of c can be, if it was not farther where it had one
   abbrev pub Near : (d' : ℕ → List ℤ) → ℕ → Type 0
-  Near d' c = (b : ℕ) → Within b shift → b ≤ SHIFT_LIMIT
-      → (to c ≡ false → Within (b + COST_LIMIT) (d c))
-      → (reached c ≡ true → Within (b + COST_LIMIT) (d c)) → Within (b + COST_LIMIT) (d' c)
+  Near d' c = (b : ℕ) → AreWithin b shift → b ≤ SHIFT_LIMIT
+      → (to c ≡ false → AreWithin (b + COST_LIMIT) (d c))
+      → (reached c ≡ true → AreWithin (b + COST_LIMIT) (d c)) → AreWithin (b + COST_LIMIT) (d' c)
 
   pub record Offering (rest : ℕ → Bool) (d' : ℕ → List ℤ) (via' : ℕ → ℕ) : Type 0 where
     pub part : (c : ℕ) → rest c ≡ true → to c ≡ true
@@ -52,7 +52,7 @@ module _ (shift : List ℤ) (cost : ℕ → List ℤ) (from : ℕ) (to reached :
               (cases_eq j c);
           near = λ j f. ⊎_elim
               (λ (e : j ≡ c). subst (Near d') (sym e)
-              (λ b s lb _ old. subst (Within (b + COST_LIMIT)) (sym w.0) (old r)))
+              (λ b s lb _ old. subst (AreWithin (b + COST_LIMIT)) (sym w.0) (old r)))
               (λ (ne : j ≡ c → ⊥). h.near j (gone rest rest' c removed j f ne))
               (cases_eq j c);
         }
@@ -62,7 +62,7 @@ module _ (shift : List ℤ) (cost : ℕ → List ℤ) (from : ℕ) (to reached :
         → ((j : ℕ) → (j ≡ c → ⊥) → (d'' j ≡ d' j) × (via'' j ≡ via' j))
         → weight (d'' c) ≡ weight shift +ℤ weight (cost c) → via'' c ≡ from
         → (reached c ≡ true → weight (d'' c) ≤ℤ weight (d' c))
-        → ((b : ℕ) → Within b shift → b ≤ SHIFT_LIMIT → Within (b + COST_LIMIT) (d'' c))
+        → ((b : ℕ) → AreWithin b shift → b ≤ SHIFT_LIMIT → AreWithin (b + COST_LIMIT) (d'' c))
         → Offering rest' d'' via''
     offering_take d'' via'' others is by le small =
         let w = h.waits c member in
@@ -96,7 +96,8 @@ module _ (shift : List ℤ) (cost : ℕ → List ℤ) (from : ℕ) (to reached :
               (cases_eq j c);
           near = λ j f. ⊎_elim
               (λ (e : j ≡ c). subst (Near d'') (sym e) (λ b s lb _ _. small b s lb))
-              (λ (ne : j ≡ c → ⊥) b s lb p q. subst (Within (b + COST_LIMIT)) (sym (others j ne).0)
+              (λ (ne : j ≡ c → ⊥) b s lb p q. subst (AreWithin (b + COST_LIMIT)) (sym (others j
+              ne).0)
               (h.near j (gone rest rest' c removed j f ne) b s lb p q))
               (cases_eq j c);
         }

@@ -10,7 +10,7 @@ use Rattle.std.proofs.lemmas.Int.{ints}
 use Rattle.std.proofs.lemmas.Bool.Decides.{nat_tests}
 use Rattle.std.proofs.lemmas.Bool.{cases_eq, both_ways}
 use Rattle.cost.specs.declared.Cost.{Ghosts}
-use Rattle.cost.specs.Columns.{Within, zeros}
+use Rattle.cost.specs.Columns.{AreWithin, zeros}
 use Rattle.cost.proofs.Exact.{zeros_within}
 use Rattle.cost.specs.Weights.{weight}
 use Rattle.cost.proofs.Weights.{weight_zeros}
@@ -33,8 +33,8 @@ module _ {K : Type 0} (kind : Ghosts K) (nought : K) (columns : ℕ)
       (subst (λ (z : ℕ). c < z) (sym (length-replicate k nought)) h)
       ∙ ap kind.meaning (get_or-replicate k c nought nought h) ∙ nothing
 
-  pub cleared_within : (b c : ℕ) → c < k → Within b (columns_at kind table c)
-  cleared_within b c h = subst (Within b) (sym (zero-at c h)) (zeros_within b columns)
+  pub cleared_within : (b c : ℕ) → c < k → AreWithin b (columns_at kind table c)
+  cleared_within b c h = subst (AreWithin b) (sym (zero-at c h)) (zeros_within b columns)
 
   pub cleared_weighs : (c : ℕ) → c < k → weight_at kind table c ≡ pos 0
   cleared_weighs c h = ap weight (zero-at c h) ∙ weight_zeros columns

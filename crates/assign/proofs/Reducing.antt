@@ -8,7 +8,7 @@ use Rattle.std.proofs.lemmas.Int.{ints}
 use Rattle.std.proofs.lemmas.Bool.{cases_eq}
 use Rattle.cost.specs.declared.Cost.{Ghosts}
 use Rattle.cost.specs.declared.TheConstants.{COST_LIMIT}
-use Rattle.cost.specs.Columns.{Within}
+use Rattle.cost.specs.Columns.{AreWithin}
 use Rattle.cost.proofs.Exact.{within_more}
 use Rattle.cost.specs.Weights.{weight}
 use Rattle.blockset.specs.declared.BlockSet.{BlockSet}
@@ -16,10 +16,10 @@ use Rattle.blockset.specs.Has.{has}
 use Rattle.pairing.specs.Grid.{at}
 use Rattle.pairing.specs.Rows.{holds}
 use Rattle.matching.specs.declared.chains.Holders.{Holders}
-use Rattle.matching.specs.Exchange.{Holding}
+use Rattle.matching.specs.Exchange.{AreHolders}
 use Rattle.assign.specs.Search.{Kept}
 use Rattle.matching.proofs.Inserting.{old_in}
-use Rattle.tables.specs.Said.{Bounded}
+use Rattle.tables.specs.Said.{AreValuesWithin}
 use Rattle.assign.specs.declared.limits.TheConstants.{INNER_PRICE_LIMIT, REDUCED_LIMIT}
 use Rattle.assign.specs.declared.tree.Bid.{Bid}
 use Rattle.assign.specs.Weighed.{weight_at, cost_weight, SearchTables}
@@ -34,7 +34,7 @@ module _ {n : ℕ} {stands : ℕ → ℕ → Bool} {cost : ℕ → ℕ → ℤ} 
     {o : Holders} {v : ℕ → ℤ} (kept : Kept n stands cost out p o v) (l j : ℕ) (below : j < n)
     (w : ℤ) (bid : IsBestBid (stands l) (has o.held) v (cost l) j w) {out' : ℕ → Bool}
     {p' : List ℕ} (seated : IsSeated n out p l j out' p') (o' : Holders)
-    (told : Holding 0 p' out' o') (v' : ℕ → ℤ) (new : v' j ≡ w)
+    (told : AreHolders 0 p' out' o') (v' : ℕ → ℤ) (new : v' j ≡ w)
     (same : (c : ℕ) → (c ≡ j → ⊥) → v' c ≡ v c) where
   -- no price rises
   pub falls : (c : ℕ) → v' c ≤ℤ v c
@@ -81,18 +81,18 @@ pub record IsStep {K : Type 0} (kind : Ghosts K) (rows : List BlockSet) (costs :
   pub reduced : IsReduced kind rows costs l before after
   pub goes_on : HasGoneOn kind before after
   pub paired : IsPriced kind rows costs after
-  pub bound : (b : ℕ) → Bounded kind b (length rows) before.right → b ≤ REDUCED_LIMIT
-      → Bounded kind (b + 2 * COST_LIMIT) (length rows) after.right
+  pub bound : (b : ℕ) → AreValuesWithin kind b (length rows) before.right → b ≤ REDUCED_LIMIT
+      → AreValuesWithin kind (b + 2 * COST_LIMIT) (length rows) after.right
 
 pub step_of : {K : Type 0} {kind : Ghosts K} {rows : List BlockSet} {costs : List K}
     → SearchTables kind rows costs → {before : SoFar K} → IsPriced kind rows costs before
     → length before.right ≡ length rows → (l : ℕ) → l < length rows → (taken : Bid K)
     → IsBidOf kind rows costs before l taken.block (weight (kind.meaning taken.price))
     → IsPricedNear kind (length rows) before.right taken
-    → Bounded kind REDUCED_LIMIT (length rows) before.right
+    → AreValuesWithin kind REDUCED_LIMIT (length rows) before.right
     → {out' : ℕ → Bool} {p' : List ℕ}
     → IsSeated (length rows) before.out before.partners l taken.block out' p' → (o' : Holders)
-    → Holding 0 p' out' o'
+    → AreHolders 0 p' out' o'
     → ((c : ℕ) → has o'.held c ≡ (eqb c taken.block || has before.holders.held c))
     → IsStep kind rows costs l before
     (so_far out' p' o' (set before.right taken.block taken.price))
@@ -127,7 +127,7 @@ step_of {kind = kind} {rows = rows} {costs = costs} lent {before = before} paire
             paired.priced;
         unsold = λ c h f.
             let free = not_inserted (has before.holders.held) (has o'.held) j held c f in
-            subst (Within COST_LIMIT) (sym (others c free.1)) (paired.unsold c h free.0);
+            subst (AreWithin COST_LIMIT) (sym (others c free.1)) (paired.unsold c h free.0);
       };
       bound = λ b far le. put_bound kind b (b + 2 * COST_LIMIT) (length rows) before.right j
           taken.price lies (omega arith) (near b far le) far;

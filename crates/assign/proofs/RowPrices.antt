@@ -7,7 +7,7 @@ use Rattle.std.proofs.Common.{arith}
 use Rattle.std.proofs.lemmas.Nat.{mul-add-lt}
 use Rattle.std.proofs.lemmas.Int.{ints}
 use Rattle.cost.specs.declared.Cost.{Ghosts}
-use Rattle.cost.specs.Columns.{Within}
+use Rattle.cost.specs.Columns.{AreWithin}
 use Rattle.cost.specs.Weights.{weight}
 use Rattle.blockset.specs.declared.BlockSet.{BlockSet}
 use Rattle.pairing.specs.Places.{place_of}
@@ -31,11 +31,11 @@ place_inside kind rows costs lent l r h stands =
 pub record PricedBelow (k : ℕ) (cost : ℕ → ℕ → ℤ) (p : ℕ → ℕ) (right : ℕ → ℤ)
     (left : ℕ → List ℤ) : Type 0 where
   pub tight : (l : ℕ) → l < k → weight (left l) +ℤ right (p l) ≡ cost l (p l)
-  pub bound : (l : ℕ) → l < k → Within LEFT_PRICE_LIMIT (left l)
+  pub bound : (l : ℕ) → l < k → AreWithin LEFT_PRICE_LIMIT (left l)
 
 module _ (cost : ℕ → ℕ → ℤ) (p : ℕ → ℕ) (right : ℕ → ℤ) where
   pub priced_more : (k : ℕ) (left left' : ℕ → List ℤ) → PricedBelow k cost p right left
-      → weight (left' k) ≡ cost k (p k) -ℤ right (p k) → Within LEFT_PRICE_LIMIT (left' k)
+      → weight (left' k) ≡ cost k (p k) -ℤ right (p k) → AreWithin LEFT_PRICE_LIMIT (left' k)
       → ((l : ℕ) → (l ≡ k → ⊥) → left' l ≡ left l) → PricedBelow (k + 1) cost p right left'
   priced_more k left left' so_far new near others =
       record { tight = λ l h. grind (arith, ints); bound = λ l h. grind (arith, others l) }

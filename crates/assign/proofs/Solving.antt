@@ -8,13 +8,13 @@ use Rattle.std.proofs.lemmas.Bool.{and_parts, ltb-true}
 use Rattle.cost.specs.declared.Cost.{Ghosts}
 use Rattle.blockset.specs.declared.BlockSet.{BlockSet}
 use Rattle.pairing.specs.Places.{place_of}
-use Rattle.pairing.specs.Largest.{Unpaired}
+use Rattle.pairing.specs.Largest.{HasNoPerfect}
 use Rattle.pairing.proofs.Duality.{proves_optimum}
 use Rattle.pairing.specs.Rows.{holds}
 use Rattle.pairing.proofs.Alike.{perfect_like}
 use Rattle.tables.specs.PairTables.{byte_of, says_stands}
 use Rattle.tables.specs.Said.{columns_at}
-use Rattle.tables.specs.PairRows.{StandingRows}
+use Rattle.tables.specs.PairRows.{AreStandingRows}
 use Rattle.tables.specs.Lent.{Lent, grid, IsUsable}
 use Rattle.tables.proofs.Alike.{rows_alike, unpaired_rows}
 use Rattle.tables.proofs.Orderly.{near_value, sane_in_order}
@@ -48,7 +48,7 @@ usable_still kind t p l r u ep el er = record {
 -- usable tables, and the rows of their standing pairs
 pub record HasRows {K : Type 0} (kind : Ghosts K) (t : Lent K) (rows : List BlockSet) : Type 0 where
   pub usable : IsUsable kind t
-  pub made : StandingRows t.size (grid kind t).stands rows
+  pub made : AreStandingRows t.size (grid kind t).stands rows
 
 -- tables of as many blocks as there are rows
 module _ {K : Type 0} {kind : Ghosts K} (t : Lent K) (rows : List BlockSet)
@@ -88,7 +88,8 @@ module _ {K : Type 0} {kind : Ghosts K} (t : Lent K) (rows : List BlockSet)
         let top = greatest g sane (holds rows) alike t.partners s.holders s.price (λ _. false)
         s.kept (λ l h. refl) perfect (weight_at kind t.right) s.topmost.stage s.topmost.via
         s.topmost.turns s.topmost.grown s.topmost.done (columns_at kind t.left)
-        (columns_at kind t.right) (near_value kind wide n t.left u.lengths.room.left_long s.left_near)
+        (columns_at kind t.right) (near_value kind wide n t.left u.lengths.room.left_long
+        s.left_near)
         (near_value kind wide n t.right u.lengths.room.right_long
         s.right_near) (λ r h. refl)
         s.topmost.tight in
@@ -113,10 +114,10 @@ module _ {K : Type 0} {kind : Ghosts K} {t : Lent K} {rows : List BlockSet}
   search_tables_of = search_tables t rows own
 
   -- where the rows have no perfect pairing the grid has none
-  pub unpaired_of : (crowd short : ℕ) → Unpaired (length rows) (holds rows) crowd short
-      → Unpaired t.size (grid kind t).stands crowd short
+  pub unpaired_of : (crowd short : ℕ) → HasNoPerfect (length rows) (holds rows) crowd short
+      → HasNoPerfect t.size (grid kind t).stands crowd short
   unpaired_of crowd short u =
-      subst (λ k. Unpaired k (grid kind (record t { size = k })).stands crowd short) long
+      subst (λ k. HasNoPerfect k (grid kind (record t { size = k })).stands crowd short) long
       (unpaired_rows (length rows) (grid kind (record t { size = length rows })).stands rows
       own.made crowd short u)
 

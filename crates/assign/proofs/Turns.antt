@@ -179,7 +179,8 @@ module _ (n : ℕ) (stands : ℕ → ℕ → Bool) (cost : ℕ → ℕ → ℤ) 
           neither false false = refl
 
       -- and its left block l offers its ways to the right blocks that it stands with
-      module _ (l : ℕ) (owner : at o.owner a ≡ l) (owned : has o.held a ≡ true) (to seen' : ℕ → Bool)
+      module _ (l : ℕ) (owner : at o.owner a ≡ l) (owned : has o.held a ≡ true) (to seen' : ℕ
+          → Bool)
           (to_is : (c : ℕ) → c < n → to c ≡ (stands l c && not (taken' c))) (shift : ℤ)
           (row : ℕ → ℤ)
           (row_is : (c : ℕ) → c < n → row c ≡ cost l c) (Shift-is : shift +ℤ cost l a ≡ d a)

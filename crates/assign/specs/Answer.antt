@@ -2,12 +2,12 @@
 use Rattle.std.specs.Prelude.{◌≡◌, Ok, Err, Result}
 use Rattle.cost.specs.declared.TheConstants.{PRICE_LIMIT}
 use Rattle.cost.specs.declared.Cost.{Ghosts}
-use Rattle.pairing.specs.Grid.{Optimum}
+use Rattle.pairing.specs.Grid.{IsOptimum}
 use Rattle.pairing.specs.Optima.{optima}
-use Rattle.pairing.specs.Prices.{Greatest}
-use Rattle.pairing.specs.Largest.{Unpaired}
+use Rattle.pairing.specs.Prices.{AreGreatest}
+use Rattle.pairing.specs.Largest.{HasNoPerfect}
 use Rattle.matching.specs.Answers.{IsNth}
-use Rattle.tables.specs.Said.{Bounded}
+use Rattle.tables.specs.Said.{AreValuesWithin}
 use Rattle.tables.specs.Lent.{Lent, grid, left_price, right_price, IsUsable, IsUnusable}
 use Rattle.tables.specs.declared.flaw.Flaw.{Flaw}
 use Rattle.assign.specs.declared.Outcome.{Outcome}
@@ -16,13 +16,13 @@ use Rattle.assign.specs.declared.Outcome.TheVariants.{Optimal, Unmatched}
 module _ {K : Type 0} (kind : Ghosts K) where
   -- the greatest valid prices with no right price above zero, all within 10^12
   pub record HasGreatestPrices (t : Lent K) : Type 0 where
-    pub greatest : Greatest (grid kind t) (left_price kind t) (right_price kind t) t.partners
-    pub left_near : Bounded kind PRICE_LIMIT t.size t.left
-    pub right_near : Bounded kind PRICE_LIMIT t.size t.right
+    pub greatest : AreGreatest (grid kind t) (left_price kind t) (right_price kind t) t.partners
+    pub left_near : AreValuesWithin kind PRICE_LIMIT t.size t.left
+    pub right_near : AreValuesWithin kind PRICE_LIMIT t.size t.right
 
   -- an optimum pairing, and the greatest prices
   pub record Solved (t : Lent K) : Type 0 where
-    pub optimum : Optimum (grid kind t) t.partners
+    pub optimum : IsOptimum (grid kind t) t.partners
     pub prices : HasGreatestPrices t
 
   -- the first of all optimum pairings, and the greatest prices
@@ -35,5 +35,5 @@ module _ {K : Type 0} (kind : Ghosts K) where
   abbrev pub Answers : (old new : Lent K) (Done : Type 0) → Result Outcome Flaw → Type 0
   Answers old new Done (Ok Optimal) = IsUsable kind old × Done
   Answers old new Done (Ok (Unmatched s)) = IsUsable kind old
-      × Unpaired old.size (grid kind old).stands s.crowd s.short × (new ≡ old)
+      × HasNoPerfect old.size (grid kind old).stands s.crowd s.short × (new ≡ old)
   Answers old new Done (Err flaw) = IsUnusable kind old flaw × (new ≡ old)

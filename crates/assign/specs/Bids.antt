@@ -4,13 +4,13 @@ use Rattle.std.specs.Prelude.{◌≡◌, ℕ, ◌+◌, ◌*◌, ◌<◌, ◌≤�
 use Rattle.std.specs.Prelude.{◌+ℤ◌, ◌≤ℤ◌, ◌<ℤ◌, ◌≢◌, ◌⊎◌, Option, MatchOption}
 use Rattle.cost.specs.declared.Cost.{Ghosts}
 use Rattle.cost.specs.declared.TheConstants.{COST_LIMIT}
-use Rattle.cost.specs.Columns.{Within}
+use Rattle.cost.specs.Columns.{AreWithin}
 use Rattle.cost.specs.Weights.{weight}
 use Rattle.blockset.specs.declared.BlockSet.{BlockSet}
 use Rattle.blockset.specs.Has.{has, IsLeast}
 use Rattle.pairing.specs.Grid.{at}
 use Rattle.pairing.specs.Rows.{holds}
-use Rattle.tables.specs.Said.{columns_at, Bounded}
+use Rattle.tables.specs.Said.{columns_at, AreValuesWithin}
 use Rattle.assign.specs.declared.limits.TheConstants.{REDUCED_LIMIT}
 use Rattle.assign.specs.declared.tree.Bid.{Bid}
 use Rattle.assign.specs.Weighed.{weight_at, cost_weight}
@@ -43,8 +43,8 @@ HasNoHeldBid kind to held costs right = (j : ℕ) (w : ℤ) → held j ≡ true
 
 -- the price of a bid is at most two costs farther from zero than the prices so far
 abbrev pub IsPricedNear : {K : Type 0} (kind : Ghosts K) (n : ℕ) (right : List K) → Bid K → Type 0
-IsPricedNear kind n right bid = (b : ℕ) → Bounded kind b n right → b ≤ REDUCED_LIMIT
-    → Within (b + 2 * COST_LIMIT) (kind.meaning bid.price)
+IsPricedNear kind n right bid = (b : ℕ) → AreValuesWithin kind b n right → b ≤ REDUCED_LIMIT
+    → AreWithin (b + 2 * COST_LIMIT) (kind.meaning bid.price)
 
 -- Left block l, which was left out, has right block c now. A left block that had c before is left
 -- out instead, and all others keep what they have.

@@ -4,7 +4,7 @@ use Rattle.std.specs.Prelude.{◌≡◌, ℕ, ◌+◌, ◌<◌, ◌≤◌, Bool,
 use Rattle.std.specs.Prelude.{◌-ℤ◌, ◌≤ℤ◌, ◌<ℤ◌, Option, Some, None}
 use Rattle.cost.specs.declared.TheConstants.{COST_LIMIT, RAIL}
 use Rattle.cost.specs.declared.Cost.{Ghosts}
-use Rattle.cost.specs.Columns.{Within}
+use Rattle.cost.specs.Columns.{AreWithin}
 use Rattle.cost.specs.Weights.{weight}
 use Rattle.blockset.specs.Has.{has}
 use Rattle.blockset.specs.declared.TheConstants.{MOST_BLOCKS}
@@ -34,7 +34,7 @@ pub record IsModest {K : Type 0} (kind : Ghosts K) (offer : Offer K) : Type 0 wh
   pub few : length offer.costs.now ≤ MOST_BLOCKS
   pub block : offer.from < MOST_BLOCKS
   pub costs : BoundedOn kind COST_LIMIT (has offer.to) offer.costs.now
-  pub shift : Within SHIFT_LIMIT (kind.meaning offer.shift)
+  pub shift : AreWithin SHIFT_LIMIT (kind.meaning offer.shift)
 
 -- what comes of an offer for right block c: so much of it is made, and these are reached
 abbrev pub IsOffered : {K : Type 0} (kind : Ghosts K) (offer : Offer K) (to reached : ℕ → Bool)
@@ -51,8 +51,8 @@ pub record Nearest (set : ℕ → Bool) (v d : ℕ → ℤ) (a : ℕ) : Type 0 w
 -- how far a right block can be beyond its price: as far as its distance and its price together
 abbrev pub KeyReach : {K : Type 0} (kind : Ghosts K) (right dist : List K) (c : ℕ) (key : K)
     → Type 0
-KeyReach kind right dist c key = (x y : ℕ) → Within x (columns_at kind dist c)
-    → Within y (columns_at kind right c) → x + y ≤ RAIL → Within (x + y) (kind.meaning key)
+KeyReach kind right dist c key = (x y : ℕ) → AreWithin x (columns_at kind dist c)
+    → AreWithin y (columns_at kind right c) → x + y ≤ RAIL → AreWithin (x + y) (kind.meaning key)
 
 -- the nearest of a set, with how far it is beyond its price
 pub record NearestWithKey {K : Type 0} (kind : Ghosts K) (set : ℕ → Bool) (right dist : List K)
@@ -61,7 +61,7 @@ pub record NearestWithKey {K : Type 0} (kind : Ghosts K) (set : ℕ → Bool) (r
   pub nearest : Nearest set (weight_at kind right) (weight_at kind dist) near.block
   pub key : weight (kind.meaning near.key) ≡ weight_at kind dist near.block
       -ℤ weight_at kind right near.block
-  pub bound : Within KEY_LIMIT (kind.meaning near.key)
+  pub bound : AreWithin KEY_LIMIT (kind.meaning near.key)
   pub reach : KeyReach kind right dist near.block near.key
 
 -- the nearest of a set and the nearest of the others, with their keys

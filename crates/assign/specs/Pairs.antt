@@ -3,14 +3,14 @@
 use Rattle.std.specs.Prelude.{◌≡◌, ℕ, ◌<◌, ◌≤◌, Bool, true, false, List, length, ℤ, ◌≤ℤ◌, ◌≢◌, ◌↔◌}
 use Rattle.cost.specs.declared.Cost.{Ghosts}
 use Rattle.cost.specs.declared.TheConstants.{COST_LIMIT}
-use Rattle.cost.specs.Columns.{Within}
+use Rattle.cost.specs.Columns.{AreWithin}
 use Rattle.blockset.specs.declared.BlockSet.{BlockSet}
 use Rattle.blockset.specs.Has.{has}
 use Rattle.pairing.specs.Grid.{at}
 use Rattle.pairing.specs.Rows.{holds}
-use Rattle.tables.specs.Said.{columns_at, Bounded}
+use Rattle.tables.specs.Said.{columns_at, AreValuesWithin}
 use Rattle.assign.specs.Weighed.{weight_at, cost_weight}
-use Rattle.matching.specs.Exchange.{Holding}
+use Rattle.matching.specs.Exchange.{AreHolders}
 use Rattle.assign.specs.Search.{Kept}
 use Rattle.assign.specs.declared.tree.Cheapest.{Cheapest}
 use Rattle.assign.specs.declared.tree.FirstPairs.{FirstPairs}
@@ -35,9 +35,9 @@ pub record IsPriced {K : Type 0} (kind : Ghosts K) (rows : List BlockSet) (costs
     (now : SoFar K) : Type 0 where
   pub kept : Kept (length rows) (holds rows) (cost_weight kind (length rows) costs) now.out
       now.partners now.holders (weight_at kind now.right)
-  pub priced : Bounded kind INNER_PRICE_LIMIT (length rows) now.right
+  pub priced : AreValuesWithin kind INNER_PRICE_LIMIT (length rows) now.right
   pub unsold : (c : ℕ) → c < length rows → has now.holders.held c ≡ false
-      → Within COST_LIMIT (columns_at kind now.right c)
+      → AreWithin COST_LIMIT (columns_at kind now.right c)
 
 -- The price of each right block is the least cost that it stands at with a left block below m, and
 -- `cheapest` has a left block that it costs that with, for each right block that stands with any.
@@ -60,4 +60,4 @@ pub record AreChosen (n : ℕ) (cheapest : Cheapest) (p : List ℕ) (made : Firs
       → (has cheapest.priced (at p l) ≡ true) × (at cheapest.row (at p l) ≡ l)
   pub first : (l : ℕ) → l < n → has made.out l ≡ false → (c : ℕ) → has cheapest.priced c ≡ true
       → at cheapest.row c ≡ l → at p l ≤ c
-  pub holding : Holding 0 p (has made.out) made.holders
+  pub holding : AreHolders 0 p (has made.out) made.holders

@@ -5,7 +5,7 @@ use Rattle.cost.specs.declared.TheConstants.{PRICE_LIMIT}
 use Rattle.blockset.specs.declared.BlockSet.{BlockSet}
 use Rattle.pairing.specs.Grid.{at}
 use Rattle.pairing.specs.Rows.{holds}
-use Rattle.tables.specs.Said.{Bounded}
+use Rattle.tables.specs.Said.{AreValuesWithin}
 use Rattle.assign.specs.Weighed.{weight_at, cost_weight}
 use Rattle.assign.specs.Search.{from_all, Kept, Grown}
 use Rattle.matching.specs.declared.chains.Holders.{Holders}
@@ -31,5 +31,5 @@ pub record IsSolution {K : Type 0} (kind : Ghosts K) (rows : List BlockSet) (cos
   pub kept : Kept (length rows) (holds rows) (cost_weight kind (length rows) costs) (λ _. false)
       partners holders price
   pub topmost : Topmost kind rows costs partners holders price left right
-  pub left_near : Bounded kind PRICE_LIMIT (length rows) left
-  pub right_near : Bounded kind PRICE_LIMIT (length rows) right
+  pub left_near : AreValuesWithin kind PRICE_LIMIT (length rows) left
+  pub right_near : AreValuesWithin kind PRICE_LIMIT (length rows) right

@@ -6,8 +6,8 @@ use Rattle.std.specs.Prelude.{◌≡◌, ℕ, ◌+◌, ◌<◌, ◌≤◌, Bool,
 use Rattle.std.specs.Prelude.{pos, Some, None, Option, ◌≢◌, IfSome, if◌then◌else◌}
 use Rattle.blockset.specs.Has.{has}
 use Rattle.pairing.specs.Grid.{at}
-use Rattle.pairing.specs.Largest.{Partial}
-use Rattle.matching.specs.Exchange.{Holding}
+use Rattle.pairing.specs.Largest.{IsPartial}
+use Rattle.matching.specs.Exchange.{AreHolders}
 use Rattle.matching.specs.declared.chains.Holders.{Holders}
 
 -- How far the search has come with a right block: 0 not reached, 1 reached, t + 2 taken at turn t.
@@ -19,8 +19,8 @@ stage taken seen turn c = if taken c then at turn c + 2 else (if seen c then 1 e
 -- its own does
 pub record Kept (n : ℕ) (stands : ℕ → ℕ → Bool) (cost : ℕ → ℕ → ℤ) (out : ℕ → Bool) (p : List ℕ)
     (o : Holders) (v : ℕ → ℤ) : Type 0 where
-  pub pairs : Partial n stands p out
-  pub holding : Holding 0 p out o
+  pub pairs : IsPartial n stands p out
+  pub holding : AreHolders 0 p out o
   pub fair : (l c : ℕ) → l < n → out l ≡ false → c < n → stands l c ≡ true
       → (v c +ℤ cost l (at p l)) ≤ℤ (v (at p l) +ℤ cost l c)
 

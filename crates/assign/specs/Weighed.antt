@@ -4,7 +4,7 @@ use Rattle.std.specs.Prelude.{◌≡◌, ℕ, ◌<◌, ◌≤◌, Bool, true, Li
 use Rattle.cost.specs.declared.Cost.{Ghosts}
 use Rattle.cost.specs.declared.TheConstants.{COST_LIMIT}
 use Rattle.blockset.specs.declared.TheConstants.{MOST_BLOCKS}
-use Rattle.cost.specs.Columns.{Within}
+use Rattle.cost.specs.Columns.{AreWithin}
 use Rattle.cost.specs.Weights.{weight}
 use Rattle.blockset.specs.declared.BlockSet.{BlockSet}
 use Rattle.pairing.specs.Rows.{holds}
@@ -22,7 +22,7 @@ cost_weight kind n costs l r = weight_at kind costs (place_of n l r)
 -- the values of a table at the places of a set are within a limit in each column
 abbrev pub BoundedOn : {K : Type 0} → Ghosts K → ℕ → (ℕ → Bool) → List K → Type 0
 BoundedOn kind limit set table = (k : ℕ) → set k ≡ true
-    → Within limit (columns_at kind table k)
+    → AreWithin limit (columns_at kind table k)
 
 -- Rows of the right blocks that stand, and a cost within COST_LIMIT in each column for each of
 -- their pairs: what every search is lent
@@ -32,4 +32,4 @@ pub record SearchTables {K : Type 0} (kind : Ghosts K) (rows : List BlockSet) (c
   pub square : length costs ≡ places_of (length rows)
   pub inside : (l c : ℕ) → l < length rows → holds rows l c ≡ true → c < length rows
   pub modest : (l c : ℕ) → l < length rows → holds rows l c ≡ true
-      → Within COST_LIMIT (columns_at kind costs (place_of (length rows) l c))
+      → AreWithin COST_LIMIT (columns_at kind costs (place_of (length rows) l c))

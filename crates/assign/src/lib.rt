@@ -3,17 +3,17 @@
 //!
 //! Each right block starts at the price of its cheapest pair, and every left block that some right
 //! block is cheapest with is paired at once. The others then take right blocks from one another, as
-//! long as lower prices make up for it, for two steps a left block (augmenting row reduction). Those
-//! that are left out still are paired one at a time, each along the cheapest alternating path to a
-//! free right block (shortest augmenting paths). A last search finds the greatest prices. There are at
-//! most 2n steps and n + 1 searches of at most n turns, and a step or a turn looks at each right
-//! block at most twice: O(n³) steps, whatever the costs.
+//! long as lower prices make up for it, for two steps a left block (augmenting row reduction).
+//! Those that are left out still are paired one at a time, each along the cheapest alternating path
+//! to a free right block (shortest augmenting paths). A last search finds the greatest prices.
+//! There are at most 2n steps and n + 1 searches of at most n turns, and a step or a turn looks at
+//! each right block at most twice: O(n³) steps, whatever the costs.
 #![tactic(auto)]
 
 ghost use Rattle.std.specs.Prelude.{◌≡◌, ℕ, ◌≤◌, List, length, MatchOption};
 ghost use Rattle.blockset.specs.declared.TheConstants.{MOST_BLOCKS};
-ghost use Rattle.pairing.specs.Grid.{Perfect};
-ghost use Rattle.pairing.specs.Largest.{Unpaired};
+ghost use Rattle.pairing.specs.Grid.{IsPerfect};
+ghost use Rattle.pairing.specs.Largest.{HasNoPerfect};
 ghost use Rattle.pairing.specs.Rows.{holds};
 ghost use Rattle.tables.specs.Lent.{lent};
 ghost use Rattle.assign.specs.Weighed.{SearchTables};
@@ -86,8 +86,8 @@ pub fn optimum<K: Cost>(
 fn find_shortfall(rows: &[BlockSet]) -> Option<Shortfall>
     requires { length rows.now ≤ MOST_BLOCKS }
     ensures { MatchOption result
-        ((q : List ℕ) × Perfect (length rows.now) (holds rows.now) q)
-        (λ s. Unpaired (length rows.now) (holds rows.now) s.crowd s.short) }
+        ((q : List ℕ) × IsPerfect (length rows.now) (holds rows.now) q)
+        (λ s. HasNoPerfect (length rows.now) (holds rows.now) s.crowd s.short) }
 {
     let n = rows.len();
     let mut any = [0u16; SET_WIDTH];
@@ -109,7 +109,7 @@ fn solve<K: Cost>(
     requires partnered { length partners.old ≡ length rows.now }
     requires lefts { length left.old ≡ length rows.now }
     requires rights { length right.old ≡ length rows.now }
-    requires possible { (q : List ℕ) × Perfect (length rows.now) (holds rows.now) q }
+    requires possible { (q : List ℕ) × IsPerfect (length rows.now) (holds rows.now) q }
     ensures { IsSolution K.Cost rows.now costs.now partners.new left.new right.new }
 {
     let cheapest = price_cheapest(costs, rows, right);

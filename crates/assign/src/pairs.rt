@@ -3,7 +3,7 @@
 ghost use Rattle.std.specs.Prelude.{◌≡◌, ℕ, ◌<◌, ◌≤◌, true, false, List, length};
 ghost use Rattle.blockset.specs.declared.TheConstants.{MOST_BLOCKS};
 ghost use Rattle.blockset.specs.Has.{has};
-ghost use Rattle.pairing.specs.Grid.{at, Perfect};
+ghost use Rattle.pairing.specs.Grid.{at, IsPerfect};
 ghost use Rattle.pairing.specs.Rows.{holds};
 ghost use Rattle.assign.specs.Weighed.{SearchTables};
 ghost use Rattle.matching.specs.Exchange.{without};
@@ -60,7 +60,7 @@ pub fn pair_row<K: Cost>(
     requires rights { length right.old ≡ length rows.now }
     requires room { k < length rows.now }
     requires unpaired { has out k ≡ true }
-    requires possible { (q : List ℕ) × Perfect (length rows.now) (holds rows.now) q }
+    requires possible { (q : List ℕ) × IsPerfect (length rows.now) (holds rows.now) q }
     requires paired { IsPriced K.Cost rows.now costs.now
         (so_far (has out) partners.old holders.old right.old) }
     ensures { IsPriced K.Cost rows.now costs.now
@@ -87,7 +87,7 @@ pub fn pair_rest<K: Cost>(
     requires lefts { length left.old ≡ length rows.now }
     requires rights { length right.old ≡ length rows.now }
     requires inside { (l : ℕ) → has first.out l ≡ true → l < length rows.now }
-    requires possible { (q : List ℕ) × Perfect (length rows.now) (holds rows.now) q }
+    requires possible { (q : List ℕ) × IsPerfect (length rows.now) (holds rows.now) q }
     requires paired { IsPriced K.Cost rows.now costs.now
         (so_far (has first.out) partners.old first.holders right.old) }
     ensures { IsPriced K.Cost rows.now costs.now

@@ -3,11 +3,11 @@
 
 ghost use Rattle.std.specs.Prelude.{◌≡◌, ℕ, ◌<◌, true, false, length, replicate, ◌+ℤ◌};
 ghost use Rattle.cost.specs.declared.TheConstants.{COST_LIMIT, PRICE_LIMIT};
-ghost use Rattle.cost.specs.Columns.{Within};
+ghost use Rattle.cost.specs.Columns.{AreWithin};
 ghost use Rattle.blockset.specs.Has.{has};
 ghost use Rattle.pairing.specs.Grid.{at};
 ghost use Rattle.pairing.specs.Rows.{holds};
-ghost use Rattle.tables.specs.Said.{Bounded, columns_at};
+ghost use Rattle.tables.specs.Said.{AreValuesWithin, columns_at};
 ghost use Rattle.assign.specs.declared.limits.TheConstants.{DISTANCE_LIMIT, LEFT_PRICE_LIMIT};
 ghost use Rattle.assign.specs.declared.limits.TheConstants.{INNER_PRICE_LIMIT};
 ghost use Rattle.assign.specs.Weighed.{weight_at, cost_weight, BoundedOn, SearchTables};
@@ -35,7 +35,7 @@ pub fn price_cheapest<K: Cost>(costs: &[K], rows: &[BlockSet], right: &mut [K]) 
     requires rights { length right.old ≡ length rows.now }
     ensures cheapest { AreCheapest (length rows.now) (length rows.now) (holds rows.now)
         (cost_weight K.Cost (length rows.now) costs.now) result (weight_at K.Cost right.new) }
-    ensures bound { Bounded K.Cost COST_LIMIT (length rows.now) right.new }
+    ensures bound { AreValuesWithin K.Cost COST_LIMIT (length rows.now) right.new }
 {
     clear(right);
     let n = rows.len();
@@ -62,14 +62,14 @@ pub fn lower<K: Cost>(goal: usize, taken: BlockSet, dist: &[K], right: &mut [K])
     requires inside { (c : ℕ) → has taken c ≡ true → c < length dist.now }
     requires goal { has taken goal ≡ true }
     requires far { BoundedOn K.Cost DISTANCE_LIMIT (has taken) dist.now }
-    requires unsold { Within COST_LIMIT (columns_at K.Cost right.old goal) }
-    requires priced { Bounded K.Cost INNER_PRICE_LIMIT (length dist.now) right.old }
+    requires unsold { AreWithin COST_LIMIT (columns_at K.Cost right.old goal) }
+    requires priced { AreValuesWithin K.Cost INNER_PRICE_LIMIT (length dist.now) right.old }
     ensures fallen { (c : ℕ) → has taken c ≡ true
         → weight_at K.Cost right.new c +ℤ weight_at K.Cost dist.now goal
         ≡ weight_at K.Cost dist.now c +ℤ weight_at K.Cost right.old goal }
     ensures same { (c : ℕ) → has taken c ≡ false
         → columns_at K.Cost right.new c ≡ columns_at K.Cost right.old c }
-    ensures bound { Bounded K.Cost INNER_PRICE_LIMIT (length dist.now) right.new }
+    ensures bound { AreValuesWithin K.Cost INNER_PRICE_LIMIT (length dist.now) right.new }
 {
     let far = exact_difference(dist[goal], right[goal]);
     for c in taken {
@@ -90,11 +90,11 @@ fn price_rows<K: Cost>(
     requires lefts { length left.old ≡ length rows.now }
     requires rights { length right.now ≡ length rows.now }
     requires pairs { (l : ℕ) → l < length rows.now → holds rows.now l (at partners.now l) ≡ true }
-    requires far { Bounded K.Cost DISTANCE_LIMIT (length rows.now) right.now }
+    requires far { AreValuesWithin K.Cost DISTANCE_LIMIT (length rows.now) right.now }
     ensures tight { (l : ℕ) → l < length rows.now → weight_at K.Cost left.new l
         +ℤ weight_at K.Cost right.now (at partners.now l) ≡ cost_weight K.Cost
         (length rows.now) costs.now l (at partners.now l) }
-    ensures bound { Bounded K.Cost LEFT_PRICE_LIMIT (length rows.now) left.new }
+    ensures bound { AreValuesWithin K.Cost LEFT_PRICE_LIMIT (length rows.now) left.new }
 {
     let n = rows.len();
     for l in 0..n {
@@ -121,8 +121,8 @@ pub fn price_greatest<K: Cost>(
         (so_far (λ _. false) partners.now holders.now right.old) }
     ensures topmost { Topmost K.Cost rows.now costs.now partners.now holders.now
         (weight_at K.Cost right.old) left.new right.new }
-    ensures lefts { Bounded K.Cost PRICE_LIMIT (length rows.now) left.new }
-    ensures rights { Bounded K.Cost PRICE_LIMIT (length rows.now) right.new }
+    ensures lefts { AreValuesWithin K.Cost PRICE_LIMIT (length rows.now) left.new }
+    ensures rights { AreValuesWithin K.Cost PRICE_LIMIT (length rows.now) right.new }
 {
     let n = rows.len();
     clear(left);

@@ -7,8 +7,8 @@ ghost use Rattle.std.specs.Prelude.{MatchBool, IfSome};
 ghost use Rattle.cost.specs.declared.TheConstants.{COST_LIMIT};
 ghost use Rattle.blockset.specs.declared.TheConstants.{MOST_BLOCKS};
 ghost use Rattle.blockset.specs.Has.{has};
-ghost use Rattle.matching.specs.Exchange.{GivesDistinct, Holding};
-ghost use Rattle.tables.specs.Said.{Bounded};
+ghost use Rattle.matching.specs.Exchange.{GivesDistinct, AreHolders};
+ghost use Rattle.tables.specs.Said.{AreValuesWithin};
 ghost use Rattle.assign.specs.declared.limits.TheConstants.{INNER_PRICE_LIMIT, REDUCED_LIMIT};
 ghost use Rattle.assign.specs.Weighed.{weight_at, BoundedOn, SearchTables};
 ghost use Rattle.assign.specs.Offers.{NearestWithKey};
@@ -28,7 +28,7 @@ fn bid_for_free<K: Cost>(to: BlockSet, held: BlockSet, costs: &[K], right: &[K])
     requires sized { length right.now ≡ length costs.now }
     requires inside { (c : ℕ) → has to c ≡ true → c < length costs.now }
     requires modest { BoundedOn K.Cost COST_LIMIT (has to) costs.now }
-    requires priced { Bounded K.Cost INNER_PRICE_LIMIT (length costs.now) right.now }
+    requires priced { AreValuesWithin K.Cost INNER_PRICE_LIMIT (length costs.now) right.now }
     requires no_held { HasNoHeldBid K.Cost (has to) (has held) costs.now right.now }
     ensures bid { IsBidFound K.Cost (has to) (has held) costs.now right.now result }
     ensures bound { IfSome result (IsPricedNear K.Cost (length costs.now) right.now) }
@@ -56,7 +56,7 @@ fn bid_as_near<K: Cost>(
     requires sized { length right.now ≡ length costs.now }
     requires inside { (c : ℕ) → has to c ≡ true → c < length costs.now }
     requires modest { BoundedOn K.Cost COST_LIMIT (has to) costs.now }
-    requires priced { Bounded K.Cost INNER_PRICE_LIMIT (length costs.now) right.now }
+    requires priced { AreValuesWithin K.Cost INNER_PRICE_LIMIT (length costs.now) right.now }
     requires near { NearestWithKey K.Cost (has to) right.now costs.now near }
     requires no_held { HasNoHeldBid K.Cost (has to) (has held) costs.now right.now }
     ensures bid { IsBidFound K.Cost (has to) (has held) costs.now right.now result }
@@ -79,7 +79,7 @@ pub fn find_bid<K: Cost>(costs: &[K], to: BlockSet, held: BlockSet, right: &[K])
     requires sized { length right.now ≡ length costs.now }
     requires inside { (c : ℕ) → has to c ≡ true → c < length costs.now }
     requires modest { BoundedOn K.Cost COST_LIMIT (has to) costs.now }
-    requires priced { Bounded K.Cost INNER_PRICE_LIMIT (length costs.now) right.now }
+    requires priced { AreValuesWithin K.Cost INNER_PRICE_LIMIT (length costs.now) right.now }
     ensures bid { IsBidFound K.Cost (has to) (has held) costs.now right.now result }
     ensures bound { IfSome result (IsPricedNear K.Cost (length costs.now) right.now) }
 {
@@ -109,10 +109,10 @@ fn seat(l: usize, c: usize, out: &mut BlockSet, partners: &mut [u16], holders: &
     requires left_out { has out.old l ≡ true }
     requires inside { (m : ℕ) → has out.old m ≡ true → m < length partners.old }
     requires distinct { GivesDistinct (length partners.old) partners.old (has out.old) }
-    requires told { Holding 0 partners.old (has out.old) holders.old }
+    requires told { AreHolders 0 partners.old (has out.old) holders.old }
     ensures seated { IsSeated (length partners.old) (has out.old) partners.old l c (has out.new)
         partners.new }
-    ensures told { Holding 0 partners.new (has out.new) holders.new }
+    ensures told { AreHolders 0 partners.new (has out.new) holders.new }
     ensures held { (j : ℕ) → has holders.new.held j ≡ (j == c || has holders.old.held j) }
 {
     let was_held = holders.held.contains(c);
@@ -144,7 +144,7 @@ pub fn reduce_row<K: Cost>(
     requires inside { (m : ℕ) → has out.old m ≡ true → m < length rows.now }
     requires paired { IsPriced K.Cost rows.now costs.now
         (so_far (has out.old) partners.old holders.old right.old) }
-    requires near { Bounded K.Cost REDUCED_LIMIT (length rows.now) right.old }
+    requires near { AreValuesWithin K.Cost REDUCED_LIMIT (length rows.now) right.old }
     ensures reduced { let old = so_far (has out.old) partners.old holders.old right.old in
         let new = so_far (has out.new) partners.new holders.new right.new in
         MatchBool result (IsReduced K.Cost rows.now costs.now l old new)
@@ -155,8 +155,9 @@ pub fn reduce_row<K: Cost>(
     ensures inside { (m : ℕ) → has out.new m ≡ true → m < length rows.now }
     ensures paired { IsPriced K.Cost rows.now costs.now
         (so_far (has out.new) partners.new holders.new right.new) }
-    ensures bound { (b : ℕ) → Bounded K.Cost b (length rows.now) right.old → b ≤ REDUCED_LIMIT
-        → Bounded K.Cost (b + 2 * COST_LIMIT) (length rows.now) right.new }
+    ensures bound { (b : ℕ) → AreValuesWithin K.Cost b (length rows.now) right.old
+        → b ≤ REDUCED_LIMIT
+        → AreValuesWithin K.Cost (b + 2 * COST_LIMIT) (length rows.now) right.new }
 {
     let n = rows.len();
     let row = &costs[l * n..l * n + n];
@@ -185,7 +186,7 @@ pub fn reduce_rows<K: Cost>(
     requires inside { (l : ℕ) → has first.out l ≡ true → l < length rows.now }
     requires paired { IsPriced K.Cost rows.now costs.now
         (so_far (has first.out) partners.old first.holders right.old) }
-    requires near { Bounded K.Cost COST_LIMIT (length rows.now) right.old }
+    requires near { AreValuesWithin K.Cost COST_LIMIT (length rows.now) right.old }
     ensures goes_on { HasGoneOn K.Cost
         (so_far (has first.out) partners.old first.holders right.old)
         (so_far (has result.out) partners.new result.holders right.new) }

@@ -8,12 +8,12 @@ ghost use Rattle.std.specs.Prelude.{◌≡◌, ℕ, ◌+◌, ◌<◌, ◌≤◌,
 ghost use Rattle.std.specs.Prelude.{◌⊎◌, ◌-ℤ◌, ◌≤ℤ◌, ◌<ℤ◌, ◌≢◌, ◌&&◌, IfSome};
 ghost use Rattle.cost.specs.declared.TheConstants.{COST_LIMIT, HALF_RAIL};
 ghost use Rattle.blockset.specs.declared.TheConstants.{MOST_BLOCKS};
-ghost use Rattle.cost.specs.Columns.{Within};
+ghost use Rattle.cost.specs.Columns.{AreWithin};
 ghost use Rattle.cost.specs.Weights.{weight};
 ghost use Rattle.blockset.specs.Has.{has};
 ghost use Rattle.pairing.specs.Grid.{at};
 ghost use Rattle.pairing.specs.Rows.{holds};
-ghost use Rattle.tables.specs.Said.{columns_at, Bounded};
+ghost use Rattle.tables.specs.Said.{columns_at, AreValuesWithin};
 ghost use Rattle.assign.specs.declared.limits.TheConstants.{DISTANCE_LIMIT, SHIFT_LIMIT};
 ghost use Rattle.assign.specs.declared.limits.TheConstants.{INNER_PRICE_LIMIT};
 ghost use Rattle.assign.specs.Weighed.{weight_at, BoundedOn, SearchTables};
@@ -51,10 +51,10 @@ pub fn offer_all<K: Cost>(
     requires known { BoundedOn K.Cost HALF_RAIL (has reached) dist.old }
     ensures offered { (c : ℕ) → IsOffered K.Cost offer.now (has offer.now.to) (has reached)
         dist.old dist.new via.old via.new c }
-    ensures bound { (b c : ℕ) → Within b (K.meaning offer.now.shift) → b ≤ SHIFT_LIMIT
-        → (has offer.now.to c ≡ false → Within (b + COST_LIMIT) (columns_at K.Cost dist.old c))
-        → (has reached c ≡ true → Within (b + COST_LIMIT) (columns_at K.Cost dist.old c))
-        → Within (b + COST_LIMIT) (columns_at K.Cost dist.new c) }
+    ensures bound { (b c : ℕ) → AreWithin b (K.meaning offer.now.shift) → b ≤ SHIFT_LIMIT
+        → (has offer.now.to c ≡ false → AreWithin (b + COST_LIMIT) (columns_at K.Cost dist.old c))
+        → (has reached c ≡ true → AreWithin (b + COST_LIMIT) (columns_at K.Cost dist.old c))
+        → AreWithin (b + COST_LIMIT) (columns_at K.Cost dist.new c) }
 {
     for c in offer.to {
         let way = exact_sum(offer.shift, offer.costs[c]);
@@ -69,8 +69,8 @@ pub fn offer_all<K: Cost>(
 fn key_of<K: Cost>(block: usize, dist: &[K], right: &[K]) -> K
     requires sized { length right.now ≡ length dist.now }
     requires inside { block < length dist.now }
-    requires far { Within DISTANCE_LIMIT (columns_at K.Cost dist.now block) }
-    requires priced { Within INNER_PRICE_LIMIT (columns_at K.Cost right.now block) }
+    requires far { AreWithin DISTANCE_LIMIT (columns_at K.Cost dist.now block) }
+    requires priced { AreWithin INNER_PRICE_LIMIT (columns_at K.Cost right.now block) }
     ensures key { weight (K.meaning result) ≡ weight_at K.Cost dist.now block
         -ℤ weight_at K.Cost right.now block }
     ensures reach { KeyReach K.Cost right.now dist.now block result }
@@ -83,7 +83,7 @@ pub fn nearest<K: Cost>(set: BlockSet, dist: &[K], right: &[K]) -> Option<Nearby
     requires sized { length right.now ≡ length dist.now }
     requires inside { (c : ℕ) → has set c ≡ true → c < length dist.now }
     requires far { BoundedOn K.Cost DISTANCE_LIMIT (has set) dist.now }
-    requires priced { Bounded K.Cost INNER_PRICE_LIMIT (length dist.now) right.now }
+    requires priced { AreValuesWithin K.Cost INNER_PRICE_LIMIT (length dist.now) right.now }
     ensures { MatchOption result ((c : ℕ) → has set c ≡ false)
         (NearestWithKey K.Cost (has set) right.now dist.now) }
 {
@@ -101,8 +101,8 @@ pub fn nearest<K: Cost>(set: BlockSet, dist: &[K], right: &[K]) -> Option<Nearby
 
 /// Two right blocks with their keys, the nearer one first.
 fn in_order<K: Cost>(a: Nearby<K>, b: Nearby<K>) -> TwoNearest<K>
-    requires first { Within HALF_RAIL (K.meaning a.key) }
-    requires second { Within HALF_RAIL (K.meaning b.key) }
+    requires first { AreWithin HALF_RAIL (K.meaning a.key) }
+    requires second { AreWithin HALF_RAIL (K.meaning b.key) }
     ensures order { weight (K.meaning result.near.key) ≤ℤ weight (K.meaning result.next.key) }
     ensures both { ((result.near ≡ a) × (result.next ≡ b))
         ⊎ ((result.near ≡ b) × (result.next ≡ a)) }
@@ -119,7 +119,7 @@ pub fn two_nearest<K: Cost>(set: BlockSet, dist: &[K], right: &[K]) -> Option<Tw
     requires sized { length right.now ≡ length dist.now }
     requires inside { (c : ℕ) → has set c ≡ true → c < length dist.now }
     requires far { BoundedOn K.Cost DISTANCE_LIMIT (has set) dist.now }
-    requires priced { Bounded K.Cost INNER_PRICE_LIMIT (length dist.now) right.now }
+    requires priced { AreValuesWithin K.Cost INNER_PRICE_LIMIT (length dist.now) right.now }
     ensures { MatchOption result
         ((c c' : ℕ) → has set c ≡ true → has set c' ≡ true → c ≡ c')
         (NearestTwo K.Cost (has set) right.now dist.now) }
@@ -162,8 +162,8 @@ pub fn two_nearest<K: Cost>(set: BlockSet, dist: &[K], right: &[K]) -> Option<Tw
 
 /// The nearer one of two right blocks, the first one if both are as near.
 fn nearer<K: Cost>(first: Option<Nearby<K>>, second: Option<Nearby<K>>) -> Option<Nearby<K>>
-    requires first { IfSome first (λ near. Within HALF_RAIL (K.meaning near.key)) }
-    requires second { IfSome second (λ near. Within HALF_RAIL (K.meaning near.key)) }
+    requires first { IfSome first (λ near. AreWithin HALF_RAIL (K.meaning near.key)) }
+    requires second { IfSome second (λ near. AreWithin HALF_RAIL (K.meaning near.key)) }
     ensures { Nearer K.Cost first second result }
 {
     let Some(a) = first else {
@@ -189,7 +189,7 @@ pub fn nearest_free_first<K: Cost>(
     requires sized { length right.now ≡ length dist.now }
     requires inside { (c : ℕ) → has set c ≡ true → c < length dist.now }
     requires far { BoundedOn K.Cost DISTANCE_LIMIT (has set) dist.now }
-    requires priced { Bounded K.Cost INNER_PRICE_LIMIT (length dist.now) right.now }
+    requires priced { AreValuesWithin K.Cost INNER_PRICE_LIMIT (length dist.now) right.now }
     ensures { MatchOption result ((c : ℕ) → has set c ≡ false)
         (λ near. NearestWithKey K.Cost (has set) right.now dist.now near
         × FreeFirst (has set) (has held) (weight_at K.Cost right.now)
@@ -211,7 +211,7 @@ fn offer_one<K: Cost>(
     requires modest { IsModest K.Cost offer.now }
     requires sized { length dist.old ≡ length offer.now.costs.now }
     requires inside { c < length offer.now.costs.now }
-    requires known { Within HALF_RAIL (columns_at K.Cost dist.old c) }
+    requires known { AreWithin HALF_RAIL (columns_at K.Cost dist.old c) }
     ensures offered { IsOffered K.Cost offer.now (has offer.now.to) (λ _. true) dist.old dist.new
         via.old via.new c }
     ensures others { (j : ℕ) → j ≢ c
@@ -220,9 +220,9 @@ fn offer_one<K: Cost>(
     ensures answer { K.meaning result ≡ columns_at K.Cost dist.new c }
     ensures nearer { (columns_at K.Cost dist.new c ≡ columns_at K.Cost dist.old c)
         ⊎ (weight_at K.Cost dist.new c <ℤ weight_at K.Cost dist.old c) }
-    ensures bound { (b : ℕ) → Within b (K.meaning offer.now.shift) → b ≤ SHIFT_LIMIT
-        → Within (b + COST_LIMIT) (columns_at K.Cost dist.old c)
-        → Within (b + COST_LIMIT) (columns_at K.Cost dist.new c) }
+    ensures bound { (b : ℕ) → AreWithin b (K.meaning offer.now.shift) → b ≤ SHIFT_LIMIT
+        → AreWithin (b + COST_LIMIT) (columns_at K.Cost dist.old c)
+        → AreWithin (b + COST_LIMIT) (columns_at K.Cost dist.new c) }
 {
     let far = dist[c];
     if !offer.to.contains(c) {
@@ -251,14 +251,15 @@ pub fn offer_and_find<K: Cost>(
     requires rights { length right.now ≡ length offer.now.costs.now }
     requires inside { (c : ℕ) → has set c ≡ true → c < length offer.now.costs.now }
     requires far { BoundedOn K.Cost DISTANCE_LIMIT (has set) dist.old }
-    requires priced { Bounded K.Cost INNER_PRICE_LIMIT (length offer.now.costs.now) right.now }
+    requires priced { AreValuesWithin K.Cost INNER_PRICE_LIMIT (length offer.now.costs.now)
+        right.now }
     ensures offered { (c : ℕ) → IsOffered K.Cost offer.now (λ k. has set k && has offer.now.to k)
         (λ _. true) dist.old dist.new via.old via.new c }
     ensures others { (c : ℕ) → has set c ≡ false
         → columns_at K.Cost dist.new c ≡ columns_at K.Cost dist.old c }
-    ensures bound { (b c : ℕ) → Within b (K.meaning offer.now.shift) → b ≤ SHIFT_LIMIT
-        → Within (b + COST_LIMIT) (columns_at K.Cost dist.old c)
-        → Within (b + COST_LIMIT) (columns_at K.Cost dist.new c) }
+    ensures bound { (b c : ℕ) → AreWithin b (K.meaning offer.now.shift) → b ≤ SHIFT_LIMIT
+        → AreWithin (b + COST_LIMIT) (columns_at K.Cost dist.old c)
+        → AreWithin (b + COST_LIMIT) (columns_at K.Cost dist.new c) }
     ensures found { MatchOption result ((c : ℕ) → has set c ≡ false)
         (NearestWithKey K.Cost (has set) right.now dist.new) }
 {
@@ -294,13 +295,14 @@ pub fn offer_and_choose<K: Cost>(
     requires come_to { (c : ℕ) → has rest c ≡ true → has offer.now.to c ≡ false
         → has reached c ≡ true }
     requires known { BoundedOn K.Cost DISTANCE_LIMIT (has reached) dist.old }
-    requires priced { Bounded K.Cost INNER_PRICE_LIMIT (length offer.now.costs.now) right.now }
+    requires priced { AreValuesWithin K.Cost INNER_PRICE_LIMIT (length offer.now.costs.now)
+        right.now }
     ensures offered { (c : ℕ) → IsOffered K.Cost offer.now (has offer.now.to) (has reached)
         dist.old dist.new via.old via.new c }
-    ensures bound { (b c : ℕ) → Within b (K.meaning offer.now.shift) → b ≤ SHIFT_LIMIT
-        → (has offer.now.to c ≡ false → Within (b + COST_LIMIT) (columns_at K.Cost dist.old c))
-        → (has reached c ≡ true → Within (b + COST_LIMIT) (columns_at K.Cost dist.old c))
-        → Within (b + COST_LIMIT) (columns_at K.Cost dist.new c) }
+    ensures bound { (b c : ℕ) → AreWithin b (K.meaning offer.now.shift) → b ≤ SHIFT_LIMIT
+        → (has offer.now.to c ≡ false → AreWithin (b + COST_LIMIT) (columns_at K.Cost dist.old c))
+        → (has reached c ≡ true → AreWithin (b + COST_LIMIT) (columns_at K.Cost dist.old c))
+        → AreWithin (b + COST_LIMIT) (columns_at K.Cost dist.new c) }
     ensures found { MatchOption result ((c : ℕ) → has rest c ≡ false)
         (λ near. NearestWithKey K.Cost (has rest) right.now dist.new near
         × FreeFirst (has rest) (has held) (weight_at K.Cost right.now)
@@ -342,7 +344,7 @@ pub fn grow<K: Cost>(
     requires own { (c : ℕ) → has holders.now.held c ≡ true
         → holds rows.now (at holders.now.owner c) c ≡ true }
     requires near { BoundedOn K.Cost COST_LIMIT (has start) dist.old }
-    requires priced { Bounded K.Cost INNER_PRICE_LIMIT (length rows.now) right.now }
+    requires priced { AreValuesWithin K.Cost INNER_PRICE_LIMIT (length rows.now) right.now }
     ensures grown { Grows K.Cost rows.now costs.now holders.now right.now (has start) via dist.old
         dist.new result }
     ensures inside { (c : ℕ) → has result.taken.reached c ≡ true → c < length rows.now }
@@ -405,7 +407,7 @@ pub fn grow_from<K: Cost>(
         → at holders.now.owner c < length rows.now }
     requires own { (c : ℕ) → has holders.now.held c ≡ true
         → holds rows.now (at holders.now.owner c) c ≡ true }
-    requires priced { Bounded K.Cost INNER_PRICE_LIMIT (length rows.now) right.now }
+    requires priced { AreValuesWithin K.Cost INNER_PRICE_LIMIT (length rows.now) right.now }
     ensures grown { GrowsFrom K.Cost rows.now costs.now holders.now right.now k dist.new result }
     ensures inside { (c : ℕ) → has result.taken.reached c ≡ true → c < length rows.now }
     ensures bound { BoundedOn K.Cost DISTANCE_LIMIT (has result.taken.reached) dist.new }

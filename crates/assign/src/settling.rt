@@ -4,7 +4,7 @@ ghost use Rattle.std.specs.Prelude.{◌≡◌, Ok};
 ghost use Rattle.tables.specs.Lent.{lent};
 ghost use Rattle.assign.specs.Answer.{Answers, Settled};
 ghost use Rattle.assign.specs.declared.Outcome.TheVariants.{Optimal};
-ghost use Rattle.tables.specs.Together.{Together};
+ghost use Rattle.tables.specs.Together.{HoldTogether};
 
 use crate::{Outcome, optimum};
 use cost::Cost;
@@ -29,7 +29,7 @@ pub fn settle<K: Cost>(
         Answers K.Cost old new (Settled K.Cost new) result }
 
     // So the walk, the marks and every other call on settled tables accept them.
-    ensures together { result ≡ Ok Optimal → Together K.Cost
+    ensures together { result ≡ Ok Optimal → HoldTogether K.Cost
         (lent n costs.now standing.now partners.new left.new right.new) }
 {
     let outcome = optimum(n, costs, standing, partners, left, right)?;

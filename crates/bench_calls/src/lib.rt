@@ -8,17 +8,17 @@ ghost use Rattle.std.specs.Prelude.{◌≡◌, ◌⊎◌, length, Result};
 ghost use Rattle.pairing.specs.Rows.{pairings};
 ghost use Rattle.matching.specs.declared.stepping.Step.{Step};
 ghost use Rattle.matching.specs.declared.fitting.Unfit.{Unfit};
-ghost use Rattle.matching.specs.Fit.{Fits, Unfits};
+ghost use Rattle.matching.specs.Fit.{FitsRows, IsUnfitBy};
 ghost use Rattle.matching.specs.Answers.{IsNth, Follows};
 ghost use Rattle.matching.specs.Numbers.{step_number};
 ghost use Rattle.tables.specs.declared.flaw.Flaw.{Flaw};
 ghost use Rattle.tables.specs.Lent.{lent};
 ghost use Rattle.assign.specs.declared.Outcome.{Outcome};
 ghost use Rattle.assign.specs.Answer.{Answers, Solved};
-ghost use Rattle.sheet.specs.Opening.{Opened};
+ghost use Rattle.sheet.specs.Opening.{OpensSheet};
 ghost use Rattle.sheet.specs.Size.{Sheet};
 ghost use Rattle.sheet.specs.declared.fault.Fault.{Fault};
-ghost use Rattle.orderfile.specs.Loading.{Loaded};
+ghost use Rattle.orderfile.specs.Loading.{IsLoaded};
 ghost use Rattle.bench_calls.specs.Codes.{outcome_code, fault_number};
 ghost use Rattle.bench_calls.specs.Calls.{Settles, Steps, Marks, Saves};
 
@@ -39,8 +39,8 @@ pub use two::Two;
 /// 0 where `p` is now the first perfect pairing, and 1 where the tables were refused.
 #[unsafe(no_mangle)]
 pub extern "C" fn bench_first(rows: &[BlockSet], p: &mut [u16]) -> u32
-    ensures { ((result ≡ 0) × Fits rows.now p.old × IsNth (pairings rows.now) 0 p.new)
-        ⊎ ((result ≡ 1) × ((e : Unfit) × Unfits rows.now p.old e) × (p.new ≡ p.old)) }
+    ensures { ((result ≡ 0) × FitsRows rows.now p.old × IsNth (pairings rows.now) 0 p.new)
+        ⊎ ((result ≡ 1) × ((e : Unfit) × IsUnfitBy rows.now p.old e) × (p.new ≡ p.old)) }
 {
     match first(rows, p) {
         Ok(()) => 0,
@@ -52,9 +52,9 @@ pub extern "C" fn bench_first(rows: &[BlockSet], p: &mut [u16]) -> u32
 /// refused.
 #[unsafe(no_mangle)]
 pub extern "C" fn bench_next(rows: &[BlockSet], p: &mut [u16]) -> u32
-    ensures { ((s : Step) × (result ≡ step_number s) × Fits rows.now p.old
+    ensures { ((s : Step) × (result ≡ step_number s) × FitsRows rows.now p.old
         × Follows (pairings rows.now) p.old p.new s)
-        ⊎ ((result ≡ 1) × ((e : Unfit) × Unfits rows.now p.old e) × (p.new ≡ p.old)) }
+        ⊎ ((result ≡ 1) × ((e : Unfit) × IsUnfitBy rows.now p.old e) × (p.new ≡ p.old)) }
 {
     match matching::next(rows, p) {
         Ok(step) => u32::from(step.number()),
@@ -196,7 +196,7 @@ pub extern "C" fn bench_two_marks(
 #[unsafe(no_mangle)]
 pub extern "C" fn bench_load(file: &[u8], costs: &mut [Plain], standing: &mut [u8]) -> u32
     ensures { (r : Result Sheet Fault) × (result ≡ fault_number r)
-        × Loaded file.now costs.old standing.old r costs.new standing.new }
+        × IsLoaded file.now costs.old standing.old r costs.new standing.new }
 {
     fault_number(load(file, costs, standing))
 }
@@ -206,7 +206,7 @@ pub extern "C" fn bench_load(file: &[u8], costs: &mut [Plain], standing: &mut [u
 #[unsafe(no_mangle)]
 pub extern "C" fn bench_open(n: u16, costs: &mut [Plain], standing: &mut [u8]) -> u32
     ensures { (r : Result Sheet Fault) × (result ≡ fault_number r)
-        × Opened ⟦<Plain as Cost>⟧.zero n costs.old standing.old r costs.new standing.new }
+        × OpensSheet ⟦<Plain as Cost>⟧.zero n costs.old standing.old r costs.new standing.new }
 {
     fault_number(open(n, costs, standing))
 }
@@ -226,7 +226,7 @@ pub extern "C" fn bench_save(
     out: &mut [u8],
 ) -> u32
     ensures { (r : Result Sheet Fault)
-        × Opened ⟦<Plain as Cost>⟧.zero n opened_costs.old opened_standing.old r
+        × OpensSheet ⟦<Plain as Cost>⟧.zero n opened_costs.old opened_standing.old r
         opened_costs.new opened_standing.new
         × Saves n costs.now standing.now out.old r out.new result }
 {

@@ -5,10 +5,10 @@ use Rattle.std.proofs.Common.{◌≡◌, ℕ, ◌<◌, ◌≤◌, Bool, List, �
 use Rattle.std.proofs.Common.{sym, ap, ◌∙◌, subst, arith}
 use Rattle.std.proofs.lemmas.List.{get_or_default, take_at, drop_at, length-append, length-drop}
 use Rattle.blockset.specs.declared.TheConstants.{MOST_BLOCKS}
-use Rattle.pairing.specs.Grid.{Perfect}
+use Rattle.pairing.specs.Grid.{IsPerfect}
 
 pub are_bytes : (n : ℕ) (stands : ℕ → ℕ → Bool) (p : List ℕ) → n ≤ MOST_BLOCKS
-    → Perfect n stands p → (k d : ℕ) → k < length p → get_or p k d < 256
+    → IsPerfect n stands p → (k d : ℕ) → k < length p → get_or p k d < 256
 are_bytes n stands p few h k d hk =
     let below = h.below k (omega (arith, hk, h.len)) in
     subst (λ b. b < 256) (get_or_default p k 0 d hk) (omega (arith, below, few))

@@ -4,7 +4,7 @@
 use Rattle.std.proofs.Common.{◌≡◌, ℕ, ◌<◌, ◌≤◌, List, ◌++◌, length, take, drop, Ok, Err, Result}
 use Rattle.std.proofs.Common.{refl, sym, ap, ◌∙◌, subst, inl, inr, ⊎_elim, arith}
 use Rattle.cost.specs.declared.plain_kind.Plain.{Plain}
-use Rattle.pairing.specs.Grid.{PerfectIn, Optimum}
+use Rattle.pairing.specs.Grid.{IsPerfectIn, IsOptimum}
 use Rattle.pairing.specs.Optima.{optima}
 use Rattle.matching.specs.Answers.{IsNth, Follows}
 use Rattle.matching.specs.declared.stepping.Step.{Step}
@@ -15,9 +15,9 @@ use Rattle.sheet.specs.Size.{Sheet, size_of}
 use Rattle.sheet.specs.declared.fault.Cause.TheVariants.{NoPerfectPairing, ShortBuffer}
 use Rattle.sheet.specs.declared.fault.Fault.{Fault}
 use Rattle.orderfile.specs.Faults.{FirstFault}
-use Rattle.orderfile.specs.Format.{Order, States}
-use Rattle.orderfile.specs.Loading.{HasOneVerdict, grid_stated, plain_kind, plain_grid}
-use Rattle.orderfile.specs.Loading.{Accepted, Loaded}
+use Rattle.orderfile.specs.Format.{StatedOrder, States}
+use Rattle.orderfile.specs.Loading.{HasOneVerdict, stated_grid, plain_kind, plain_grid}
+use Rattle.orderfile.specs.Loading.{LoadsOrder, IsLoaded}
 use Rattle.orderfile.proofs.LoadedGrid.{loaded_ok, loaded_alike, loaded_optima, loaded_perfect}
 use Rattle.tables.specs.PairTables.{HavePlaces}
 use Rattle.tables.specs.Lent.{lent}
@@ -38,53 +38,55 @@ module _ (call : HostCall) (file out : List ℕ) (verdict : HasOneVerdict file) 
   }
 
   -- a file that states a sheet
-  pub answers_stated : (o : Order) → States file o → (answer : Result Step Fault) (out' : List ℕ)
-      → Responds (call_needs (grid_stated o) out call) answer
-      (IsWritten (grid_stated o) out call out') (out' ≡ out)
+  pub answers_stated : (o : StatedOrder) → States file o
+      → (answer : Result Step Fault) (out' : List ℕ)
+      → Responds (call_needs (stated_grid o) out call) answer
+      (IsWritten (stated_grid o) out call out') (out' ≡ out)
       → AnswersHost call file out answer out'
   answers_stated o s answer out' h = record {
     verdict = verdict;
     faulty = λ f f'. absurd (verdict.not_both o f s f');
-    states = λ o' s'. subst (λ (k : Order). Responds (call_needs (grid_stated k) out call) answer
-        (IsWritten (grid_stated k) out call out') (out' ≡ out)) (verdict.one_order o o' s s') h;
+    states = λ o' s'. subst (λ (k : StatedOrder). Responds (call_needs (stated_grid k) out call)
+        answer
+        (IsWritten (stated_grid k) out call out') (out' ≡ out)) (verdict.one_order o o' s s') h;
   }
 
 -- the buffer is too short
-pub short_buffer : (o : Order) (out : List ℕ) → length out < o.size → (call : HostCall)
-    → IsFirstUnmet (call_needs (grid_stated o) out call) (fault ShortBuffer 0)
+pub short_buffer : (o : StatedOrder) (out : List ℕ) → length out < o.size → (call : HostCall)
+    → IsFirstUnmet (call_needs (stated_grid o) out call) (fault ShortBuffer 0)
 short_buffer o out short First = inl ((λ room. absurd (omega (arith, short, room))), refl)
 short_buffer o out short After = inl ((λ room. absurd (omega (arith, short, room))), refl)
 
-module _ (o : Order) (r : Result Sheet Fault) (costs : List Plain) (standing : List ℕ)
-    (accepted : Accepted o r costs standing) (out : List ℕ) (room : o.size ≤ length out) where
-  stands_there : (p : List ℕ) × PerfectIn (grid_stated o) p
-      → (p : List ℕ) × PerfectIn (plain_grid o.size costs standing) p
+module _ (o : StatedOrder) (r : Result Sheet Fault) (costs : List Plain) (standing : List ℕ)
+    (accepted : LoadsOrder o r costs standing) (out : List ℕ) (room : o.size ≤ length out) where
+  stands_there : (p : List ℕ) × IsPerfectIn (stated_grid o) p
+      → (p : List ℕ) × IsPerfectIn (plain_grid o.size costs standing) p
   stands_there h = (h.0, (loaded_perfect o r costs standing accepted h.0).1 h.1)
 
   -- no pairing is perfect
   pub unpaired : (call : HostCall)
-      → ((p : List ℕ) × PerfectIn (plain_grid o.size costs standing) p → ⊥)
-      → IsFirstUnmet (call_needs (grid_stated o) out call) (fault NoPerfectPairing 0)
+      → ((p : List ℕ) × IsPerfectIn (plain_grid o.size costs standing) p → ⊥)
+      → IsFirstUnmet (call_needs (stated_grid o) out call) (fault NoPerfectPairing 0)
   unpaired First none = inr (room, inl ((λ h. none (stands_there h)), refl))
   unpaired After none = inr (room, inl ((λ h. none (stands_there h)), refl))
 
-  paired : (p : List ℕ) × PerfectIn (plain_grid o.size costs standing) p
-      → (p : List ℕ) × PerfectIn (grid_stated o) p
+  paired : (p : List ℕ) × IsPerfectIn (plain_grid o.size costs standing) p
+      → (p : List ℕ) × IsPerfectIn (stated_grid o) p
   paired h = (h.0, (loaded_perfect o r costs standing accepted h.0).0 h.1)
 
   -- the first of all optimum pairings was written
   pub first_written : (partners out' : List ℕ)
-      → (p : List ℕ) × PerfectIn (plain_grid o.size costs standing) p
+      → (p : List ℕ) × IsPerfectIn (plain_grid o.size costs standing) p
       → IsNth (optima (plain_grid o.size costs standing)) 0 partners
       → length partners ≡ o.size → out' ≡ partners ++ drop (length partners) out
-      → Responds (call_needs (grid_stated o) out First) (Ok Next)
-      (IsWritten (grid_stated o) out First out') (out' ≡ out)
+      → Responds (call_needs (stated_grid o) out First) (Ok Next)
+      (IsWritten (stated_grid o) out First out') (out' ≡ out)
   first_written partners out' some first long wrote = (
     (room, (paired some, tt)),
     record {
       written = (
         refl,
-        subst (λ p. IsNth (optima (grid_stated o)) 0 p)
+        subst (λ p. IsNth (optima (stated_grid o)) 0 p)
             (sym (front o.size partners out out' long wrote))
             (subst (λ ps. IsNth ps 0 partners) (loaded_optima o r costs standing accepted) first),
       );
@@ -95,10 +97,10 @@ module _ (o : Order) (r : Result Sheet Fault) (costs : List Plain) (standing : L
 
   -- the one that follows was written, or there is none
   pub next_written : (out' : List ℕ) (answer : Result Step Fault)
-      → (p : List ℕ) × PerfectIn (plain_grid o.size costs standing) p
+      → (p : List ℕ) × IsPerfectIn (plain_grid o.size costs standing) p
       → StepsOn (plain_grid o.size costs standing) out answer out'
-      → Responds (call_needs (grid_stated o) out After) answer
-      (IsWritten (grid_stated o) out After out') (out' ≡ out)
+      → Responds (call_needs (stated_grid o) out After) answer
+      (IsWritten (stated_grid o) out After out') (out' ≡ out)
   next_written out' (Ok step) some h = (
     (
       room,
@@ -135,13 +137,14 @@ module _ (o : Order) (r : Result Sheet Fault) (costs : List Plain) (standing : L
 -- ---- In tables with room for the sheet that the file states
 
 module _ {file : List ℕ} {costs₀ costs : List Plain} {standing₀ standing : List ℕ} {sheet : Sheet}
-    (loaded : Loaded file costs₀ standing₀ (Ok sheet) costs standing) (call : HostCall)
+    (loaded : IsLoaded file costs₀ standing₀ (Ok sheet) costs standing) (call : HostCall)
     (out partners list : List ℕ) (left right : List Plain)
-    (rooms : (o : Order) → States file o → HasRoomFor o.size (length costs₀) (length standing₀)
+    (rooms : (o : StatedOrder) → States file o
+    → HasRoomFor o.size (length costs₀) (length standing₀)
     (length partners) (length left) (length right) (length list) (length out)) where
-  stated : (o : Order) × States file o
+  stated : (o : StatedOrder) × States file o
       × HavePlaces o.size (length costs₀) (length standing₀) × (sheet.size ≡ o.size)
-      × Accepted o (Ok sheet) costs standing
+      × LoadsOrder o (Ok sheet) costs standing
   stated = loaded_ok file costs₀ standing₀ costs standing sheet loaded
 
   pub list_fits : length list ≡ size_of sheet
@@ -173,7 +176,7 @@ module _ {file : List ℕ} {costs₀ costs : List Plain} {standing₀ standing :
       (λ yes'. ⊎_elim (λ no'. absurd (no'.0 tables.in_order))
       (λ yes''. ⊎_elim
       (λ no'. (
-        subst (IsFirstUnmet (call_needs (grid_stated o) out call)) (sym no'.1)
+        subst (IsFirstUnmet (call_needs (stated_grid o) out call)) (sym no'.1)
             (unpaired o (Ok sheet) costs standing stated.4 out have.out_room call no'.0),
         refl,
       ))
@@ -185,8 +188,8 @@ module _ {file : List ℕ} {costs₀ costs : List Plain} {standing₀ standing :
   module _ (settled : Sheet) (partners' : List ℕ) (left' right' : List Plain)
       (done : IsSettled plain_kind sheet settled (lent (size_of sheet) costs standing partners left
       right) (lent (size_of sheet) costs standing partners' left' right')) where
-    some : (p : List ℕ) × PerfectIn (plain_grid stated.0.size costs standing) p
-    some = subst (λ n. (p : List ℕ) × PerfectIn (plain_grid n costs standing) p) stated.3
+    some : (p : List ℕ) × IsPerfectIn (plain_grid stated.0.size costs standing) p
+    some = subst (λ n. (p : List ℕ) × IsPerfectIn (plain_grid n costs standing) p) stated.3
         done.met.1.1.0
 
     pub partners_fit : length partners' ≤ length out

@@ -1,7 +1,7 @@
 -- What the two calls for a host in C answer, and what they leave in the buffer, at every input.
 use Rattle.std.specs.Prelude.{◌≡◌, ℕ, ◌≤◌, List, length, take, drop, Ok, Err, Result}
 use Rattle.std.specs.Prelude.{MatchResult}
-use Rattle.pairing.specs.Grid.{Grid, PerfectIn, Optimum}
+use Rattle.pairing.specs.Grid.{Grid, IsPerfectIn, IsOptimum}
 use Rattle.pairing.specs.Optima.{optima}
 use Rattle.pairing.specs.Places.{places_of}
 use Rattle.matching.specs.Answers.{IsNth, Follows}
@@ -15,8 +15,8 @@ use Rattle.sheet.specs.declared.fault.Cause.TheVariants.{NoPerfectPairing, Incon
 use Rattle.sheet.specs.declared.fault.Cause.TheVariants.{ShortBuffer}
 use Rattle.sheet.specs.declared.fault.Fault.{Fault}
 use Rattle.orderfile.specs.Faults.{FirstFault}
-use Rattle.orderfile.specs.Format.{Order, States}
-use Rattle.orderfile.specs.Loading.{HasOneVerdict, grid_stated}
+use Rattle.orderfile.specs.Format.{StatedOrder, States}
+use Rattle.orderfile.specs.Loading.{HasOneVerdict, stated_grid}
 use Rattle.chost.specs.declared.answering.HostCall.{HostCall}
 use Rattle.chost.specs.declared.answering.HostCall.TheVariants.{First, After}
 
@@ -24,12 +24,12 @@ module _ (g : Grid) (out : List ℕ) where
   -- a buffer with a byte for each left block, and a perfect pairing
   abbrev pub settling_needs : Needs → Needs
   settling_needs more = need (g.size ≤ length out) ShortBuffer
-      (need ((p : List ℕ) × PerfectIn g p) NoPerfectPairing more)
+      (need ((p : List ℕ) × IsPerfectIn g p) NoPerfectPairing more)
 
   -- and, for the pairing that follows one, an optimum pairing at the front of the buffer
   abbrev pub call_needs : HostCall → Needs
   call_needs First = settling_needs nothing
-  call_needs After = settling_needs (need (Optimum g (take g.size out)) Inconsistent nothing)
+  call_needs After = settling_needs (need (IsOptimum g (take g.size out)) Inconsistent nothing)
 
   -- the front of the buffer is the first of all optimum pairings; or the one that follows it in
   -- dictionary order, and at the last one, where the step is the end, it stays
@@ -46,8 +46,8 @@ module _ (g : Grid) (out : List ℕ) where
 -- the call for the pairing that follows one, on a sheet that is settled
 abbrev pub StepsOn : Grid → (out : List ℕ) → Result Step Fault → (out' : List ℕ) → Type 0
 StepsOn g out answer out' = MatchResult answer
-    (λ step. Optimum g (take g.size out) × IsWritten g out After out' step)
-    (λ f. (Optimum g (take g.size out) → ⊥) × (f ≡ fault Inconsistent 0) × (out' ≡ out))
+    (λ step. IsOptimum g (take g.size out) × IsWritten g out After out' step)
+    (λ f. (IsOptimum g (take g.size out) → ⊥) × (f ≡ fault Inconsistent 0) × (out' ≡ out))
 
 -- a call is refused for the file's first fault; else, on the sheet that the file states, for the
 -- first need that is not met; or it is done. On a refusal the buffer is as it was
@@ -55,7 +55,7 @@ pub record AnswersHost (call : HostCall) (file out : List ℕ) (answer : Result 
     (out' : List ℕ) : Type 0 where
   pub verdict : HasOneVerdict file
   pub faulty : (f : Fault) → FirstFault file f → (answer ≡ Err f) × (out' ≡ out)
-  pub states : (order : Order) → States file order → let g = grid_stated order in
+  pub states : (order : StatedOrder) → States file order → let g = stated_grid order in
       Responds (call_needs g out call) answer (IsWritten g out call out') (out' ≡ out)
 
 -- what a host is told: 0 where a pairing was written, 100 at the end, else the refusal's number

@@ -6,9 +6,9 @@ ghost use Rattle.chost.specs.declared.answering.TheConstants.{MOST_PLACES};
 ghost use Rattle.pairing.specs.Places.{places_of};
 ghost use Rattle.tables.specs.Lent.{lent};
 ghost use Rattle.tables.specs.Said.{grid_of};
-ghost use Rattle.tables.specs.Together.{Together};
+ghost use Rattle.tables.specs.Together.{HoldTogether};
 ghost use Rattle.sheet.specs.Size.{size_of};
-ghost use Rattle.orderfile.specs.Format.{Order, States};
+ghost use Rattle.orderfile.specs.Format.{StatedOrder, States};
 ghost use Rattle.chost.specs.Answers.{AnswersHost, TellsHost, HasRoomFor, StepsOn};
 
 use crate::blocks::{read_blocks, write_blocks};
@@ -55,7 +55,7 @@ fn answer(call: HostCall, file: &[u8], out: &mut [u8]) -> Result<Step, Fault>
 
 /// Lends the call tables for a sheet of so many blocks a plane.
 fn answer_for(call: HostCall, file: &[u8], size: u16, out: &mut [u8]) -> Result<Step, Fault>
-    requires stated { (o : Order) × States file.now o × (o.size ≡ size) }
+    requires stated { (o : StatedOrder) × States file.now o × (o.size ≡ size) }
     requires few { size ≤ MOST_BLOCKS }
     requires places { places_of size ≤ MOST_PLACES }
     requires room { size ≤ length out.old }
@@ -94,7 +94,8 @@ fn answer_over(
     list: &mut [u16],
     out: &mut [u8],
 ) -> Result<Step, Fault>
-    requires { (order : Order) → States file.now order → HasRoomFor order.size (length costs.old)
+    requires { (order : StatedOrder) → States file.now order
+        → HasRoomFor order.size (length costs.old)
         (length standing.old) (length partners.old) (length left.old) (length right.old)
         (length list.old) (length out.old) }
     ensures { AnswersHost call file.now out.old result out.new }
@@ -121,7 +122,7 @@ fn step_on<K: Cost>(
     list: &mut [u16],
     out: &mut [u8],
 ) -> Result<Step, Fault>
-    requires together { Together K.Cost
+    requires together { HoldTogether K.Cost
         (lent (size_of settled) costs.now standing.now partners.now left.now right.now) }
     requires list_long { length list.old ≡ size_of settled }
     requires room { size_of settled ≤ length out.old }

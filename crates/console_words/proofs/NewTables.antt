@@ -3,7 +3,7 @@
 -- met; a call that is handed the whole of a table leaves the whole of it.
 use Rattle.std.proofs.Common.{◌≡◌, ℕ, List, ◌++◌, length, take, ap, ◌∙◌, sym, subst}
 use Rattle.std.proofs.lemmas.List.{take_at}
-use Rattle.tables.specs.PairTables.{AllAbsent, cell}
+use Rattle.tables.specs.PairTables.{AreAllAbsent, cell}
 use Rattle.sheet.proofs.Needs.{met_or_not}
 use Rattle.sheet.specs.declared.fault.Fault.{Fault}
 use Rattle.sheet.specs.Needs.{IsFirstUnmet}
@@ -31,10 +31,10 @@ never_refused n costs standing h f size right same_costs same_standing =
 -- pairs that are absent in two tables are absent where these are the whole of two others
 pub absent_in_whole : {K : Type 0} (zero : K) (n : ℕ) (costs more : List K)
     (standing others : List ℕ) (k m : ℕ) → length costs ≡ k → length standing ≡ m
-    → AllAbsent n (cell zero n costs standing)
-    → AllAbsent n (cell zero n (take k (costs ++ more)) (take m (standing ++ others)))
+    → AreAllAbsent n (cell zero n costs standing)
+    → AreAllAbsent n (cell zero n (take k (costs ++ more)) (take m (standing ++ others)))
 absent_in_whole zero n costs more standing others k m costs_whole standing_whole absent =
-    subst (λ xs. AllAbsent n (cell zero n xs (take m (standing ++ others))))
+    subst (λ xs. AreAllAbsent n (cell zero n xs (take m (standing ++ others))))
     (sym (take_at costs more k costs_whole))
-    (subst (λ ys. AllAbsent n (cell zero n costs ys))
+    (subst (λ ys. AreAllAbsent n (cell zero n costs ys))
     (sym (take_at standing others m standing_whole)) absent)

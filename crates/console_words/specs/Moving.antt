@@ -1,7 +1,7 @@
 -- What a line does to a sheet.
 use Rattle.std.specs.Prelude.{◌≡◌, ◌⊎◌, ℕ, ℤ, List, Option, string_bytes}
 use Rattle.cost.specs.declared.Cost.{Ghosts}
-use Rattle.tables.specs.PairTables.{AllAbsent, cell}
+use Rattle.tables.specs.PairTables.{AreAllAbsent, cell}
 use Rattle.sheet.specs.Size.{IsSize, sheet_of}
 use Rattle.session.specs.declared.answer.Answer.{Answer}
 use Rattle.session.specs.declared.call.Act.{Act}
@@ -31,7 +31,7 @@ module _ {K : Type 0} (kind : Ghosts K) where
   pub record IsBlank (n : ℕ) (desk : Desk K) : Type 0 where
     pub sized : IsSize n
     pub state : state_of desk.state ≡ state_at opened (sheet_of n)
-    pub cells : AllAbsent n (cell kind.zero n desk.tables.costs.items desk.tables.standing.items)
+    pub cells : AreAllAbsent n (cell kind.zero n desk.tables.costs.items desk.tables.standing.items)
 
   -- the call was made on the sheet, and this is its answer
   abbrev pub Performs : Desk K → Act K → Option TableName → Answer K → Desk K → Type 0

@@ -7,7 +7,7 @@ use Rattle.std.specs.declared.cmp.Ordering.TheVariants.{Less, Equal, Greater}
 use Rattle.std.specs.declared.cmp.Ordering.{Ordering}
 use Rattle.std.proofs.Common.{sym, ap, ◌∙◌, arith}
 use Rattle.std.specs.Ordering.{ordering_then, is_lt, is_eq}
-use Rattle.cost.specs.Columns.{Within, columnwise, lex}
+use Rattle.cost.specs.Columns.{AreWithin, columnwise, lex}
 use Rattle.cost.specs.Kind.{KindLaws}
 use Rattle.cost.proofs.Order.{headed, headed_then}
 
@@ -38,7 +38,7 @@ then_keeps Equal p h = absurd (h refl)
 then_keeps Greater p h = refl
 
 -- all columns are within a limit just where those of both parts are
-pub within_parts : (k : ℕ) (a b : List ℤ) → Within k (a ++ b) → Within k a × Within k b
+pub within_parts : (k : ℕ) (a b : List ℤ) → AreWithin k (a ++ b) → AreWithin k a × AreWithin k b
 within_parts k [] b h = (tt, h)
 within_parts k (x ∷ a) b h = let rest = within_parts k a b h.1 in ((h.0, rest.0), rest.1)
 

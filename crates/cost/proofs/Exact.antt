@@ -8,7 +8,7 @@ use Rattle.std.proofs.lemmas.Int.{ints}
 use Rattle.std.proofs.lemmas.Bool.{leb-true, le-leb, cases_lt}
 use Rattle.std.proofs.ByRecursion.{Decides-by_and}
 use Rattle.cost.specs.declared.TheConstants.{RAIL}
-use Rattle.cost.specs.Columns.{rail_of, Within, within, columnwise, zeros, plus, minus}
+use Rattle.cost.specs.Columns.{rail_of, AreWithin, within, columnwise, zeros, plus, minus}
 use Rattle.cost.specs.Laws.{IsExact}
 
 pub rail_of_same : (z : ℤ) → nat_abs z ≤ RAIL → rail_of z ≡ z
@@ -32,15 +32,15 @@ abs_minus x y = omega (arith, ints)
 
 -- one column operation whose result is at most as large as both numbers together
 module _ (f : ℤ → ℤ → ℤ) (small : (x y : ℤ) → nat_abs (f x y) ≤ nat_abs x + nat_abs y) where
-  pub columnwise-within : (a b : ℕ) (xs ys : List ℤ) → Within a xs → Within b ys
-      → Within (a + b) (columnwise f xs ys)
+  pub columnwise-within : (a b : ℕ) (xs ys : List ℤ) → AreWithin a xs → AreWithin b ys
+      → AreWithin (a + b) (columnwise f xs ys)
   columnwise-within a b [] ys h k = tt
   columnwise-within a b (x ∷ xs) [] h k = tt
   columnwise-within a b (x ∷ xs) (y ∷ ys) h k =
       (omega (arith, small x y, h.0, k.0), columnwise-within a b xs ys h.1 k.1)
 
-  pub columnwise_exact : (a b : ℕ) (xs ys : List ℤ) → a + b ≤ RAIL → Within a xs
-      → Within b ys → columnwise (λ x y. rail_of (f x y)) xs ys ≡ columnwise f xs ys
+  pub columnwise_exact : (a b : ℕ) (xs ys : List ℤ) → a + b ≤ RAIL → AreWithin a xs
+      → AreWithin b ys → columnwise (λ x y. rail_of (f x y)) xs ys ≡ columnwise f xs ys
   columnwise_exact a b [] ys l h k = refl
   columnwise_exact a b (x ∷ xs) [] l h k = refl
   columnwise_exact a b (x ∷ xs) (y ∷ ys) l h k =
@@ -49,12 +49,12 @@ module _ (f : ℤ → ℤ → ℤ) (small : (x y : ℤ) → nat_abs (f x y) ≤ 
       columnwise_exact a b xs ys l h.1 k.1 in
       cc
 
-pub plus-within : (a b : ℕ) (xs ys : List ℤ) → Within a xs → Within b ys
-    → Within (a + b) (plus xs ys)
+pub plus-within : (a b : ℕ) (xs ys : List ℤ) → AreWithin a xs → AreWithin b ys
+    → AreWithin (a + b) (plus xs ys)
 plus-within = columnwise-within ◌+ℤ◌ abs_plus
 
-pub minus-within : (a b : ℕ) (xs ys : List ℤ) → Within a xs → Within b ys
-    → Within (a + b) (minus xs ys)
+pub minus-within : (a b : ℕ) (xs ys : List ℤ) → AreWithin a xs → AreWithin b ys
+    → AreWithin (a + b) (minus xs ys)
 minus-within = columnwise-within ◌-ℤ◌ abs_minus
 
 pub exact : IsExact RAIL
@@ -87,15 +87,15 @@ length-columnwise f [] ys e = refl
 length-columnwise f (x ∷ xs) [] e = absurd (omega arith)
 length-columnwise f (x ∷ xs) (y ∷ ys) e = ap suc (length-columnwise f xs ys (omega arith))
 
-pub within_more : (a b : ℕ) (xs : List ℤ) → a ≤ b → Within a xs → Within b xs
+pub within_more : (a b : ℕ) (xs : List ℤ) → a ≤ b → AreWithin a xs → AreWithin b xs
 within_more a b [] l h = tt
 within_more a b (x ∷ xs) l h = (omega (arith, h.0), within_more a b xs l h.1)
 
-pub zeros_within : (a n : ℕ) → Within a (zeros n)
+pub zeros_within : (a n : ℕ) → AreWithin a (zeros n)
 zeros_within a zero = tt
 zeros_within a (suc n) = (omega arith, zeros_within a n)
 
 -- the test tells the fact
-pub within_tells : (k : ℕ) (xs : List ℤ) → Decides (within k xs) (Within k xs)
+pub within_tells : (k : ℕ) (xs : List ℤ) → Decides (within k xs) (AreWithin k xs)
 within_tells k = Decides-by_and (λ x. leb (nat_abs x) k) (λ x. nat_abs x ≤ k) (within k)
     (λ x. (leb-true (nat_abs x) k, le-leb (nat_abs x) k)) refl (λ _ _. refl)

@@ -12,8 +12,8 @@ rail_of (pos k) = pos (min k RAIL)
 rail_of (negsuc k) = negsuc (min k (RAIL - 1))
 
 -- each column is from -limit to limit
-abbrev pub Within : ℕ → List ℤ → Type 0
-Within limit xs = AllByRecursion (λ x. unsigned_abs x ≤ limit) xs
+abbrev pub AreWithin : ℕ → List ℤ → Type 0
+AreWithin limit xs = AllByRecursion (λ x. unsigned_abs x ≤ limit) xs
 
 -- the same as a test
 abbrev pub within : ℕ → List ℤ → Bool

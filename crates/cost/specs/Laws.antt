@@ -3,11 +3,11 @@ use Rattle.std.specs.Prelude.{◌≡◌, ℕ, ◌+◌, ◌≤◌, List, length, 
 use Rattle.std.specs.declared.cmp.Ordering.TheVariants.{Equal}
 use Rattle.std.specs.declared.cmp.Ordering.{Ordering}
 use Rattle.std.specs.Ordering.{ordering_reverse}
-use Rattle.cost.specs.Columns.{Within, sums, differences, plus, minus, lex}
+use Rattle.cost.specs.Columns.{AreWithin, sums, differences, plus, minus, lex}
 
 -- where bounds add up to at most `reach`, the rail stops nothing
 abbrev pub IsExact : ℕ → Type 0
-IsExact reach = (a b : ℕ) (xs ys : List ℤ) → a + b ≤ reach → Within a xs → Within b ys
+IsExact reach = (a b : ℕ) (xs ys : List ℤ) → a + b ≤ reach → AreWithin a xs → AreWithin b ys
     → (sums xs ys ≡ plus xs ys) × (differences xs ys ≡ minus xs ys)
 
 -- the other way round, columns compare in reverse

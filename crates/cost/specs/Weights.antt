@@ -4,7 +4,7 @@
 use Rattle.std.specs.Prelude.{◌≡◌, ◌*◌, ◌^◌, List, [], ◌∷◌, length, ℤ, pos, ◌+ℤ◌, ◌-ℤ◌, ◌*ℤ◌}
 use Rattle.std.specs.Ordering.{int_cmp}
 use Rattle.cost.specs.declared.TheConstants.{RAIL}
-use Rattle.cost.specs.Columns.{Within, plus, minus, lex}
+use Rattle.cost.specs.Columns.{AreWithin, plus, minus, lex}
 
 -- what the columns weigh behind a front of weight a
 abbrev pub weight_from : ℤ → List ℤ → ℤ
@@ -16,7 +16,7 @@ weight xs = weight_from (pos 0) xs
 
 -- columns that weights tell apart: far wider than the rail, so that sums of values still fit
 abbrev pub IsLight : List ℤ → Type 0
-IsLight xs = Within (4000 * RAIL) xs
+IsLight xs = AreWithin (4000 * RAIL) xs
 
 -- the weights of light columns compare as the columns do
 abbrev pub WeightsCompare : Type 0

@@ -4,7 +4,7 @@
 ghost use Rattle.std.specs.Prelude.{◌≡◌, ℕ, List, ℤ};
 ghost use Rattle.std.specs.Ordering.{is_lt, is_eq};
 ghost use Rattle.cost.specs.declared.TheConstants.{HALF_RAIL};
-ghost use Rattle.cost.specs.Columns.{Within, within, sums, differences, lex};
+ghost use Rattle.cost.specs.Columns.{AreWithin, within, sums, differences, lex};
 ghost use Rattle.cost.specs.Kind.{KindLaws};
 
 mod free_kind;
@@ -69,8 +69,8 @@ pub trait Cost: Copy {
 
     /// The sum of two near values: nothing is stopped.
     fn add_near(self, other: Self) -> Self
-        requires first { Within HALF_RAIL (meaning self) }
-        requires second { Within HALF_RAIL (meaning other) }
+        requires first { AreWithin HALF_RAIL (meaning self) }
+        requires second { AreWithin HALF_RAIL (meaning other) }
         ensures { meaning result ≡ sums (meaning self) (meaning other) }
     {
         self.add(other)
@@ -78,8 +78,8 @@ pub trait Cost: Copy {
 
     /// The difference of two near values: nothing is stopped.
     fn take_away_near(self, other: Self) -> Self
-        requires first { Within HALF_RAIL (meaning self) }
-        requires second { Within HALF_RAIL (meaning other) }
+        requires first { AreWithin HALF_RAIL (meaning self) }
+        requires second { AreWithin HALF_RAIL (meaning other) }
         ensures { meaning result ≡ differences (meaning self) (meaning other) }
     {
         self.take_away(other)
@@ -87,7 +87,7 @@ pub trait Cost: Copy {
 
     /// Whether a value comes before a near one. Any value may be asked, near or not.
     fn is_less_near(self, than: Self) -> bool
-        requires { Within HALF_RAIL (meaning than) }
+        requires { AreWithin HALF_RAIL (meaning than) }
         ensures { result ≡ is_lt (lex (meaning self) (meaning than)) }
     {
         self.compare(than).is_lt()
@@ -96,7 +96,7 @@ pub trait Cost: Copy {
     /// Whether a value is the same as a near one in each column. Any value may be asked, near or
     /// not.
     fn is_equal_near(self, to: Self) -> bool
-        requires { Within HALF_RAIL (meaning to) }
+        requires { AreWithin HALF_RAIL (meaning to) }
         ensures { result ≡ is_eq (lex (meaning self) (meaning to)) }
     {
         self.compare(to).is_eq()

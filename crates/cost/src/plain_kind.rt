@@ -2,7 +2,7 @@
 
 ghost use Rattle.std.specs.Prelude.{◌≡◌, ◌≤◌, ◌↔◌, [], ◌∷◌, pos, ◌+ℤ◌, ◌-ℤ◌, unsigned_abs, IsTrue};
 ghost use Rattle.cost.specs.declared.TheConstants.{HALF_RAIL};
-ghost use Rattle.cost.specs.Columns.{Within, rail_of, sums, differences};
+ghost use Rattle.cost.specs.Columns.{AreWithin, rail_of, sums, differences};
 ghost use Rattle.std.proofs.Common.{rules};
 
 use crate::Cost;
@@ -78,8 +78,8 @@ impl Cost for Plain {
 
     // A near number means itself.
     fn add_near(self, other: Plain) -> Plain
-        requires first { Within HALF_RAIL (rail_of self.0 ∷ []) }
-        requires second { Within HALF_RAIL (rail_of other.0 ∷ []) }
+        requires first { AreWithin HALF_RAIL (rail_of self.0 ∷ []) }
+        requires second { AreWithin HALF_RAIL (rail_of other.0 ∷ []) }
         ensures means { rail_of result.0 ∷ [] ≡ sums (rail_of self.0 ∷ []) (rail_of other.0 ∷ []) }
         ensures exact { result.0 ≡ self.0 +ℤ other.0 }
     {
@@ -87,8 +87,8 @@ impl Cost for Plain {
     }
 
     fn take_away_near(self, other: Plain) -> Plain
-        requires first { Within HALF_RAIL (rail_of self.0 ∷ []) }
-        requires second { Within HALF_RAIL (rail_of other.0 ∷ []) }
+        requires first { AreWithin HALF_RAIL (rail_of self.0 ∷ []) }
+        requires second { AreWithin HALF_RAIL (rail_of other.0 ∷ []) }
         ensures means { rail_of result.0 ∷ [] ≡ differences (rail_of self.0 ∷ [])
             (rail_of other.0 ∷ []) }
         ensures exact { result.0 ≡ self.0 -ℤ other.0 }

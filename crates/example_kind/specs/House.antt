@@ -2,7 +2,7 @@
 use Rattle.std.specs.Prelude.{◌≡◌, ℕ, ◌<◌, ◌≤◌, List, [], ◌∷◌, ℤ, pos}
 use Rattle.std.specs.Int.{abs_diff}
 use Rattle.cost.specs.declared.TheConstants.{COST_LIMIT}
-use Rattle.cost.specs.Columns.{Within, rail_of}
+use Rattle.cost.specs.Columns.{AreWithin, rail_of}
 use Rattle.example_kind.specs.declared.house.Block.{Block}
 use Rattle.example_kind.specs.declared.house.HouseCost.{HouseCost}
 use Rattle.example_kind.specs.declared.house.Unfit.{Unfit}
@@ -18,7 +18,7 @@ pub record IsCostOf (time : ℕ) (left right : Block) (cost : HouseCost) : Type 
   pub wear_is : cost.wear ≡ pos (abs_diff left.erases right.erases)
   pub mixing_is : cost.mixing ≡ pos (abs_diff left.class right.class)
   -- so entering it is never refused for its range
-  pub fits : Within COST_LIMIT (house_columns cost)
+  pub fits : AreWithin COST_LIMIT (house_columns cost)
 
 -- the first of the figures that is too large for a cost
 abbrev pub IsUnfit : (time : ℕ) (left right : Block) → Unfit → Type 0

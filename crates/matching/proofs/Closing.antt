@@ -9,13 +9,13 @@ use Rattle.std.proofs.Common.{IsTrue, sym, ap, ◌∙◌, subst, inl, inr, arith
 use Rattle.std.proofs.lemmas.Bool.{cases_eq, and_parts, and_from, or_cases, or_left}
 use Rattle.std.proofs.lemmas.Bool.{lt-ltb}
 use Rattle.std.proofs.lemmas.Bool.{ltb-true}
-use Rattle.pairing.specs.Grid.{at, Perfect}
-use Rattle.pairing.specs.Chains.{Chain, here, step}
+use Rattle.pairing.specs.Grid.{at, IsPerfect}
+use Rattle.pairing.specs.Chains.{HasChain, here, step}
 use Rattle.pairing.proofs.Counting.{onto}
 
 -- a chain and one that goes on where it ends are a chain
-pub joined : {n k : ℕ} {tight : ℕ → ℕ → Bool} {p : List ℕ} {r c d : ℕ} → Chain n k tight p r c
-    → Chain n k tight p c d → Chain n k tight p r d
+pub joined : {n k : ℕ} {tight : ℕ → ℕ → Bool} {p : List ℕ} {r c d : ℕ} → HasChain n k tight p r c
+    → HasChain n k tight p c d → HasChain n k tight p r d
 joined w here = w
 joined {p = p} w (step l d le lt v t) = step l d le lt (joined w v) t
 
@@ -23,11 +23,11 @@ joined {p = p} w (step l d le lt v t) = step l d le lt (joined w v) t
 pub record Closing (n : ℕ) (tight : ℕ → ℕ → Bool) (p : List ℕ) (k : ℕ) (leads : ℕ → ℕ → Bool)
     : Type 0 where
   pub steps : (l c : ℕ) → l < n → c < n → tight l c ≡ true → leads (at p l) c ≡ true
-  pub chains : (i j : ℕ) → i < n → leads i j ≡ true → (j < n) × Chain n 0 tight p i j
+  pub chains : (i j : ℕ) → i < n → leads i j ≡ true → (j < n) × HasChain n 0 tight p i j
   pub closed : (i m j : ℕ) → i < n → m < n → m < k → leads i m ≡ true → leads m j ≡ true
       → leads i j ≡ true
 
-module _ {n : ℕ} {tight : ℕ → ℕ → Bool} {p : List ℕ} (h : Perfect n tight p) where
+module _ {n : ℕ} {tight : ℕ → ℕ → Bool} {p : List ℕ} (h : IsPerfect n tight p) where
   pub closing_start : {leads : ℕ → ℕ → Bool}
       → ((l c : ℕ) → l < n → leads (at p l) c ≡ (tight l c && nat_lt c n))
       → Closing n tight p 0 leads
@@ -38,7 +38,7 @@ module _ {n : ℕ} {tight : ℕ → ℕ → Bool} {p : List ℕ} (h : Perfect n 
         let both = and_parts (tight o.0 j) (nat_lt j n)
         (sym (is o.0 j o.1) ∙ ap (λ x. leads x j) o.2 ∙ t) in (
           ltb-true j n both.1,
-          step o.0 j (omega arith) o.1 (subst (Chain n 0 tight p i) (sym o.2) here) both.0,
+          step o.0 j (omega arith) o.1 (subst (HasChain n 0 tight p i) (sym o.2) here) both.0,
         );
     closed = λ i m j _ _ low _ _. absurd (omega arith);
   }
@@ -78,11 +78,11 @@ module _ {n : ℕ} {tight : ℕ → ℕ → Bool} {p : List ℕ} (h : Perfect n 
 
     -- at the end the pairs are just the chains from right blocks that are had
     pub closing_done : n ≤ k → (l c : ℕ) → l < n → c < n
-        → (IsTrue (leads (at p l) c) ↔ (Chain n 0 tight p (at p l) c))
+        → (IsTrue (leads (at p l) c) ↔ (HasChain n 0 tight p (at p l) c))
     closing_done all l c i j =
         (λ t. (s.chains (at p l) c (h.below l i) t).1, λ w. follow c w j)
       where
-        follow : (d : ℕ) → Chain n 0 tight p (at p l) d → d < n → leads (at p l) d ≡ true
+        follow : (d : ℕ) → HasChain n 0 tight p (at p l) d → d < n → leads (at p l) d ≡ true
         follow _ here low = s.steps l (at p l) i low (h.standing l i)
         follow _ (step m d le lt w t) low =
             s.closed (at p l) (at p m) d (h.below l i) (h.below m lt)

@@ -14,7 +14,7 @@ use Rattle.pairing.specs.Grid.{at}
 use Rattle.pairing.proofs.Filling.{Hole, took, next}
 use Rattle.matching.specs.declared.chains.Holders.{Holders}
 use Rattle.matching.specs.declared.chains.Reach.{Reach}
-use Rattle.matching.specs.Exchange.{without, Holding, Ways, Exchanged}
+use Rattle.matching.specs.Exchange.{without, AreHolders, HasWaysBack, IsExchanged}
 
 -- a left block that is out of the set without another one is out of the set
 pub without_from : (out : ℕ → Bool) (l x : ℕ) → without out l x ≡ false → (x ≡ l → ⊥)
@@ -55,7 +55,7 @@ module _ (p : List ℕ) (out : ℕ → Bool) (x : Reach) where
     pub owner : (c : ℕ) → has h.held c ≡ true → (c ≡ block → ⊥) → Owned k out q h c
 
 module _ {p : List ℕ} {out : ℕ → Bool} {x : Reach} {goal block : ℕ} {q : List ℕ}
-    (w : Ways p out x) (s : Exchanging p out x goal q block) where
+    (w : HasWaysBack p out x) (s : Exchanging p out x goal q block) where
   -- the left block that takes the right block, and the pairing then
   abbrev taker : ℕ
   taker = at x.from block
@@ -113,7 +113,7 @@ module _ {p : List ℕ} {out : ℕ → Bool} {x : Reach} {goal block : ℕ} {q :
 
   -- ---- the chain ends
 
-  pub exchange_done : out taker ≡ true → Exchanged p given out x taker
+  pub exchange_done : out taker ≡ true → IsExchanged p given out x taker
   exchange_done t = record {
     inside = s.hole.taker;
     was_out = t;
@@ -168,7 +168,7 @@ module _ {p : List ℕ} {out : ℕ → Bool} {x : Reach} {goal block : ℕ} {q :
             (λ a e. ne (sym (t.owner c held a).3 ∙ ap (at q) e));
       }
 
-      pub telling_done : out taker ≡ true → Holding k given (without out taker) told
+      pub telling_done : out taker ≡ true → AreHolders k given (without out taker) told
       telling_done o = record {
         all = λ m le i g. has_it m le (omega (arith, long)) (without_from out taker m g);
         low = λ c held. (whose c held).0;

@@ -11,7 +11,7 @@ use Rattle.pairing.specs.Grid.{at}
 use Rattle.matching.specs.declared.chains.Bounds.{Bounds}
 use Rattle.matching.specs.declared.chains.Holders.{Holders}
 use Rattle.matching.specs.declared.chains.Reach.{Reach}
-use Rattle.matching.specs.Exchange.{Holding, AreHoldersFrom, Ways}
+use Rattle.matching.specs.Exchange.{AreHolders, AreHoldersFrom, HasWaysBack}
 use Rattle.matching.specs.Search.{IsReach}
 use Rattle.matching.proofs.Alone.{IsAlone, one_not, one_other}
 
@@ -29,7 +29,7 @@ held_start {h = h} end none = record {
 module _ {l : ℕ} {p : List ℕ} {h : Holders} where
   -- from l on, all but l
   pub after_alone : {s : BlockSet} → IsAlone s l → AreHoldersFrom (l + 1) p h
-      → Holding l p (has s) h
+      → AreHolders l p (has s) h
   after_alone a w = record {
     all = λ m le lt f. elim (cases_eq m l) [
       | inl e ↦ absurd (one_other a m f e)
@@ -42,7 +42,7 @@ module _ {l : ℕ} {p : List ℕ} {h : Holders} where
   }
 
   -- told by a set of those left out that has none
-  pub all_back : {out : ℕ → Bool} → ((m : ℕ) → out m ≡ false) → Holding l p out h
+  pub all_back : {out : ℕ → Bool} → ((m : ℕ) → out m ≡ false) → AreHolders l p out h
       → AreHoldersFrom l p h
   all_back all w = record {
     all = λ m le lt _. w.all m le lt (all m);
@@ -54,7 +54,7 @@ module _ {l : ℕ} {p : List ℕ} {h : Holders} where
 
   -- the ways of a search, told by the pairing
   pub ways_from : {rows : List BlockSet} {b : Bounds} {x : Reach} → length p ≡ length rows
-      → IsReach rows b h x → Holding l p (has b.roots) h → Ways p (has b.roots) x
+      → IsReach rows b h x → AreHolders l p (has b.roots) h → HasWaysBack p (has b.roots) x
   ways_from {b = b} {x = x} len w hold = record {
     inside = λ c t. omega (arith, w.small c t);
     taker = λ c t. omega (arith, w.high c t);

@@ -14,9 +14,9 @@ use Rattle.std.proofs.lemmas.Bool.{cases_Bool, and_parts, and_from, cond-true}
 use Rattle.std.proofs.lemmas.Bool.{cond-false}
 use Rattle.blockset.specs.declared.BlockSet.{BlockSet}
 use Rattle.pairing.specs.Grid.{at}
-use Rattle.pairing.specs.Chains.{Chain, here, step}
+use Rattle.pairing.specs.Chains.{HasChain, here, step}
 use Rattle.pairing.specs.Optima.{has_pair}
-use Rattle.pairing.specs.Rows.{holds, Pairs, pairings}
+use Rattle.pairing.specs.Rows.{holds, IsPerfectOver, pairings}
 use Rattle.pairing.proofs.Counting.{onto}
 use Rattle.pairing.proofs.Sending.{sends_if_chain}
 use Rattle.pairing.proofs.Listing.{in_perfects, has_tells}
@@ -49,10 +49,10 @@ classes_more n led before after class c old is i a = elim (cases_Bool (class i))
       elim (old i a) [ inl e ↦ inl (λ j. stays j ∙ e j) | inr e ↦ inr (λ j b. stays j ∙ e j b) ]
 ]
 
-module _ (rows : List BlockSet) {p : List ℕ} (h : Pairs rows p) (led : List BlockSet)
+module _ (rows : List BlockSet) {p : List ℕ} (h : IsPerfectOver rows p) (led : List BlockSet)
     (leads : AreLeads rows p led) where
   abbrev Leads : ℕ → ℕ → Type 0
-  Leads i j = Chain (length rows) 0 (holds rows) p i j
+  Leads i j = HasChain (length rows) 0 (holds rows) p i j
 
   tells : (i j : ℕ) → i < length rows → j < length rows → IsTrue (holds led i j) ↔ Leads i j
   tells i j a b =

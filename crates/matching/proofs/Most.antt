@@ -16,14 +16,14 @@ use Rattle.blockset.specs.Has.{has, IsEmpty}
 use Rattle.blockset.specs.Sets.{members, bit}
 use Rattle.blockset.proofs.Members.{members_none, members-within}
 use Rattle.pairing.specs.Grid.{at}
-use Rattle.pairing.specs.Largest.{Partial, Largest, CrowdSet, Unpaired}
-use Rattle.pairing.specs.Chains.{Reached, free, onward, Stuck}
+use Rattle.pairing.specs.Largest.{IsPartial, IsLargest, IsCrowdSet, HasNoPerfect}
+use Rattle.pairing.specs.Chains.{IsReached, free, onward, IsStuck}
 use Rattle.pairing.specs.Rows.{holds}
 use Rattle.pairing.proofs.Crowds.{stuck_largest, reached_crowd, reached_inside, short_by}
 use Rattle.matching.specs.declared.chains.Bounds.{Bounds}
 use Rattle.matching.specs.declared.chains.Holders.{Holders}
 use Rattle.matching.specs.declared.chains.Reach.{Reach}
-use Rattle.matching.specs.Exchange.{without, GivesDistinct, Holding, Exchanged}
+use Rattle.matching.specs.Exchange.{without, GivesDistinct, AreHolders, IsExchanged}
 use Rattle.matching.specs.Search.{is_along, IsReach, IsComplete}
 use Rattle.matching.proofs.Exchanging.{without_from}
 
@@ -39,9 +39,9 @@ along-holds rows b l c a = (and_parts (holds rows l c) _ a).0
 -- a pairing so far: over the rows, with `out` left out, and the holders are those of it
 pub record Pairing (rows : List BlockSet) (p : List ℕ) (out : BlockSet) (h : Holders) : Type 0 where
   pub few : length rows ≤ MOST_BLOCKS
-  pub part : Partial (length rows) (holds rows) p (has out)
+  pub part : IsPartial (length rows) (holds rows) p (has out)
   pub inside : (l : ℕ) → has out l ≡ true → l < length rows
-  pub holders : Holding 0 p (has out) h
+  pub holders : AreHolders 0 p (has out) h
 
 module _ {rows : List BlockSet} {p : List ℕ} {b : Bounds} {h : Holders} {x : Reach}
     (w : IsReach rows b h x) (s : Pairing rows p b.roots h) where
@@ -55,13 +55,13 @@ module _ {rows : List BlockSet} {p : List ℕ} {b : Bounds} {h : Holders} {x : R
 
   -- the exchange pairs one more
   pub paired_more : {q : List ℕ} {l : ℕ} {out' : BlockSet} {h' : Holders}
-      → Exchanged p q (has b.roots) x l
+      → IsExchanged p q (has b.roots) x l
       → ((j : ℕ) → has out' j ≡ without (has b.roots) l j)
-      → Holding 0 q (without (has b.roots) l) h'
+      → AreHolders 0 q (without (has b.roots) l) h'
       → Pairing rows q out' h'
   paired_more {q = q} {l = l} {out' = out'} {h' = h'} f is told = record {
     few = s.few;
-    part = subst (Partial (length rows) (holds rows) q) (sym (fun_ext is)) (record {
+    part = subst (IsPartial (length rows) (holds rows) q) (sym (fun_ext is)) (record {
       len = whole.len;
       below = whole.below;
       standing = λ j i o. elim (f.came j (omega (arith, s.part.len))) [
@@ -73,7 +73,7 @@ module _ {rows : List BlockSet} {p : List ℕ} {b : Bounds} {h : Holders} {x : R
       once = whole.once;
     });
     inside = λ j t. s.inside j (let e = is j in grind arith);
-    holders = subst (λ o. Holding 0 q o h') (sym (fun_ext is)) told;
+    holders = subst (λ o. AreHolders 0 q o h') (sym (fun_ext is)) told;
   }
     where
       whole : GivesDistinct (length rows) q (without (has b.roots) l)
@@ -83,10 +83,10 @@ module _ {rows : List BlockSet} {p : List ℕ} {b : Bounds} {h : Holders} {x : R
 
   module _ (d : IsComplete rows b h x) (wide : IsWide (length rows) b)
       (taken : (c : ℕ) → has x.reached c ≡ true → has h.held c ≡ true) where
-    abbrev IsReached : ℕ → Type 0
-    IsReached = Reached (length rows) (holds rows) p (has b.roots)
+    abbrev IsReachedFromOut : ℕ → Type 0
+    IsReachedFromOut = IsReached (length rows) (holds rows) p (has b.roots)
 
-    inside : (l : ℕ) → IsReached l → l < length rows
+    inside : (l : ℕ) → IsReachedFromOut l → l < length rows
     inside l v = reached_inside (length rows) (holds rows) p (has b.roots) l v
 
     owner_below : (c : ℕ) → has h.held c ≡ true → at h.owner c < length rows
@@ -117,28 +117,29 @@ module _ {rows : List BlockSet} {p : List ℕ} {b : Bounds} {h : Holders} {x : R
               had (subst (λ k. is_along rows b k c ≡ true) (sym whose) on)
         ]
 
-    reached_row : (l : ℕ) → IsReached l
+    reached_row : (l : ℕ) → IsReachedFromOut l
         → (has b.roots l ≡ true) ⊎ (has x.reached (at p l) ≡ true)
     reached_row _ (free l i t) = inl t
     reached_row _ (onward l m v i f t) =
         inr (takes l (at p m) (inside l v) (s.part.below m i f) t (reached_row l v))
 
     -- no augmenting path is left
-    stuck : Stuck (length rows) (holds rows) p (has b.roots)
+    stuck : IsStuck (length rows) (holds rows) p (has b.roots)
     stuck l r v j t =
         let had = taken r (takes l r (inside l v) j t (reached_row l v)) in
         (at h.owner r, owner_below r had, s.holders.inside r had, s.holders.owner r had)
 
-    pub most : Largest (length rows) (holds rows) p (has b.roots)
+    pub most : IsLargest (length rows) (holds rows) p (has b.roots)
     most = stuck_largest (length rows) (holds rows) p (has b.roots) s.part stuck
 
-    from_reached : (k c : ℕ) → at x.rank c < k → has x.reached c ≡ true → IsReached (at x.from c)
+    from_reached : (k c : ℕ) → at x.rank c < k → has x.reached c ≡ true
+        → IsReachedFromOut (at x.from c)
     from_reached zero c less t = absurd (omega arith)
     from_reached (suc k) c less t = elim (w.back c t) [
       | inl r ↦ free (at x.from c) (w.high c t) r
       | inr v ↦
           let e = v.0 in
-          subst IsReached v.3
+          subst IsReachedFromOut v.3
           (onward (at x.from e) (at h.owner e) (from_reached k e (omega (arith, v.4)) v.1)
           (owner_below e v.2) (s.holders.inside e v.2)
           (ap (holds rows (at x.from e)) (s.holders.owner e v.2)
@@ -148,7 +149,7 @@ module _ {rows : List BlockSet} {p : List ℕ} {b : Bounds} {h : Holders} {x : R
     module _ (X : ℕ → Bool)
         (is : (l : ℕ) → X l
         ≡ (has b.roots l || (nat_lt l (length p) && has x.reached (at p l)))) where
-      crowd_reached : (l : ℕ) → IsTrue (X l) ↔ IsReached l
+      crowd_reached : (l : ℕ) → IsTrue (X l) ↔ IsReachedFromOut l
       crowd_reached l = (
         λ t. elim (cases_Bool (has b.roots l)) [
           | inl o ↦ free l (s.inside l o) o
@@ -175,9 +176,9 @@ module _ {rows : List BlockSet} {p : List ℕ} {b : Bounds} {h : Holders} {x : R
       -- so the crowd set and its shortage are known, where some left block is left out
       pub unpaired : (crowd short : ℕ) → ((l : ℕ) → bit crowd l ≡ X l)
           → short ≡ members SET_WIDTH (has b.roots) → (IsEmpty b.roots → ⊥)
-          → Unpaired (length rows) (holds rows) crowd short
+          → HasNoPerfect (length rows) (holds rows) crowd short
       unpaired crowd short bits counted some =
-          let crowd_set : CrowdSet (length rows) (holds rows) (bit crowd) = λ l.
+          let crowd_set : IsCrowdSet (length rows) (holds rows) (bit crowd) = λ l.
           let e = reached_crowd (length rows) (holds rows) p (has b.roots) most l in
           Decides-at (bit crowd l) (X l) (bits l) (Decides-like (X l) e.0 e.1 (crowd_reached l)) in
           let number : members (length rows) (has b.roots) ≡ short =

@@ -11,23 +11,24 @@ use Rattle.std.proofs.lemmas.List.{ext_get_or}
 use Rattle.std.proofs.lemmas.Bool.{cases_eq, cases_order, both_ways, or_right}
 use Rattle.blockset.specs.declared.BlockSet.{BlockSet}
 use Rattle.pairing.specs.Grid.{at}
-use Rattle.pairing.specs.Optima.{Before}
-use Rattle.pairing.specs.Chains.{Agree}
-use Rattle.pairing.specs.Rows.{holds, Pairs}
+use Rattle.pairing.specs.Optima.{IsBefore}
+use Rattle.pairing.specs.Chains.{AgreeBelow}
+use Rattle.pairing.specs.Rows.{holds, IsPerfectOver}
 use Rattle.pairing.proofs.Counting.{onto}
 use Rattle.matching.specs.Improving.{IsImproved, IsUnimproved, IsFirstFrom, HasWantedFrom}
 
 -- `after` is the pairing that comes next after `before`
 pub record IsNext (rows : List BlockSet) (before after : List ℕ) : Type 0 where
-  pub pairs : Pairs rows after
-  pub later : Before before after
-  pub first : (q : List ℕ) → Pairs rows q → Before before q → (q ≡ after) ⊎ Before after q
+  pub pairs : IsPerfectOver rows after
+  pub later : IsBefore before after
+  pub first : (q : List ℕ) → IsPerfectOver rows q → IsBefore before q
+      → (q ≡ after) ⊎ IsBefore after q
 
 -- p is less than q at the first left block where they differ, one below l
 abbrev pub IsLess : ℕ → List ℕ → List ℕ → Type 0
-IsLess l p q = (k : ℕ) × (k < l) × Agree k p q × (at p k < at q k)
+IsLess l p q = (k : ℕ) × (k < l) × AgreeBelow k p q × (at p k < at q k)
 
-less_before : (n : ℕ) (p q : List ℕ) → length p ≡ n → length q ≡ n → IsLess n p q → Before p q
+less_before : (n : ℕ) (p q : List ℕ) → length p ≡ n → length q ≡ n → IsLess n p q → IsBefore p q
 less_before zero p q e f w = absurd (omega (arith, w.1))
 less_before (suc n) [] q e f w = absurd (omega arith)
 less_before (suc n) (x ∷ p) [] e f w = absurd (omega arith)
@@ -39,7 +40,7 @@ less_before (suc n) (x ∷ p) (y ∷ q) e f (suc k, b, a, h) =
           (k, omega arith, λ i j. a (suc i) (omega arith), h),
     )
 
-before_less : (n : ℕ) (p q : List ℕ) → length p ≡ n → length q ≡ n → Before p q → IsLess n p q
+before_less : (n : ℕ) (p q : List ℕ) → length p ≡ n → length q ≡ n → IsBefore p q → IsLess n p q
 before_less n [] [] e f w = absurd w
 before_less n [] (y ∷ q) e f w = absurd (omega arith)
 before_less n (x ∷ p) [] e f w = absurd w
@@ -49,22 +50,23 @@ before_less (suc n) (x ∷ p) (y ∷ q) e f (inr h) =
     let w = before_less n p q (omega arith) (omega arith) h.1 in
     (suc w.0, omega (arith, w.1), agree_cons w.0 w.2, w.3)
   where
-    agree_cons : (k : ℕ) → Agree k p q → Agree (suc k) (x ∷ p) (y ∷ q)
+    agree_cons : (k : ℕ) → AgreeBelow k p q → AgreeBelow (suc k) (x ∷ p) (y ∷ q)
     agree_cons k a zero j = sym h.0
     agree_cons k a (suc i) j = a i (omega arith)
 
-agree_more : (l : ℕ) (p q : List ℕ) → Agree l p q → at q l ≡ at p l → Agree (l + 1) p q
+agree_more : (l : ℕ) (p q : List ℕ) → AgreeBelow l p q → at q l ≡ at p l → AgreeBelow (l + 1) p q
 agree_more l p q a e i h = elim (cases_eq i l) [ inl s ↦ rw s e | inr ne ↦ a i (omega arith) ]
 
 -- no pairing that agrees with p below l comes after it
 abbrev pub IsExhausted : (rows : List BlockSet) (l : ℕ) (p : List ℕ) → Type 0
-IsExhausted rows l p = (q : List ℕ) → Pairs rows q → Agree l p q → Before p q → ⊥
+IsExhausted rows l p = (q : List ℕ) → IsPerfectOver rows q → AgreeBelow l p q → IsBefore p q → ⊥
 
 -- of the pairings that agree with start below low, each agrees with p below l or comes later
 pub record Settling (rows : List BlockSet) (low l : ℕ) (start p : List ℕ) : Type 0 where
-  pub pairs : Pairs rows p
-  pub kept : Agree low start p
-  pub first : (q : List ℕ) → Pairs rows q → Agree low start q → Agree l p q ⊎ IsLess l p q
+  pub pairs : IsPerfectOver rows p
+  pub kept : AgreeBelow low start p
+  pub first : (q : List ℕ) → IsPerfectOver rows q → AgreeBelow low start q
+      → AgreeBelow l p q ⊎ IsLess l p q
 
 module _ {rows : List BlockSet} {low l : ℕ} {start p : List ℕ} (s : Settling rows low l start p)
   where
@@ -81,7 +83,7 @@ module _ {rows : List BlockSet} {low l : ℕ} {start p : List ℕ} (s : Settling
           omega (arith, v.3, w.kept v.0 v.1),
         )
         | inl b ↦
-            let c : Agree l p' q = λ i h. b i h ∙ sym (w.kept i h) in
+            let c : AgreeBelow l p' q = λ i h. b i h ∙ sym (w.kept i h) in
             let no_more = w.least q g b (omega arith) in
             elim (cases_eq (at q l) (at p' l)) [
               | inl e ↦ inl (agree_more l p' q c e)
@@ -106,8 +108,8 @@ module _ {rows : List BlockSet} {low l : ℕ} {start p : List ℕ} (s : Settling
       ];
     }
 
-module _ (rows : List BlockSet) (p : List ℕ) (h : Pairs rows p) where
-  less : (q : List ℕ) → Pairs rows q → Before p q → IsLess (length rows) p q
+module _ (rows : List BlockSet) (p : List ℕ) (h : IsPerfectOver rows p) where
+  less : (q : List ℕ) → IsPerfectOver rows q → IsBefore p q → IsLess (length rows) p q
   less q g b = before_less (length rows) p q h.len g.len b
 
   pub exhausted_start : IsExhausted rows (length rows) p
@@ -138,7 +140,7 @@ module _ (rows : List BlockSet) (p : List ℕ) (h : Pairs rows p) where
           let v = less q g b in
           elim (cases_order v.0 l) [
             | inl z ↦
-                let a : Agree l p q = λ i j. v.2 i (omega arith) in
+                let a : AgreeBelow l p q = λ i j. v.2 i (omega arith) in
                 let up : at p l < at q l = omega (arith, v.3, ap (at p) z, ap (at q) z) in
                 let most = w.least q g a (omega arith) in
                 elim (cases_eq (at q l) (at p₁ l)) [
@@ -158,7 +160,7 @@ module _ (rows : List BlockSet) (p : List ℕ) (h : Pairs rows p) where
           ];
     }
       where
-        same : Agree l p p₂
+        same : AgreeBelow l p p₂
         same i j = s.kept i (omega arith) ∙ w.kept i j
 
         top : at p₂ l ≡ at p₁ l
@@ -172,7 +174,7 @@ module _ (rows : List BlockSet) (p : List ℕ) (h : Pairs rows p) where
     unwanted wanted w free =
         record { same = refl; none = λ q g a. omega (arith, keeps q g a) }
       where
-        keeps : (q : List ℕ) → Pairs rows q → Agree l p q → at q l ≡ at p l
+        keeps : (q : List ℕ) → IsPerfectOver rows q → AgreeBelow l p q → at q l ≡ at p l
         keeps q g a =
             let o = onto (length rows) (holds rows) q g (at p l) (h.below l inside) in
             elim (cases_order o.0 l) [

@@ -14,14 +14,14 @@ use Rattle.blockset.specs.Has.{has, IsEmpty, IsLeast}
 use Rattle.blockset.specs.Sets.{members}
 use Rattle.blockset.proofs.Members.{members_less}
 use Rattle.pairing.specs.Grid.{at}
-use Rattle.pairing.specs.Chains.{Agree, Chain, here, step}
-use Rattle.pairing.specs.Rows.{holds, Pairs}
+use Rattle.pairing.specs.Chains.{AgreeBelow, HasChain, here, step}
+use Rattle.pairing.specs.Rows.{holds, IsPerfectOver}
 use Rattle.pairing.proofs.Sending.{sends_if_chain}
 use Rattle.matching.specs.declared.chains.Bounds.{Bounds}
 use Rattle.matching.specs.declared.chains.Holders.{Holders}
 use Rattle.matching.specs.declared.chains.Reach.{Reach}
-use Rattle.matching.specs.Exchange.{without, GivesDistinct, Holding, AreHoldersFrom, Ways}
-use Rattle.matching.specs.Exchange.{Exchanged}
+use Rattle.matching.specs.Exchange.{without, GivesDistinct, AreHolders, AreHoldersFrom, HasWaysBack}
+use Rattle.matching.specs.Exchange.{IsExchanged}
 use Rattle.matching.specs.Search.{is_along, IsReach, IsComplete}
 use Rattle.matching.specs.Improving.{IsImproved, IsUnimproved}
 use Rattle.matching.proofs.Alone.{IsAlone, one_in, one_is, one_not, one_other, none_left}
@@ -36,7 +36,7 @@ candidate rows l floor live c = (holds rows l c && has live c) && not (nat_lt c 
 pub record Trying (rows : List BlockSet) (l floor : ℕ) (p : List ℕ) (h : Holders)
     (live candidates : BlockSet) : Type 0 where
   pub few : length rows ≤ MOST_BLOCKS
-  pub pairs : Pairs rows p
+  pub pairs : IsPerfectOver rows p
   pub room : l < length rows
   pub holders : AreHoldersFrom (l + 1) p h
   pub within : (c : ℕ) → has live c ≡ true → (m : ℕ) × (l ≤ m) × (m < length rows) × (at p m ≡ c)
@@ -55,7 +55,8 @@ pub record Sending (rows : List BlockSet) (l : ℕ) (p : List ℕ) (b : Bounds) 
 
 -- before the first search all right blocks of left blocks from l on are live
 pub trying_start : {rows : List BlockSet} {l floor : ℕ} {p : List ℕ} {h : Holders}
-    {live candidates : BlockSet} → length rows ≤ MOST_BLOCKS → Pairs rows p → l < length rows
+    {live candidates : BlockSet} → length rows ≤ MOST_BLOCKS → IsPerfectOver rows p
+    → l < length rows
     → AreHoldersFrom (l + 1) p h → (goals : BlockSet)
     → ((j : ℕ) → has goals j ≡ (nat_lt j SET_WIDTH && j == at p l))
     → ((j : ℕ) → has live j ≡ (has h.held j || has goals j))
@@ -93,7 +94,7 @@ trying_start {rows = rows} {l = l} {p = p} {h = h} {live = live} few pairs room 
 
 module _ {rows : List BlockSet} {l floor : ℕ} {p : List ℕ} {h : Holders}
     {live candidates : BlockSet} (t : Trying rows l floor p h live candidates) where
-  stays_shut : (r : ℕ) → has live r ≡ false → (c : ℕ) → Chain (length rows) l (holds rows) p r c
+  stays_shut : (r : ℕ) → has live r ≡ false → (c : ℕ) → HasChain (length rows) l (holds rows) p r c
       → (x : ℕ) → l ≤ x → x < length rows → at p x ≡ c → has live c ≡ false
   stays_shut r f _ here x low high e = f
   stays_shut r f _ (step m c le lt w ok) x low high e =
@@ -101,7 +102,7 @@ module _ {rows : List BlockSet} {l floor : ℕ} {p : List ℕ} {h : Holders}
       (ap (holds rows m) e ∙ ok)
 
   -- what a pairing gives l is live, and if not below the floor a candidate
-  sent_live : (q : List ℕ) → Pairs rows q → Agree l p q → has live (at q l) ≡ true
+  sent_live : (q : List ℕ) → IsPerfectOver rows q → AgreeBelow l p q → has live (at q l) ≡ true
   sent_live q g a = elim (cases_Bool (has live (at q l))) [
     | inl o ↦ o
     | inr f ↦
@@ -112,7 +113,7 @@ module _ {rows : List BlockSet} {l floor : ℕ} {p : List ℕ} {h : Holders}
         (stays_shut (at q l) f (at p l) chain l (omega arith) t.room refl) t.own)
   ]
 
-  sent_candidate : (q : List ℕ) → Pairs rows q → Agree l p q → floor ≤ at q l
+  sent_candidate : (q : List ℕ) → IsPerfectOver rows q → AgreeBelow l p q → floor ≤ at q l
       → has candidates (at q l) ≡ true
   sent_candidate q g a up =
       let e = t.left (at q l) in
@@ -121,7 +122,7 @@ module _ {rows : List BlockSet} {l floor : ℕ} {p : List ℕ} {h : Holders}
       grind (arith, nat_tests)
 
   -- so no pairing has one below the least candidate
-  least : {r : ℕ} → IsLeast candidates r → (q : List ℕ) → Pairs rows q → Agree l p q
+  least : {r : ℕ} → IsLeast candidates r → (q : List ℕ) → IsPerfectOver rows q → AgreeBelow l p q
       → floor ≤ at q l → r ≤ at q l
   least {r = r} first q g a up = elim (cases_lt (at q l) r) [
     | inl less ↦
@@ -148,7 +149,8 @@ module _ {rows : List BlockSet} {l floor : ℕ} {p : List ℕ} {h : Holders}
       (grind arith, grind arith, ltb-false r floor (grind arith))
 
   -- a pairing that gives l the least candidate is improved
-  pub improved : {r : ℕ} {q : List ℕ} → IsLeast candidates r → Pairs rows q → Agree l p q
+  pub improved : {r : ℕ} {q : List ℕ} → IsLeast candidates r → IsPerfectOver rows q
+      → AgreeBelow l p q
       → at q l ≡ r → IsImproved rows l floor p q
   improved first g a e = record {
     pairs = g;
@@ -177,7 +179,7 @@ module _ {rows : List BlockSet} {l r floor : ℕ} {p : List ℕ} {b : Bounds} {h
     {candidates : BlockSet} (f : Sending rows l p b r)
     (t : Trying rows l floor p h b.live candidates) where
   -- the holders of the left blocks from l on, l left out
-  hold : Holding l p (has b.roots) h
+  hold : AreHolders l p (has b.roots) h
   hold = after_alone f.roots t.holders
 
   pub along_inside : (m c : ℕ) → is_along rows b m c ≡ true → c < length rows
@@ -206,7 +208,7 @@ module _ {rows : List BlockSet} {l r floor : ℕ} {p : List ℕ} {b : Bounds} {h
       (t.pairs.once m l (omega (arith, t.pairs.len)) t.room (e ∙ one_is f.goals c g))
 
   module _ {x : Reach} (w : IsReach rows b h x) where
-    pub sending_ways : Ways p (has b.roots) x
+    pub sending_ways : HasWaysBack p (has b.roots) x
     sending_ways = ways_from t.pairs.len w hold
 
     -- it came by no left block before l
@@ -278,7 +280,7 @@ module _ {rows : List BlockSet} {l r floor : ℕ} {p : List ℕ} {b : Bounds} {h
 
     -- ---- it came to l's own right block, and the pairs along the chain were exchanged
 
-    module _ {q : List ℕ} {paired : ℕ} (e : Exchanged p q (has b.roots) x paired) where
+    module _ {q : List ℕ} {paired : ℕ} (e : IsExchanged p q (has b.roots) x paired) where
       all : (m : ℕ) → without (has b.roots) paired m ≡ false
       all = none_left f.roots paired e.was_out
 
@@ -290,7 +292,7 @@ module _ {rows : List BlockSet} {l r floor : ℕ} {p : List ℕ} {b : Bounds} {h
           ⊎ ((has x.reached (at q m) ≡ true) × (at x.from (at q m) ≡ m))
       came m i = e.came m (omega (arith, t.pairs.len))
 
-      pub sent_pairs : Pairs rows q
+      pub sent_pairs : IsPerfectOver rows q
       sent_pairs =
           let whole = subst (λ n. GivesDistinct n q (without (has b.roots) paired)) t.pairs.len
           e.distinct in
@@ -318,12 +320,12 @@ module _ {rows : List BlockSet} {l r floor : ℕ} {p : List ℕ} {b : Bounds} {h
 
       pub sent_holders : {h' : Holders}
           → ((k : ℕ) → ((c : ℕ) → has x.reached c ≡ true → k ≤ at x.from c)
-          → Holding k p (has b.roots) h → Holding k q (without (has b.roots) paired) h')
+          → AreHolders k p (has b.roots) h → AreHolders k q (without (has b.roots) paired) h')
           → AreHoldersFrom l q h'
       sent_holders told = all_back all (told l from_later hold)
 
 -- a pairing gives different right blocks, whichever left blocks are left out
-pub pairs_distinct : (rows : List BlockSet) {p : List ℕ} → Pairs rows p → (out : ℕ → Bool)
+pub pairs_distinct : (rows : List BlockSet) {p : List ℕ} → IsPerfectOver rows p → (out : ℕ → Bool)
     → GivesDistinct (length p) p out
 pairs_distinct rows {p = p} h out = subst (λ n. GivesDistinct n p out) (sym h.len) (record {
   len = h.len;

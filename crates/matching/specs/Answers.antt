@@ -4,7 +4,7 @@ use Rattle.std.specs.Prelude.{if◌then◌else◌}
 use Rattle.blockset.specs.declared.BlockSet.{BlockSet}
 use Rattle.blockset.specs.Has.{has}
 use Rattle.pairing.specs.Grid.{at}
-use Rattle.pairing.specs.Largest.{Largest, Unpaired}
+use Rattle.pairing.specs.Largest.{IsLargest, HasNoPerfect}
 use Rattle.pairing.specs.Optima.{has_pair}
 use Rattle.matching.specs.declared.stepping.Step.{Step}
 use Rattle.matching.specs.declared.stepping.Step.TheVariants.{Next, End}
@@ -12,7 +12,7 @@ use Rattle.matching.specs.declared.augmenting.Found.{Found}
 use Rattle.matching.specs.declared.augmenting.Found.TheVariants.{Perfect, Short}
 use Rattle.matching.specs.declared.augmenting.Shortfall.{Shortfall}
 use Rattle.pairing.specs.Places.{place_of, rights_of}
-use Rattle.pairing.specs.Rows.{holds, Pairs}
+use Rattle.pairing.specs.Rows.{holds, IsPerfectOver}
 
 -- p is what stands at place i of the list
 abbrev pub IsNth : List (List ℕ) → ℕ → List ℕ → Type 0
@@ -28,20 +28,20 @@ Follows pairings before after End = (i : ℕ) × IsNth pairings i before × (i +
 
 -- the table says at the place of each pair of n left blocks and their right blocks, by 1 or 0,
 -- whether any of the pairings has it
-abbrev pub MarksOf : ℕ → List (List ℕ) → List ℕ → Type 0
-MarksOf n pairings table = (l r : ℕ) → l < n → r < rights_of n → at table (place_of n l r)
+abbrev pub AreMarksOf : ℕ → List (List ℕ) → List ℕ → Type 0
+AreMarksOf n pairings table = (l r : ℕ) → l < n → r < rights_of n → at table (place_of n l r)
     ≡ (if has_pair l r pairings then 1 else 0)
 
 -- the list is a largest pairing that leaves just the left blocks of `out` out, whose places are as
 -- they were, and no pairing is perfect; the crowd set and its shortage say why
 pub record FallsShort (rows : List BlockSet) (before after : List ℕ) (out : BlockSet)
     (s : Shortfall) : Type 0 where
-  pub largest : Largest (length rows) (holds rows) after (has out)
+  pub largest : IsLargest (length rows) (holds rows) after (has out)
   pub inside : (l : ℕ) → has out l ≡ true → l < length rows
   pub kept : (l : ℕ) → l < length rows → has out l ≡ true → at after l ≡ at before l
-  pub unpaired : Unpaired (length rows) (holds rows) s.crowd s.short
+  pub unpaired : HasNoPerfect (length rows) (holds rows) s.crowd s.short
 
 -- the list is a perfect pairing, or else a largest one
 abbrev pub PairsMost : List BlockSet → List ℕ → List ℕ → Found → Type 0
-PairsMost rows before after Perfect = Pairs rows after
+PairsMost rows before after Perfect = IsPerfectOver rows after
 PairsMost rows before after (Short out s) = FallsShort rows before after out s

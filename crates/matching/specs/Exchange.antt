@@ -6,7 +6,7 @@ use Rattle.blockset.specs.Has.{has}
 use Rattle.matching.specs.declared.chains.Holders.{Holders}
 use Rattle.matching.specs.declared.chains.Reach.{Reach}
 use Rattle.pairing.specs.Grid.{at}
-use Rattle.pairing.specs.Largest.{Partial}
+use Rattle.pairing.specs.Largest.{IsPartial}
 use Rattle.pairing.specs.Places.{rights_of}
 
 -- a set without one block
@@ -15,11 +15,11 @@ without set block j = set j && not (j == block)
 
 -- p gives those of n left blocks that are not in `out` right blocks, no two of them the same
 abbrev pub GivesDistinct : (n : ℕ) (p : List ℕ) (out : ℕ → Bool) → Type 0
-GivesDistinct n p out = Partial n (λ _ _. true) p out
+GivesDistinct n p out = IsPartial n (λ _ _. true) p out
 
 -- the holders tell which right blocks those left blocks of p from k on have that are not in `out`,
 -- and whose each is
-pub record Holding (k : ℕ) (p : List ℕ) (out : ℕ → Bool) (h : Holders) : Type 0 where
+pub record AreHolders (k : ℕ) (p : List ℕ) (out : ℕ → Bool) (h : Holders) : Type 0 where
   pub all : (l : ℕ) → k ≤ l → l < length p → out l ≡ false → has h.held (at p l) ≡ true
   pub low : (c : ℕ) → has h.held c ≡ true → k ≤ at h.owner c
   pub high : (c : ℕ) → has h.held c ≡ true → at h.owner c < length p
@@ -28,12 +28,12 @@ pub record Holding (k : ℕ) (p : List ℕ) (out : ℕ → Bool) (h : Holders) :
 
 -- the holders tell which right blocks the left blocks from k on have, and whose each is
 abbrev pub AreHoldersFrom : ℕ → List ℕ → Holders → Type 0
-AreHoldersFrom k p h = Holding k p (λ _. false) h
+AreHoldersFrom k p h = AreHolders k p (λ _. false) h
 
 -- The ways back from the reached right blocks: each is reached from a left block of `out`, or from
 -- one whose right block is reached too and has a smaller rank. So a way back is an alternating
 -- path, and from a right block that is free an augmenting path.
-pub record Ways (p : List ℕ) (out : ℕ → Bool) (x : Reach) : Type 0 where
+pub record HasWaysBack (p : List ℕ) (out : ℕ → Bool) (x : Reach) : Type 0 where
   pub inside : (c : ℕ) → has x.reached c ≡ true → c < rights_of (length p)
   pub taker : (c : ℕ) → has x.reached c ≡ true → at x.from c < length p
   pub back : (c : ℕ) → has x.reached c ≡ true → out (at x.from c) ≡ false
@@ -42,7 +42,7 @@ pub record Ways (p : List ℕ) (out : ℕ → Bool) (x : Reach) : Type 0 where
 
 -- The pairs along an augmenting path are exchanged: one more left block, `paired`, has a right
 -- block. Each left block that has another right block than before has one that is reached from it.
-pub record Exchanged (before after : List ℕ) (out : ℕ → Bool) (x : Reach) (paired : ℕ) : Type 0
+pub record IsExchanged (before after : List ℕ) (out : ℕ → Bool) (x : Reach) (paired : ℕ) : Type 0
   where
     pub inside : paired < length before
     pub was_out : out paired ≡ true

@@ -4,13 +4,13 @@ use Rattle.blockset.specs.declared.TheConstants.{MOST_BLOCKS}
 use Rattle.blockset.specs.declared.BlockSet.{BlockSet}
 use Rattle.matching.specs.declared.fitting.Unfit.{Unfit}
 use Rattle.matching.specs.declared.fitting.Unfit.TheVariants.{Size, Length, Pairing}
-use Rattle.pairing.specs.Rows.{Pairs}
+use Rattle.pairing.specs.Rows.{IsPerfectOver}
 
 -- at most 64 rows, and a perfect pairing over them
-pub record Fits (rows : List BlockSet) (p : List ℕ) : Type 0 where
+pub record FitsRows (rows : List BlockSet) (p : List ℕ) : Type 0 where
   pub small : length rows ≤ MOST_BLOCKS
   pub sized : length p ≡ length rows
-  pub paired : Pairs rows p
+  pub paired : IsPerfectOver rows p
 
 -- the cause is the first that applies: more than 64 rows, a wrong length, a list that is no perfect
 -- pairing
@@ -20,8 +20,8 @@ IsFirstCause n lengths paired Length = (n ≤ MOST_BLOCKS) × (lengths → ⊥)
 IsFirstCause n lengths paired Pairing = (n ≤ MOST_BLOCKS) × lengths × (paired → ⊥)
 
 -- why a list does not fit
-abbrev pub Unfits : List BlockSet → List ℕ → Unfit → Type 0
-Unfits rows p = IsFirstCause (length rows) (length p ≡ length rows) (Pairs rows p)
+abbrev pub IsUnfitBy : List BlockSet → List ℕ → Unfit → Type 0
+IsUnfitBy rows p = IsFirstCause (length rows) (length p ≡ length rows) (IsPerfectOver rows p)
 
 -- what a cause displays itself as
 abbrev pub unfit_text : Unfit → List ℕ

@@ -6,7 +6,7 @@ use Rattle.blockset.specs.declared.BlockSet.{BlockSet}
 use Rattle.blockset.specs.Has.{has}
 use Rattle.blockset.specs.Sets.{members}
 use Rattle.pairing.specs.Grid.{at}
-use Rattle.pairing.specs.Chains.{Chain}
+use Rattle.pairing.specs.Chains.{HasChain}
 use Rattle.matching.specs.declared.chains.Bounds.{Bounds}
 use Rattle.matching.specs.declared.chains.Holders.{Holders}
 use Rattle.matching.specs.declared.chains.Reach.{Reach}
@@ -51,4 +51,4 @@ HasEnded rows b h x (Some c) = (has x.reached c ≡ true) × (has b.goals c ≡ 
 -- the closure of the single steps
 abbrev pub AreLeads : List BlockSet → List ℕ → List BlockSet → Type 0
 AreLeads rows p led = (l c : ℕ) → l < length rows → c < rights_in rows
-    → (IsTrue (holds led (at p l) c) ↔ Chain (length rows) 0 (holds rows) p (at p l) c)
+    → (IsTrue (holds led (at p l) c) ↔ HasChain (length rows) 0 (holds rows) p (at p l) c)

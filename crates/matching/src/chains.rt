@@ -8,8 +8,9 @@ ghost use Rattle.blockset.specs.declared.TheConstants.{MOST_BLOCKS, SET_WIDTH};
 ghost use Rattle.blockset.specs.Has.{has, IsEmpty};
 ghost use Rattle.pairing.specs.Grid.{at};
 ghost use Rattle.pairing.specs.Rows.{rights_in};
-ghost use Rattle.matching.specs.Exchange.{without, GivesDistinct, Holding, AreHoldersFrom, Ways};
-ghost use Rattle.matching.specs.Exchange.{Exchanged};
+ghost use Rattle.matching.specs.Exchange.{without, GivesDistinct, AreHolders, AreHoldersFrom};
+ghost use Rattle.matching.specs.Exchange.{HasWaysBack};
+ghost use Rattle.matching.specs.Exchange.{IsExchanged};
 ghost use Rattle.matching.specs.Search.{is_along, IsReach, HasEnded};
 
 use blockset::{BlockSet, SET_WIDTH};
@@ -172,10 +173,10 @@ pub fn exchange(
 ) -> usize
     requires small { length p.old ≤ MOST_BLOCKS }
     requires distinct { GivesDistinct (length p.old) p.old (has out) }
-    requires ways { Ways p.old (has out) reach.now }
+    requires ways { HasWaysBack p.old (has out) reach.now }
     requires reached { has reach.now.reached goal ≡ true }
     requires free { (l : ℕ) → l < length p.old → has out l ≡ false → at p.old l ≢ goal }
-    ensures exchanged { Exchanged p.old p.new (has out) reach.now result }
+    ensures exchanged { IsExchanged p.old p.new (has out) reach.now result }
 
     // One right block more is had.
     ensures held { (c : ℕ) → has holders.new.held c ≡ (c == goal || has holders.old.held c) }
@@ -184,8 +185,8 @@ pub fn exchange(
     // one. From 0 on it never does.
     ensures told { (k : ℕ)
         → ((c : ℕ) → has reach.now.reached c ≡ true → k ≤ at reach.now.from c)
-        → Holding k p.old (has out) holders.old
-        → Holding k p.new (without (has out) result) holders.new }
+        → AreHolders k p.old (has out) holders.old
+        → AreHolders k p.new (without (has out) result) holders.new }
 {
     holders.held.insert(goal);
     let mut block = goal;

@@ -2,8 +2,8 @@
 
 ghost use Rattle.std.specs.Prelude.{◌≡◌, ◌≤◌, length, Some, IsTrue, ◌↔◌, IsOk, IfErr};
 ghost use Rattle.blockset.specs.declared.TheConstants.{MOST_BLOCKS};
-ghost use Rattle.pairing.specs.Rows.{Pairs};
-ghost use Rattle.matching.specs.Fit.{Fits, Unfits, unfit_text};
+ghost use Rattle.pairing.specs.Rows.{IsPerfectOver};
+ghost use Rattle.matching.specs.Fit.{FitsRows, IsUnfitBy, unfit_text};
 
 use blockset::{BlockSet, MOST_BLOCKS};
 use std::error::Error;
@@ -41,7 +41,7 @@ impl Error for Unfit {}
 pub fn pairs_each_row(rows: &[BlockSet], p: &[u16]) -> bool
     requires small { length rows.now ≤ MOST_BLOCKS }
     requires sized { length p.now ≡ length rows.now }
-    ensures { IsTrue result ↔ Pairs rows.now p.now }
+    ensures { IsTrue result ↔ IsPerfectOver rows.now p.now }
 {
     let mut free = BlockSet::all(rows.len());
     for (l, row) in rows.iter().enumerate() {
@@ -57,15 +57,15 @@ pub fn pairs_each_row(rows: &[BlockSet], p: &[u16]) -> bool
 /// Whether `p` is a perfect pairing over at most 64 rows: what `fit` tests, where the cause does
 /// not matter.
 pub fn is_pairing(rows: &[BlockSet], p: &[u16]) -> bool
-    ensures { IsTrue result ↔ Fits rows.now p.now }
+    ensures { IsTrue result ↔ FitsRows rows.now p.now }
 {
     fit(rows, p).is_ok()
 }
 
 /// Refuses what is no perfect pairing over the rows, by the first cause that applies.
 pub fn fit(rows: &[BlockSet], p: &[u16]) -> Result<(), Unfit>
-    ensures accepted { IsOk result ↔ Fits rows.now p.now }
-    ensures refused { IfErr result (Unfits rows.now p.now) }
+    ensures accepted { IsOk result ↔ FitsRows rows.now p.now }
+    ensures refused { IfErr result (IsUnfitBy rows.now p.now) }
 {
     if rows.len() > MOST_BLOCKS as usize {
         Err(Unfit::Size)

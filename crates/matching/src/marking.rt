@@ -5,11 +5,11 @@ ghost use Rattle.std.specs.Prelude.{IfErr, OnOk, OnErr, nat_lt};
 ghost use Rattle.blockset.specs.declared.TheConstants.{MOST_BLOCKS};
 ghost use Rattle.blockset.specs.Has.{has};
 ghost use Rattle.pairing.specs.Grid.{at};
-ghost use Rattle.pairing.specs.Rows.{holds, rights_in, Pairs, pairings};
+ghost use Rattle.pairing.specs.Rows.{holds, rights_in, IsPerfectOver, pairings};
 ghost use Rattle.pairing.specs.Places.{places_of};
-ghost use Rattle.matching.specs.Fit.{Fits, IsFirstCause};
+ghost use Rattle.matching.specs.Fit.{FitsRows, IsFirstCause};
 ghost use Rattle.matching.specs.Search.{AreLeads};
-ghost use Rattle.matching.specs.Answers.{MarksOf};
+ghost use Rattle.matching.specs.Answers.{AreMarksOf};
 
 use crate::fitting::{Unfit, fit};
 use blockset::{BlockSet, MOST_BLOCKS, SET_WIDTH};
@@ -18,7 +18,7 @@ use blockset::{BlockSet, MOST_BLOCKS, SET_WIDTH};
 /// can take.
 fn steps(rows: &[BlockSet], p: &[u16]) -> [BlockSet; SET_WIDTH]
     requires small { length rows.now ≤ MOST_BLOCKS }
-    requires pairs { Pairs rows.now p.now }
+    requires pairs { IsPerfectOver rows.now p.now }
     ensures { (l c : ℕ) → l < length rows.now
         → holds result (at p.now l) c ≡ (holds rows.now l c && nat_lt c (rights_in rows.now)) }
 {
@@ -62,7 +62,7 @@ fn lead_through(led: &mut [BlockSet; SET_WIDTH], n: usize, k: usize)
 /// so after n rounds all are.
 fn leads(rows: &[BlockSet], p: &[u16]) -> [BlockSet; SET_WIDTH]
     requires small { length rows.now ≤ MOST_BLOCKS }
-    requires pairs { Pairs rows.now p.now }
+    requires pairs { IsPerfectOver rows.now p.now }
     ensures { AreLeads rows.now p.now result }
 {
     let mut led = steps(rows, p);
@@ -115,10 +115,10 @@ fn mark_row(marks: &mut [u8], set: BlockSet)
 /// that all this fits; one that does calls `mark_all`.
 pub fn marks(rows: &[BlockSet], p: &[u16], table: &mut [u8]) -> Result<(), Unfit>
     ensures accepted { IsOk result
-        ↔ (Fits rows.now p.now × length table.old ≡ places_of (length rows.now)) }
+        ↔ (FitsRows rows.now p.now × length table.old ≡ places_of (length rows.now)) }
     ensures refused { let n = length rows.now in IfErr result (IsFirstCause n
-        (length table.old ≡ places_of n × length p.now ≡ n) (Pairs rows.now p.now)) }
-    ensures marks { OnOk result (MarksOf (length rows.now) (pairings rows.now) table.new) }
+        (length table.old ≡ places_of n × length p.now ≡ n) (IsPerfectOver rows.now p.now)) }
+    ensures marks { OnOk result (AreMarksOf (length rows.now) (pairings rows.now) table.new) }
     ensures kept { OnErr result (table.new ≡ table.old) }
 {
     let n = rows.len();
@@ -140,9 +140,9 @@ pub fn marks(rows: &[BlockSet], p: &[u16], table: &mut [u8]) -> Result<(), Unfit
 /// made once.
 pub fn mark_all(rows: &[BlockSet], p: &[u16], table: &mut [u8])
     requires small { length rows.now ≤ MOST_BLOCKS }
-    requires pairs { Pairs rows.now p.now }
+    requires pairs { IsPerfectOver rows.now p.now }
     requires square { length table.old ≡ places_of (length rows.now) }
-    ensures { MarksOf (length rows.now) (pairings rows.now) table.new }
+    ensures { AreMarksOf (length rows.now) (pairings rows.now) table.new }
 {
     let n = rows.len();
     let led = leads(rows, p);

@@ -5,8 +5,8 @@ ghost use Rattle.std.specs.Prelude.{IfErr, OnOk, OnErr};
 ghost use Rattle.blockset.specs.declared.TheConstants.{MOST_BLOCKS};
 ghost use Rattle.blockset.specs.Has.{has};
 ghost use Rattle.pairing.specs.Grid.{at};
-ghost use Rattle.pairing.specs.Rows.{Pairs, pairings};
-ghost use Rattle.matching.specs.Fit.{Fits, Unfits};
+ghost use Rattle.pairing.specs.Rows.{IsPerfectOver, pairings};
+ghost use Rattle.matching.specs.Fit.{FitsRows, IsUnfitBy};
 ghost use Rattle.matching.specs.Exchange.{AreHoldersFrom};
 ghost use Rattle.matching.specs.Improving.{IsImproved, IsUnimproved, IsFirstFrom, HasWantedFrom};
 ghost use Rattle.matching.specs.Answers.{IsNth, Follows};
@@ -47,7 +47,7 @@ impl Step {
 /// with, and `l` itself once for each candidate.
 fn improve(rows: &[BlockSet], p: &mut [u16], holders: &mut Holders, l: usize, floor: usize) -> bool
     requires small { length rows.now ≤ MOST_BLOCKS }
-    requires pairs { Pairs rows.now p.old }
+    requires pairs { IsPerfectOver rows.now p.old }
     requires inside { l < length rows.now }
     requires held { AreHoldersFrom (l + 1) p.old holders.old }
     ensures improved { MatchBool result (IsImproved rows.now l floor p.old p.new)
@@ -93,7 +93,7 @@ fn raise(
     l: usize,
 ) -> bool
     requires small { length rows.now ≤ MOST_BLOCKS }
-    requires pairs { Pairs rows.now p.old }
+    requires pairs { IsPerfectOver rows.now p.old }
     requires inside { l < length rows.now }
     requires held { AreHoldersFrom (l + 1) p.old holders.old }
     requires wanted { HasWantedFrom (l + 1) rows.now (has wanted) }
@@ -112,7 +112,7 @@ fn raise(
 /// for each left block from `low` on. The holders tell of those when it begins.
 fn make_first_from(rows: &[BlockSet], p: &mut [u16], holders: &mut Holders, low: usize)
     requires small { length rows.now ≤ MOST_BLOCKS }
-    requires pairs { Pairs rows.now p.old }
+    requires pairs { IsPerfectOver rows.now p.old }
     requires inside { low ≤ length rows.now }
     requires held { AreHoldersFrom low p.old holders.old }
     ensures { IsFirstFrom rows.now low p.old p.new }
@@ -126,8 +126,8 @@ fn make_first_from(rows: &[BlockSet], p: &mut [u16], holders: &mut Holders, low:
 /// Makes `p`, which has to be a perfect pairing over the rows, the first one in dictionary order.
 /// This is for a caller that does not know; one that does calls `make_first`.
 pub fn first(rows: &[BlockSet], p: &mut [u16]) -> Result<(), Unfit>
-    ensures accepted { IsOk result ↔ Fits rows.now p.old }
-    ensures refused { IfErr result (Unfits rows.now p.old) }
+    ensures accepted { IsOk result ↔ FitsRows rows.now p.old }
+    ensures refused { IfErr result (IsUnfitBy rows.now p.old) }
     ensures first { OnOk result (IsNth (pairings rows.now) 0 p.new) }
     ensures kept { OnErr result (p.new ≡ p.old) }
 {
@@ -139,7 +139,7 @@ pub fn first(rows: &[BlockSet], p: &mut [u16]) -> Result<(), Unfit>
 /// What `first` does, for a caller that knows that `p` is a perfect pairing: nothing is tested.
 pub fn make_first(rows: &[BlockSet], p: &mut [u16])
     requires small { length rows.now ≤ MOST_BLOCKS }
-    requires pairs { Pairs rows.now p.old }
+    requires pairs { IsPerfectOver rows.now p.old }
     ensures { IsNth (pairings rows.now) 0 p.new }
 {
     let mut holders = Holders::of(p);
@@ -150,8 +150,8 @@ pub fn make_first(rows: &[BlockSet], p: &mut [u16])
 /// dictionary order; at the last one the answer is `End`, and `p` stays. This is for a caller that
 /// does not know; one that does calls `advance`.
 pub fn next(rows: &[BlockSet], p: &mut [u16]) -> Result<Step, Unfit>
-    ensures accepted { IsOk result ↔ Fits rows.now p.old }
-    ensures refused { IfErr result (Unfits rows.now p.old) }
+    ensures accepted { IsOk result ↔ FitsRows rows.now p.old }
+    ensures refused { IfErr result (IsUnfitBy rows.now p.old) }
     ensures step { IfOk result (Follows (pairings rows.now) p.old p.new) }
     ensures kept { OnErr result (p.new ≡ p.old) }
 {
@@ -168,7 +168,7 @@ pub fn next(rows: &[BlockSet], p: &mut [u16]) -> Result<Step, Unfit>
 /// searches over all n left blocks.
 pub fn advance(rows: &[BlockSet], p: &mut [u16]) -> Step
     requires small { length rows.now ≤ MOST_BLOCKS }
-    requires pairs { Pairs rows.now p.old }
+    requires pairs { IsPerfectOver rows.now p.old }
     ensures { Follows (pairings rows.now) p.old p.new result }
 {
     let mut holders = Holders::new();

@@ -13,10 +13,10 @@ use Rattle.tables.specs.PairTables.{HavePlaces, costs_entered, standing_entered,
 use Rattle.tables.proofs.Cells.{written, opened}
 use Rattle.pairing.specs.Places.{place_of, places_of}
 use Rattle.orderfile.specs.declared.record.StatedPair.{StatedPair}
-use Rattle.orderfile.specs.Format.{Order, PairFits}
+use Rattle.orderfile.specs.Format.{StatedOrder, PairFits}
 use Rattle.orderfile.specs.Loading.{plain, plain_cell, costs_after, standing_after, or_else}
-use Rattle.orderfile.specs.Loading.{cost_stated}
-use Rattle.orderfile.specs.Loading.{Shows}
+use Rattle.orderfile.specs.Loading.{stated_cost}
+use Rattle.orderfile.specs.Loading.{ShowsOrder}
 use Rattle.std.proofs.Common.{slice_set, ◌==◌, if◌then◌else◌}
 
 -- one pair that is entered
@@ -59,7 +59,7 @@ pub cells_after : (n : ℕ) (ps : List StatedPair) (costs : List Plain) (standin
     → AllByRecursion (PairFits n) ps → HavePlaces n (length costs) (length standing) → (l r : ℕ)
     → l < n → r < n
     → plain_cell n (costs_after n ps costs) (standing_after n ps standing) l r ≡ or_else
-    (option_map plain (cost_stated ps l r)) (plain_cell n costs standing l r)
+    (option_map plain (stated_cost ps l r)) (plain_cell n costs standing l r)
 unfolding old new
 cells_after n [] costs standing s have l r hl hr = refl
 cells_after n (p ∷ ps) costs standing s have l r hl hr =
@@ -71,11 +71,11 @@ cells_after n (p ∷ ps) costs standing s have l r hl hr =
       standing = length-set standing k 1 ∙ have.standing;
     } in
     cells_after n ps (slice_set costs k (plain p.cost)) (slice_set standing k 1) s.1 fits l r hl hr
-    ∙ ap (or_else (option_map plain (cost_stated ps l r)))
+    ∙ ap (or_else (option_map plain (stated_cost ps l r)))
     (entered n p costs standing
     (written (plain (pos 0)) n costs standing p.left p.right have
     s.0.left_below s.0.right_below 1 (plain p.cost) k refl) l r hl hr)
-    ∙ or_else_mapped (cost_stated ps l r)
+    ∙ or_else_mapped (stated_cost ps l r)
     (if p.left == l && p.right == r then Some p.cost else None)
     (plain_cell n costs standing l r)
 
@@ -83,8 +83,8 @@ or_else_none : (a : Option Plain) → or_else a None ≡ a
 or_else_none (Some x) = refl
 or_else_none None = refl
 
-pub shows_order : (order : Order) → AllByRecursion (PairFits order.size) order.pairs
-    → Shows order
+pub shows_order : (order : StatedOrder) → AllByRecursion (PairFits order.size) order.pairs
+    → ShowsOrder order
     (costs_after order.size order.pairs (replicate (places_of order.size) (plain (pos 0))))
     (standing_after order.size order.pairs (replicate (places_of order.size) 0))
 shows_order order s l r hl hr =
@@ -95,7 +95,7 @@ shows_order order s l r hl hr =
       costs = length-replicate (places_of n) (plain (pos 0));
       standing = length-replicate (places_of n) 0;
     }) l r hl hr
-    ∙ ap (or_else (option_map plain (cost_stated order.pairs l r)))
+    ∙ ap (or_else (option_map plain (stated_cost order.pairs l r)))
     (opened (plain (pos 0)) n (replicate (places_of n) (plain (pos 0)))
     (replicate (places_of n) 0) refl l r hl hr)
-    ∙ or_else_none (option_map plain (cost_stated order.pairs l r))
+    ∙ or_else_none (option_map plain (stated_cost order.pairs l r))

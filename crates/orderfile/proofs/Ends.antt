@@ -11,14 +11,14 @@ use Rattle.sheet.specs.declared.fault.Fault.{Fault}
 use Rattle.tables.specs.PairTables.{HavePlaces, costs_opened, standing_opened}
 use Rattle.tables.specs.Together.{ArePairTables}
 use Rattle.pairing.specs.Places.{places_of}
-use Rattle.sheet.specs.Opening.{open_needs, Opened}
+use Rattle.sheet.specs.Opening.{open_needs, OpensSheet}
 use Rattle.sheet.specs.Size.{Sheet, IsSize, sheet_of, size_of}
 use Rattle.sheet.specs.Refusals.{fault}
 use Rattle.sheet.proofs.Needs.{met_or_not}
-use Rattle.orderfile.specs.Format.{Order, FitsSheet, States}
+use Rattle.orderfile.specs.Format.{StatedOrder, FitsSheet, States}
 use Rattle.orderfile.specs.Faults.{FirstFault}
-use Rattle.orderfile.specs.Loading.{plain, plain_kind, costs_after, standing_after, Shows}
-use Rattle.orderfile.specs.Loading.{IsChecked, Accepted, Loaded}
+use Rattle.orderfile.specs.Loading.{plain, plain_kind, costs_after, standing_after, ShowsOrder}
+use Rattle.orderfile.specs.Loading.{IsChecked, LoadsOrder, IsLoaded}
 use Rattle.orderfile.proofs.Cells.{shows_order}
 use Rattle.orderfile.proofs.Grids.{same_grid, entered_tables}
 use Rattle.orderfile.proofs.Verdicts.{one_order, one_fault, not_both, verdict_order, verdict_fault}
@@ -33,7 +33,7 @@ checked_err file f h =
     subst (λ (x : Fault). FirstFault file x) same g.1)
     h.verdict.some
 
-pub checked_ok : (file : List ℕ) (n : ℕ) → IsChecked file (Ok n) → (order : Order)
+pub checked_ok : (file : List ℕ) (n : ℕ) → IsChecked file (Ok n) → (order : StatedOrder)
     × States file order
     × (order.size ≡ n)
 checked_ok file n h =
@@ -45,7 +45,7 @@ checked_ok file n h =
 module _ (file : List ℕ) (costs : List Plain) (standing : List ℕ) (r : Result Sheet Fault)
     (costs' : List Plain) (standing' : List ℕ) where
   pub loaded_faulty : (f : Fault) → FirstFault file f → r ≡ Err f → costs' ≡ costs
-      → standing' ≡ standing → Loaded file costs standing r costs' standing'
+      → standing' ≡ standing → IsLoaded file costs standing r costs' standing'
   loaded_faulty f s e ec eb = record {
     verdict = verdict_fault file f s;
     faulty = λ g t. record {
@@ -58,39 +58,39 @@ module _ (file : List ℕ) (costs : List Plain) (standing : List ℕ) (r : Resul
     loads = λ o t _. absurd (not_both file o f t s);
   }
 
-  pub loaded_misfit : (order : Order) → States file order
+  pub loaded_misfit : (order : StatedOrder) → States file order
       → (HavePlaces order.size (length costs) (length standing) → ⊥)
       → r ≡ Err (fault TableLength 0) → costs' ≡ costs → standing' ≡ standing
-      → Loaded file costs standing r costs' standing'
+      → IsLoaded file costs standing r costs' standing'
   loaded_misfit order s unfit e ec eb = record {
     verdict = verdict_order file order s;
     faulty = λ g t. absurd (not_both file order g s t);
     misfits = λ o t _. record { answers = e; costs_stay = ec; standing_stays = eb };
     loads = λ o t fit. absurd
-        (unfit (subst (λ (x : Order). HavePlaces x.size (length costs) (length standing))
+        (unfit (subst (λ (x : StatedOrder). HavePlaces x.size (length costs) (length standing))
         (one_order file o order t s)
         fit));
   }
 
-  pub loaded : (order : Order) → States file order → HavePlaces order.size (length costs)
+  pub loaded : (order : StatedOrder) → States file order → HavePlaces order.size (length costs)
       (length standing)
       → r ≡ Ok (sheet_of order.size)
       → costs' ≡ costs_after order.size order.pairs
       (costs_opened (plain (pos 0)) order.size)
       → standing' ≡ standing_after order.size order.pairs (standing_opened order.size)
-      → Loaded file costs standing r costs' standing'
+      → IsLoaded file costs standing r costs' standing'
   loaded order s fit e ec eb =
       let cs : List Plain =
       costs_after order.size order.pairs (costs_opened (plain (pos 0)) order.size) in
-      let shown : Shows order costs' standing' =
-      subst (λ (xs : List Plain). Shows order xs standing') (sym ec)
-      (subst (λ (bs : List ℕ). Shows order cs bs) (sym eb)
+      let shown : ShowsOrder order costs' standing' =
+      subst (λ (xs : List Plain). ShowsOrder order xs standing') (sym ec)
+      (subst (λ (bs : List ℕ). ShowsOrder order cs bs) (sym eb)
       (shows_order order s.fits.pairs_fit)) in
       let tables : ArePairTables plain_kind order.size costs' standing' =
       subst (λ (xs : List Plain). ArePairTables plain_kind order.size xs standing') (sym ec)
       (subst (λ (bs : List ℕ). ArePairTables plain_kind order.size cs bs) (sym eb)
       (entered_tables order s.fits)) in
-      let here : Accepted order r costs' standing' = record {
+      let here : LoadsOrder order r costs' standing' = record {
         answers = e;
         enters_costs = ec;
         enters_standing = eb;
@@ -103,40 +103,42 @@ module _ (file : List ℕ) (costs : List Plain) (standing : List ℕ) (r : Resul
         faulty = λ g t. absurd (not_both file order g s t);
         misfits =
             λ o t unfit. absurd
-            (unfit (subst (λ (x : Order). HavePlaces x.size (length costs) (length standing))
+            (unfit (subst (λ (x : StatedOrder). HavePlaces x.size (length costs) (length standing))
             (one_order file order o s t)
             fit));
-        loads = λ o t _. subst (λ (x : Order). Accepted x r costs' standing')
+        loads = λ o t _. subst (λ (x : StatedOrder). LoadsOrder x r costs' standing')
             (one_order file order o s t) here;
       }
 
 -- what opening tells, for the size that the file states
-module _ (order : Order) (n : ℕ) (size : order.size ≡ n) (sound : FitsSheet order)
+module _ (order : StatedOrder) (n : ℕ) (size : order.size ≡ n) (sound : FitsSheet order)
     (costs : List Plain)
     (standing : List ℕ) (costs' : List Plain) (standing' : List ℕ) where
   is_size : IsSize n
   is_size = record { some = omega (arith, sound.some); few = omega (arith, sound.few) }
 
-  pub open_unfit : (f : Fault) → Opened (plain (pos 0)) n costs standing (Err f) costs' standing'
+  pub open_unfit : (f : Fault) → OpensSheet (plain (pos 0)) n costs standing (Err f) costs'
+      standing'
       → HavePlaces order.size (length costs) (length standing) → ⊥
   open_unfit f h fit = met_or_not (open_needs n (length costs) (length standing)) f (
     is_size,
     (subst (λ (k : ℕ). HavePlaces k (length costs) (length standing)) size fit, tt),
   ) h.0
 
-  pub open_fault : (f : Fault) → Opened (plain (pos 0)) n costs standing (Err f) costs' standing'
+  pub open_fault : (f : Fault) → OpensSheet (plain (pos 0)) n costs standing (Err f) costs'
+      standing'
       → f ≡ fault TableLength 0
   open_fault f h = ⊎_elim (λ unmet. absurd (unmet.0 is_size))
       (λ more. ⊎_elim (λ unmet. unmet.1) (λ none. absurd none.1) more.1) h.0
 
-  pub open_kept : (f : Fault) → Opened (plain (pos 0)) n costs standing (Err f) costs' standing'
+  pub open_kept : (f : Fault) → OpensSheet (plain (pos 0)) n costs standing (Err f) costs' standing'
       → (costs' ≡ costs) × (standing' ≡ standing)
   open_kept f h = (h.1.costs_are, h.1.standing_are)
 
 -- a sheet that was opened has the size asked for, over blank tables
 module _ (n : ℕ) (costs : List Plain) (standing : List ℕ) (sheet : Sheet) (costs' : List Plain)
     (standing' : List ℕ)
-    (h : Opened (plain (pos 0)) n costs standing (Ok sheet) costs' standing') where
+    (h : OpensSheet (plain (pos 0)) n costs standing (Ok sheet) costs' standing') where
   pub opened_size : sheet.size ≡ n
   opened_size = ap size_of h.1.0
 

@@ -17,7 +17,7 @@ use Rattle.orderfile.specs.declared.record.Record.{Record}
 use Rattle.orderfile.specs.declared.record.Record.TheVariants.{Pair}
 use Rattle.orderfile.specs.declared.record.Stage.{Stage}
 use Rattle.orderfile.specs.declared.record.Stage.TheVariants.{Start, Sized, Ended}
-use Rattle.orderfile.specs.Format.{Order, FitsSheet, PairFits, pair_field, end_field, file_of}
+use Rattle.orderfile.specs.Format.{StatedOrder, FitsSheet, PairFits, pair_field, end_field, file_of}
 use Rattle.orderfile.specs.Format.{pair_in, value_of}
 use Rattle.orderfile.specs.Faults.{field_fault}
 use Rattle.orderfile.specs.Records.{StepsFrom, next_record, stage_next, record_length}
@@ -44,7 +44,7 @@ all_later : {X : Type 0} (P : X → Type 0) (xs ys : List X) → AllByRecursion 
 all_later P [] ys h = h
 all_later P (x ∷ xs) ys h = all_later P xs ys h.1
 
-module _ (order : Order) (costs₀ : List Plain) (standing₀ : List ℕ) where
+module _ (order : StatedOrder) (costs₀ : List Plain) (standing₀ : List ℕ) where
   -- some pairs of the order were entered, and the others are still to come
   pub record IsSplit (rest : List ℕ) (costs : List Plain) (standing : List ℕ) : Type 0 where
     pub done : List StatedPair
@@ -179,7 +179,7 @@ module _ (order : Order) (costs₀ : List Plain) (standing₀ : List ℕ) where
         })
 
 -- a call of `next` on a record reader that stands where this is ahead
-module _ (order : Order) (costs₀ : List Plain) (standing₀ : List ℕ) (fits : FitsSheet order)
+module _ (order : StatedOrder) (costs₀ : List Plain) (standing₀ : List ℕ) (fits : FitsSheet order)
     (stage : Stage) (rest : List ℕ) (costs : List Plain) (standing : List ℕ)
     (ahead : IsAhead order costs₀ standing₀ stage rest costs standing) where
   met : Meets order costs₀ standing₀ stage rest costs standing

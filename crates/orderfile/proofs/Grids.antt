@@ -9,10 +9,10 @@ use Rattle.std.proofs.Common.{Option, sym, refl, ap, ◌∙◌, subst, inl, inr,
 use Rattle.std.proofs.lemmas.List.{length-set, length-replicate, get_or-map}
 use Rattle.std.specs.Option.{option_map, is_some}
 use Rattle.std.specs.List.{AllByRecursion}
-use Rattle.cost.specs.Columns.{rail_of, Within}
+use Rattle.cost.specs.Columns.{rail_of, AreWithin}
 use Rattle.cost.specs.declared.plain_kind.Plain.{Plain}
 use Rattle.cost.proofs.Exact.{rail_of_same}
-use Rattle.pairing.specs.Inside.{SameInside}
+use Rattle.pairing.specs.Inside.{AreSameInside}
 use Rattle.pairing.specs.Places.{place_of, places_of}
 use Rattle.tables.specs.PairTables.{says_stands, byte_of}
 use Rattle.tables.specs.Said.{columns_at, IsInOrder}
@@ -20,10 +20,10 @@ use Rattle.tables.specs.Together.{ArePairTables}
 use Rattle.tables.proofs.Cells.{place_below}
 use Rattle.tables.proofs.Writing.{wrote_in_order, blank_in_order}
 use Rattle.orderfile.specs.declared.record.StatedPair.{StatedPair}
-use Rattle.orderfile.specs.Format.{Order, FitsSheet, PairFits}
+use Rattle.orderfile.specs.Format.{StatedOrder, FitsSheet, PairFits}
 use Rattle.orderfile.specs.Loading.{plain, plain_kind, plain_grid, costs_after, standing_after}
-use Rattle.orderfile.specs.Loading.{or_else, names_blocks, cost_stated, stated_columns, grid_stated}
-use Rattle.orderfile.specs.Loading.{Shows}
+use Rattle.orderfile.specs.Loading.{or_else, names_blocks, stated_cost, stated_columns, stated_grid}
+use Rattle.orderfile.specs.Loading.{ShowsOrder}
 use Rattle.std.proofs.Common.{slice_index_or, unsigned_abs, slice_set, if◌then◌else◌}
 use Rattle.cost.specs.declared.TheConstants.{COST_LIMIT}
 
@@ -39,13 +39,13 @@ cond_some false x z e = cc
 
 -- they are within the limit
 stated_small : (n : ℕ) (ps : List StatedPair) → AllByRecursion (PairFits n) ps → (l r : ℕ) (z : ℤ)
-    → cost_stated ps l r ≡ Some z → unsigned_abs z ≤ COST_LIMIT
+    → stated_cost ps l r ≡ Some z → unsigned_abs z ≤ COST_LIMIT
 stated_small n [] s l r z e = cc
 stated_small n (p ∷ ps) s l r z e =
     ⊎_elim (λ later. stated_small n ps s.1 l r z later)
     (λ here. subst (λ x. unsigned_abs x ≤ COST_LIMIT)
     (cond_some (names_blocks l r p) p.cost z here) s.0.cost_within)
-    (or_else_some (cost_stated ps l r) (if names_blocks l r p then Some p.cost else None) z e)
+    (or_else_some (stated_cost ps l r) (if names_blocks l r p then Some p.cost else None) z e)
 
 -- ---- What a cell tells
 
@@ -64,20 +64,20 @@ cell_cost true x (Some z) e h = (z, refl, cc)
 cell_cost true x None e h = cc
 cell_cost false x o e h = cc
 
-module _ (order : Order) (sound : AllByRecursion (PairFits order.size) order.pairs)
+module _ (order : StatedOrder) (sound : AllByRecursion (PairFits order.size) order.pairs)
     (costs : List Plain) (standing : List ℕ) (long : length costs ≡ places_of order.size)
-    (shows : Shows order costs standing) where
+    (shows : ShowsOrder order costs standing) where
   byte_says : ℕ → ℕ → Bool
   byte_says l r = says_stands (byte_of order.size standing l r)
 
   cost_shown : (l r : ℕ) → l < order.size → r < order.size → byte_says l r ≡ true
       → columns_at plain_kind costs (place_of order.size l r)
-      ≡ stated_columns (cost_stated order.pairs l r)
+      ≡ stated_columns (stated_cost order.pairs l r)
   unfolding byte_says
   cost_shown l r hl hr h =
       let at = place_of order.size l r in
       let x = slice_index_or costs at (plain (pos 0)) in
-      let stated = cost_stated order.pairs l r in
+      let stated = stated_cost order.pairs l r in
       let told = cell_cost (byte_says l r) x stated (shows l r hl hr) h in
       let z = told.0 in
       let same : rail_of z ≡ z = rail_of_same z
@@ -86,14 +86,14 @@ module _ (order : Order) (sound : AllByRecursion (PairFits order.size) order.pai
       (omega (arith, place_below order.size l r hl hr))
       ∙ ap plain_kind.meaning told.2 ∙ ap (λ t. t ∷ []) same ∙ ap stated_columns (sym told.1)
 
-  pub same_grid : SameInside (plain_grid order.size costs standing) (grid_stated order)
+  pub same_grid : AreSameInside (plain_grid order.size costs standing) (stated_grid order)
   unfolding byte_says
   same_grid = record {
     size = refl;
     columns = refl;
     stands = λ l r hl hr. cell_stands (byte_says l r)
         (slice_index_or costs (place_of order.size l r) (plain (pos 0)))
-        (cost_stated order.pairs l r)
+        (stated_cost order.pairs l r)
         (shows l r hl hr);
     cost = cost_shown;
   }
@@ -101,7 +101,7 @@ module _ (order : Order) (sound : AllByRecursion (PairFits order.size) order.pai
 -- ---- Order
 
 -- a stated cost means a number within the limit
-means_small : (z : ℤ) → unsigned_abs z ≤ COST_LIMIT → Within COST_LIMIT (rail_of z ∷ [])
+means_small : (z : ℤ) → unsigned_abs z ≤ COST_LIMIT → AreWithin COST_LIMIT (rail_of z ∷ [])
 means_small z small =
     (subst (λ x. unsigned_abs x ≤ COST_LIMIT) (sym (rail_of_same z (omega arith))) small, tt)
 
@@ -120,7 +120,7 @@ after_in_order n (p ∷ ps) costs standing s ec eb o =
     (wrote_in_order plain_kind (places_of n) costs standing ec eb at 1 (plain p.cost) refl
     (λ _. means_small p.cost s.0.cost_within) o)
 
-pub entered_tables : (order : Order) → FitsSheet order → ArePairTables plain_kind order.size
+pub entered_tables : (order : StatedOrder) → FitsSheet order → ArePairTables plain_kind order.size
     (costs_after order.size order.pairs (replicate (places_of order.size) (plain (pos 0))))
     (standing_after order.size order.pairs (replicate (places_of order.size) 0))
 entered_tables order s =

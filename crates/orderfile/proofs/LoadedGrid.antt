@@ -8,11 +8,11 @@ use Rattle.std.proofs.Common.{◌≡◌, ℕ, ◌*◌, ◌≤◌, true, ◌↔�
 use Rattle.std.proofs.Common.{length, ℤ, pos, negsuc, Ok, Err, Result, sym, ap, ◌∙◌}
 use Rattle.std.proofs.Common.{subst, inl, inr, ⊎_elim, arith}
 use Rattle.std.proofs.lemmas.Bool.{cases_Bool}
-use Rattle.cost.specs.Columns.{rail_of, Within}
+use Rattle.cost.specs.Columns.{rail_of, AreWithin}
 use Rattle.cost.specs.declared.plain_kind.Plain.{Plain}
-use Rattle.pairing.specs.Grid.{Grid, Sane, PerfectIn, total}
+use Rattle.pairing.specs.Grid.{Grid, IsSane, IsPerfectIn, total}
 use Rattle.pairing.specs.Optima.{optima}
-use Rattle.pairing.specs.Theorems.{AlikeInside}
+use Rattle.pairing.specs.Theorems.{AreAlikeInside}
 use Rattle.pairing.proofs.Inside.{inside_matters}
 use Rattle.pairing.proofs.Weighing.{total-within}
 use Rattle.tables.specs.PairTables.{HavePlaces, have_places}
@@ -21,9 +21,9 @@ use Rattle.sheet.specs.Size.{Sheet}
 use Rattle.sheet.specs.Refusals.{fault}
 use Rattle.sheet.specs.declared.fault.Cause.TheVariants.{TableLength}
 use Rattle.sheet.specs.declared.fault.Fault.{Fault}
-use Rattle.orderfile.specs.Format.{Order, States}
+use Rattle.orderfile.specs.Format.{StatedOrder, States}
 use Rattle.orderfile.specs.Faults.{FirstFault}
-use Rattle.orderfile.specs.Loading.{plain_grid, grid_stated, Accepted, Loaded}
+use Rattle.orderfile.specs.Loading.{plain_grid, stated_grid, LoadsOrder, IsLoaded}
 use Rattle.std.proofs.Common.{unsigned_abs}
 use Rattle.cost.specs.declared.TheConstants.{COST_LIMIT}
 
@@ -40,9 +40,10 @@ module _ (file : List ℕ) (costs : List Plain) (standing : List ℕ) (costs' : 
       (cases_Bool (have_places n (length costs) (length standing)))
 
   -- it answered a sheet
-  pub loaded_ok : (sheet : Sheet) → Loaded file costs standing (Ok sheet) costs' standing'
-      → (order : Order) × States file order × HavePlaces order.size (length costs) (length standing)
-      × (sheet.size ≡ order.size) × Accepted order (Ok sheet) costs' standing'
+  pub loaded_ok : (sheet : Sheet) → IsLoaded file costs standing (Ok sheet) costs' standing'
+      → (order : StatedOrder) × States file order
+      × HavePlaces order.size (length costs) (length standing)
+      × (sheet.size ≡ order.size) × LoadsOrder order (Ok sheet) costs' standing'
   loaded_ok sheet h = ⊎_elim
       (λ o. ⊎_elim
       (λ fit. let a = h.loads o.0 o.1 fit in let same : sheet.size ≡ o.0.size =
@@ -53,8 +54,8 @@ module _ (file : List ℕ) (costs : List Plain) (standing : List ℕ) (costs' : 
       h.verdict.some
 
   -- it refused
-  pub loaded_err : (f : Fault) → Loaded file costs standing (Err f) costs' standing'
-      → (FirstFault file f ⊎ ((order : Order) × States file order
+  pub loaded_err : (f : Fault) → IsLoaded file costs standing (Err f) costs' standing'
+      → (FirstFault file f ⊎ ((order : StatedOrder) × States file order
       × (HavePlaces order.size (length costs) (length standing) → ⊥) × (f ≡ fault TableLength 0)))
       × (costs' ≡ costs) × (standing' ≡ standing)
   loaded_err f h = ⊎_elim
@@ -70,18 +71,18 @@ module _ (file : List ℕ) (costs : List Plain) (standing : List ℕ) (costs' : 
 
 -- ---- The grid in the loaded tables
 
-module _ (order : Order) (r : Result Sheet Fault) (costs : List Plain) (standing : List ℕ)
-    (accepted : Accepted order r costs standing) where
+module _ (order : StatedOrder) (r : Result Sheet Fault) (costs : List Plain) (standing : List ℕ)
+    (accepted : LoadsOrder order r costs standing) where
   abbrev loaded : Grid
   loaded = plain_grid order.size costs standing
 
-  pub loaded_alike : AlikeInside loaded (grid_stated order)
-  loaded_alike = inside_matters loaded (grid_stated order) accepted.grid
+  pub loaded_alike : AreAlikeInside loaded (stated_grid order)
+  loaded_alike = inside_matters loaded (stated_grid order) accepted.grid
 
-  pub loaded_optima : optima loaded ≡ optima (grid_stated order)
+  pub loaded_optima : optima loaded ≡ optima (stated_grid order)
   loaded_optima = loaded_alike.optima
 
-  pub loaded_perfect : (p : List ℕ) → PerfectIn loaded p ↔ PerfectIn (grid_stated order) p
+  pub loaded_perfect : (p : List ℕ) → IsPerfectIn loaded p ↔ IsPerfectIn (stated_grid order) p
   loaded_perfect = loaded_alike.perfect
 
 -- ---- Totals
@@ -90,10 +91,10 @@ rail_back : (z : ℤ) → unsigned_abs (rail_of z) ≤ 64000000000 → rail_of z
 rail_back (pos k) h = ap pos (omega arith)
 rail_back (negsuc k) h = ap negsuc (omega arith)
 
-module _ (g : Grid) (s : Sane g) (p : List ℕ) (h : PerfectIn g p) where
+module _ (g : Grid) (s : IsSane g) (p : List ℕ) (h : IsPerfectIn g p) where
   -- a plain value that means the total of a perfect pairing is that number
   pub total_means : (z : ℤ) → rail_of z ∷ [] ≡ total g p → z ∷ [] ≡ total g p
   total_means z e =
-      let near : Within (g.size * COST_LIMIT) (rail_of z ∷ []) =
-      subst (Within (g.size * COST_LIMIT)) (sym e) (total-within g s p h g.size (omega arith)) in
+      let near : AreWithin (g.size * COST_LIMIT) (rail_of z ∷ []) =
+      subst (AreWithin (g.size * COST_LIMIT)) (sym e) (total-within g s p h g.size (omega arith)) in
       ap (λ x. x ∷ []) (sym (rail_back z (omega (arith, s.few, near.0)))) ∙ e

@@ -16,7 +16,7 @@ use Rattle.orderfile.specs.declared.record.Record.{Record}
 use Rattle.orderfile.specs.declared.record.Record.TheVariants.{Size, Pair, End}
 use Rattle.orderfile.specs.declared.record.Stage.{Stage}
 use Rattle.orderfile.specs.declared.record.Stage.TheVariants.{Start, Sized, Ended}
-use Rattle.orderfile.specs.Format.{Order, States, tag_of, value_of}
+use Rattle.orderfile.specs.Format.{StatedOrder, States, tag_of, value_of}
 use Rattle.orderfile.specs.Faults.{field_fault, front, FrontFits, FirstFault}
 use Rattle.orderfile.specs.Records.{StepsFrom, record_in, next_record, stage_after, stage_next}
 use Rattle.orderfile.specs.Records.{record_length}
@@ -93,7 +93,7 @@ module _ (file : List ℕ) (stage : Stage) (rest : List ℕ) (at : ℕ)
 pub reading_done : (file : List ℕ) (stage : Stage) (rest : List ℕ) (at size : ℕ)
     → IsReadTo file stage rest at → IsKnownSize stage size → field_fault stage rest at ≡ None
     → next_record stage rest ≡ None
-    → (order : Order) × States file order × (size ≡ order.size)
+    → (order : StatedOrder) × States file order × (size ≡ order.size)
 reading_done file Start rest at size h known e none = cc
 reading_done file (Sized n) rest at size h known e none = cc
 reading_done file (Ended n) rest at size h known e none =

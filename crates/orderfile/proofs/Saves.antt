@@ -14,7 +14,7 @@ use Rattle.std.proofs.lemmas.Bool.{not-false}
 use Rattle.std.specs.Option.{option_map}
 use Rattle.std.specs.List.{flat_map, AllByRecursion}
 use Rattle.cost.specs.declared.plain_kind.Plain.{Plain}
-use Rattle.pairing.specs.Inside.{SameInside}
+use Rattle.pairing.specs.Inside.{AreSameInside}
 use Rattle.pairing.specs.Places.{places_of}
 use Rattle.tables.specs.PairTables.{HavePlaces, have_places, says_stands, byte_of}
 use Rattle.tables.proofs.Lengths.{places_told}
@@ -24,14 +24,14 @@ use Rattle.sheet.specs.Refusals.{fault, first_of}
 use Rattle.sheet.proofs.Refused.{refused, accepted, cleared}
 use Rattle.orderfile.specs.declared.format.TheConstants.{SIZE_FIELD, PAIR_FIELD, END_FIELD}
 use Rattle.orderfile.specs.declared.record.StatedPair.{StatedPair}
-use Rattle.orderfile.specs.Format.{Order, PairFits, States, pair_field, end_field, size_field}
+use Rattle.orderfile.specs.Format.{StatedOrder, PairFits, States, pair_field, end_field, size_field}
 use Rattle.orderfile.specs.Format.{file_of}
-use Rattle.orderfile.specs.Loading.{plain, plain_cell, plain_grid, or_else, cost_stated}
-use Rattle.orderfile.specs.Loading.{grid_stated}
+use Rattle.orderfile.specs.Loading.{plain, plain_cell, plain_grid, or_else, stated_cost}
+use Rattle.orderfile.specs.Loading.{stated_grid}
 use Rattle.orderfile.proofs.Grids.{same_grid}
 use Rattle.orderfile.proofs.Listed.{pairs_listed_count, times-cons}
 use Rattle.orderfile.specs.Saving.{saved_length, plain_in_order, save_refusal, pairs_listed, times}
-use Rattle.orderfile.specs.Saving.{StandsAtCost, AreStandingPairs, HoldsFile, Reloads, Saved}
+use Rattle.orderfile.specs.Saving.{StandsAtCost, AreStandingPairs, HoldsFile, Reloads, IsSaved}
 use Rattle.std.proofs.Common.{◌==◌, if◌then◌else◌}
 use Rattle.blockset.specs.declared.TheConstants.{MOST_BLOCKS}
 
@@ -39,8 +39,8 @@ use Rattle.blockset.specs.declared.TheConstants.{MOST_BLOCKS}
 -- holds
 stated_is : (n : ℕ) (costs : List Plain) (standing : List ℕ) (l r : ℕ) (ps : List StatedPair)
     → AllByRecursion (StandsAtCost n costs standing) ps
-    → ((cost_stated ps l r ≡ None) × (times l r ps ≡ 0))
-    ⊎ ((z : ℤ) × (cost_stated ps l r ≡ Some z)
+    → ((stated_cost ps l r ≡ None) × (times l r ps ≡ 0))
+    ⊎ ((z : ℤ) × (stated_cost ps l r ≡ Some z)
     × (plain_cell n costs standing l r ≡ Some (plain z)))
 stated_is n costs standing l r [] s = inl (refl, refl)
 stated_is n costs standing l r (p ∷ ps) s =
@@ -68,7 +68,7 @@ stated_is n costs standing l r (p ∷ ps) s =
 
 pub names_stated : (n : ℕ) (costs : List Plain) (standing : List ℕ) (pairs : List StatedPair)
     → AreStandingPairs n costs standing pairs → (l r : ℕ) → l < n → r < n
-    → option_map plain (cost_stated pairs l r) ≡ plain_cell n costs standing l r
+    → option_map plain (stated_cost pairs l r) ≡ plain_cell n costs standing l r
 names_stated n costs standing pairs names l r hl hr =
     ⊎_elim
     (λ none. ap (option_map plain) none.0 ∙ sym (⊎_elim
@@ -115,10 +115,11 @@ module _ (n : ℕ) (costs : List Plain) (standing : List ℕ) (room : ℕ) where
       (not-false _ (cleared (not (have_places n (length costs) (length standing))) _ _ e).0)
 
 -- two grids of tables that are each the same inside as a third
-same_as_third : (n : ℕ) (costs costs' : List Plain) (standing standing' : List ℕ) (order : Order)
-    → SameInside (plain_grid n costs standing) (grid_stated order)
-    → SameInside (plain_grid n costs' standing') (grid_stated order)
-    → SameInside (plain_grid n costs' standing') (plain_grid n costs standing)
+same_as_third : (n : ℕ) (costs costs' : List Plain) (standing standing' : List ℕ) (order :
+    StatedOrder)
+    → AreSameInside (plain_grid n costs standing) (stated_grid order)
+    → AreSameInside (plain_grid n costs' standing') (stated_grid order)
+    → AreSameInside (plain_grid n costs' standing') (plain_grid n costs standing)
 same_as_third n costs costs' standing standing' order a b = record {
   size = refl;
   columns = refl;
@@ -132,7 +133,7 @@ module _ (n : ℕ) (some : 1 ≤ n) (few : n ≤ MOST_BLOCKS) (costs : List Plai
   reloads : (out' : List ℕ) → length costs ≡ places_of n → HoldsFile n costs standing out out'
       → Reloads n costs standing (take (saved_length standing) out')
   reloads out' long w costs₀ standing₀ r costs' standing' fit h =
-      let order : Order = record { size = n; pairs = w.pairs } in
+      let order : StatedOrder = record { size = n; pairs = w.pairs } in
       let states : States (take (saved_length standing) out') order = record {
         is_file = ap (take (saved_length standing)) w.file ∙ take_at (file_of order)
             (drop (saved_length standing) out) (saved_length standing) w.long;
@@ -155,7 +156,7 @@ module _ (n : ℕ) (some : 1 ≤ n) (few : n ≤ MOST_BLOCKS) (costs : List Plai
 
   pub saved : (r : Result ℕ Fault) (out' : List ℕ) → save_refusal n costs standing
       (length out) ≡ None → r ≡ Ok (saved_length standing) → HoldsFile n costs standing out out'
-      → Saved n costs standing out r out'
+      → IsSaved n costs standing out r out'
   saved r out' e er w = record {
     answers = er ∙ accepted _ _ e;
     stays = λ f s. cc;
@@ -164,7 +165,7 @@ module _ (n : ℕ) (some : 1 ≤ n) (few : n ≤ MOST_BLOCKS) (costs : List Plai
   }
 
   pub not_saved : (f : Fault) (r : Result ℕ Fault) (out' : List ℕ) → save_refusal n costs standing
-      (length out) ≡ Some f → r ≡ Err f → out' ≡ out → Saved n costs standing out r out'
+      (length out) ≡ Some f → r ≡ Err f → out' ≡ out → IsSaved n costs standing out r out'
   not_saved f r out' e er same = record {
     answers = er ∙ refused _ _ _ e;
     stays = λ g s. same;

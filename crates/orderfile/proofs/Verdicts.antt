@@ -10,7 +10,7 @@ use Rattle.sheet.specs.declared.fault.Fault.{Fault}
 use Rattle.orderfile.specs.declared.record.StatedPair.{StatedPair}
 use Rattle.orderfile.specs.declared.record.Stage.{Stage}
 use Rattle.orderfile.specs.declared.record.Stage.TheVariants.{Start, Sized, Ended}
-use Rattle.orderfile.specs.Format.{Order, PairFits, States, size_field, pair_field, end_field}
+use Rattle.orderfile.specs.Format.{StatedOrder, PairFits, States, size_field, pair_field, end_field}
 use Rattle.orderfile.specs.Format.{value_of, pair_in}
 use Rattle.orderfile.specs.Faults.{field_fault, front, FrontFits, FirstFault}
 use Rattle.orderfile.specs.Loading.{HasOneVerdict, IsChecked}
@@ -115,10 +115,11 @@ one_reading (Ended n) (Ended m) ps qs r s hp hq stop-r stop-s e =
     (ap Ended size.0, same.0, ap (drop 3) same.1)
 
 module _ (file : List ℕ) where
-  whole : (order : Order) → States file order → file ≡ front (Ended order.size) order.pairs ++ []
+  whole : (order : StatedOrder) → States file order
+      → file ≡ front (Ended order.size) order.pairs ++ []
   whole order s = s.is_file ∙ sym (append-nil _)
 
-  pub one_order : (o p : Order) → States file o → States file p → o ≡ p
+  pub one_order : (o p : StatedOrder) → States file o → States file p → o ≡ p
   unfolding CannotGoOn
   one_order o p s t =
       let same = one_reading (Ended o.size) (Ended p.size) o.pairs p.pairs [] [] s.fits t.fits tt
@@ -137,7 +138,7 @@ module _ (file : List ℕ) where
       ∙ ap (λ r. field_fault t.stage r (length (front t.stage t.pairs))) same.2 ∙ t.faulty in
       cc
 
-  pub not_both : (o : Order) (f : Fault) → States file o → FirstFault file f → ⊥
+  pub not_both : (o : StatedOrder) (f : Fault) → States file o → FirstFault file f → ⊥
   unfolding CannotGoOn
   not_both o f s t =
       let same = one_reading (Ended o.size) t.stage o.pairs t.pairs [] t.rest s.fits t.fits tt
@@ -146,18 +147,19 @@ module _ (file : List ℕ) where
       (sym same.0) ∙ ap (λ r. field_fault (Ended o.size) r (length (front t.stage t.pairs)))
       (sym same.2))
 
-  verdict : ((order : Order) × States file order) ⊎ ((f : Fault) × FirstFault file f)
+  verdict : ((order : StatedOrder) × States file order) ⊎ ((f : Fault) × FirstFault file f)
       → HasOneVerdict file
   verdict some =
       record { some = some; one_order = one_order; one_fault = one_fault; not_both = not_both }
 
-  pub verdict_order : (order : Order) → States file order → HasOneVerdict file
+  pub verdict_order : (order : StatedOrder) → States file order → HasOneVerdict file
   verdict_order order s = verdict (inl (order, s))
 
   pub verdict_fault : (f : Fault) → FirstFault file f → HasOneVerdict file
   verdict_fault f s = verdict (inr (f, s))
 
-  pub checked_states : (order : Order) (r : Result ℕ Fault) → States file order → r ≡ Ok order.size
+  pub checked_states : (order : StatedOrder) (r : Result ℕ Fault) → States file order
+      → r ≡ Ok order.size
       → IsChecked file r
   checked_states order r s e = record {
     verdict = verdict_order order s;

@@ -30,12 +30,12 @@ abbrev pub end_field : List ℕ
 end_field = END_TAG ∷ 0 ∷ END_LENGTH ∷ []
 
 -- what a whole file states: a size, and pairs in the order in which they stand in the file
-pub record Order : Type 0 where
+pub record StatedOrder : Type 0 where
   pub size : ℕ
   pub pairs : List StatedPair
 
 -- the file of an order: one size field, then the pairs, then one end field
-abbrev pub file_of : Order → List ℕ
+abbrev pub file_of : StatedOrder → List ℕ
 file_of order = size_field order.size ++ (flat_map pair_field order.pairs ++ end_field)
 
 -- a pair that a sheet of n blocks takes
@@ -44,13 +44,13 @@ pub record PairFits (n : ℕ) (p : StatedPair) : Type 0 where
   pub right_below : p.right < n
   pub cost_within : unsigned_abs p.cost ≤ COST_LIMIT
 
-pub record FitsSheet (order : Order) : Type 0 where
+pub record FitsSheet (order : StatedOrder) : Type 0 where
   pub some : 1 ≤ order.size
   pub few : order.size ≤ MOST_BLOCKS
   pub pairs_fit : AllByRecursion (PairFits order.size) order.pairs
 
 -- a file states an order if it is the order's file, and a sheet takes all of it
-pub record States (file : List ℕ) (order : Order) : Type 0 where
+pub record States (file : List ℕ) (order : StatedOrder) : Type 0 where
   pub is_file : file ≡ file_of order
   pub fits : FitsSheet order
 

@@ -6,7 +6,7 @@ use Rattle.cost.specs.Columns.{rail_of}
 use Rattle.cost.specs.declared.Cost.{Ghosts}
 use Rattle.cost.specs.declared.plain_kind.Plain.{Plain}
 use Rattle.pairing.specs.Grid.{Grid}
-use Rattle.pairing.specs.Inside.{SameInside}
+use Rattle.pairing.specs.Inside.{AreSameInside}
 use Rattle.tables.specs.PairTables.{HavePlaces, cell, costs_opened, standing_opened, costs_entered}
 use Rattle.tables.specs.PairTables.{standing_entered}
 use Rattle.tables.specs.Said.{grid_of}
@@ -16,20 +16,20 @@ use Rattle.sheet.specs.Refusals.{fault}
 use Rattle.sheet.specs.declared.fault.Cause.TheVariants.{TableLength}
 use Rattle.sheet.specs.declared.fault.Fault.{Fault}
 use Rattle.orderfile.specs.declared.record.StatedPair.{StatedPair}
-use Rattle.orderfile.specs.Format.{Order, States}
+use Rattle.orderfile.specs.Format.{StatedOrder, States}
 use Rattle.orderfile.specs.Faults.{FirstFault}
 
 -- a file states one order or has one first fault, and never both
 pub record HasOneVerdict (file : List ℕ) : Type 0 where
-  pub some : ((order : Order) × States file order) ⊎ ((f : Fault) × FirstFault file f)
-  pub one_order : (o p : Order) → States file o → States file p → o ≡ p
+  pub some : ((order : StatedOrder) × States file order) ⊎ ((f : Fault) × FirstFault file f)
+  pub one_order : (o p : StatedOrder) → States file o → States file p → o ≡ p
   pub one_fault : (f g : Fault) → FirstFault file f → FirstFault file g → f ≡ g
-  pub not_both : (o : Order) (f : Fault) → States file o → FirstFault file f → ⊥
+  pub not_both : (o : StatedOrder) (f : Fault) → States file o → FirstFault file f → ⊥
 
 -- checking a file answers its size or its first fault
 pub record IsChecked (file : List ℕ) (r : Result ℕ Fault) : Type 0 where
   pub verdict : HasOneVerdict file
-  pub states : (order : Order) → States file order → r ≡ Ok order.size
+  pub states : (order : StatedOrder) → States file order → r ≡ Ok order.size
   pub faulty : (f : Fault) → FirstFault file f → r ≡ Err f
 
 -- a number as a plain cost
@@ -69,10 +69,10 @@ abbrev pub names_blocks : (l r : ℕ) → StatedPair → Bool
 names_blocks l r p = p.left == l && p.right == r
 
 -- what pairs state of left block l and right block r: a later one replaces an earlier one
-abbrev pub cost_stated : List StatedPair → ℕ → ℕ → Option ℤ
-cost_stated [] l r = None
-cost_stated (p ∷ ps) l r =
-    or_else (cost_stated ps l r) (if names_blocks l r p then Some p.cost else None)
+abbrev pub stated_cost : List StatedPair → ℕ → ℕ → Option ℤ
+stated_cost [] l r = None
+stated_cost (p ∷ ps) l r =
+    or_else (stated_cost ps l r) (if names_blocks l r p then Some p.cost else None)
 
 -- the columns of a stated cost: itself as the only one
 abbrev pub stated_columns : Option ℤ → List ℤ
@@ -80,18 +80,18 @@ stated_columns None = []
 stated_columns (Some cost) = cost ∷ []
 
 -- the grid that an order states: a pair stands if a cost is stated for it, and has that cost
-abbrev pub grid_stated : Order → Grid
-grid_stated order = record {
+abbrev pub stated_grid : StatedOrder → Grid
+stated_grid order = record {
   size = order.size;
   columns = 1;
-  stands = λ l r. is_some (cost_stated order.pairs l r);
-  cost = λ l r. stated_columns (cost_stated order.pairs l r);
+  stands = λ l r. is_some (stated_cost order.pairs l r);
+  cost = λ l r. stated_columns (stated_cost order.pairs l r);
 }
 
 -- the tables say of each pair what the order states
-abbrev pub Shows : Order → List Plain → List ℕ → Type 0
-Shows order costs standing = (l r : ℕ) → l < order.size → r < order.size
-    → plain_cell order.size costs standing l r ≡ option_map plain (cost_stated order.pairs l r)
+abbrev pub ShowsOrder : StatedOrder → List Plain → List ℕ → Type 0
+ShowsOrder order costs standing = (l r : ℕ) → l < order.size → r < order.size
+    → plain_cell order.size costs standing l r ≡ option_map plain (stated_cost order.pairs l r)
 
 pub record RefusesLoad (f : Fault) (costs : List Plain) (standing : List ℕ) (r : Result Sheet Fault)
     (costs' : List Plain) (standing' : List ℕ) : Type 0 where
@@ -99,7 +99,7 @@ pub record RefusesLoad (f : Fault) (costs : List Plain) (standing : List ℕ) (r
   pub costs_stay : costs' ≡ costs
   pub standing_stays : standing' ≡ standing
 
-pub record Accepted (order : Order) (r : Result Sheet Fault) (costs' : List Plain)
+pub record LoadsOrder (order : StatedOrder) (r : Result Sheet Fault) (costs' : List Plain)
     (standing' : List ℕ) : Type 0 where
   pub answers : r ≡ Ok (sheet_of order.size)
   -- exactly the tables that opening a sheet and entering the pairs in turn leave
@@ -108,21 +108,22 @@ pub record Accepted (order : Order) (r : Result Sheet Fault) (costs' : List Plai
   pub enters_standing : standing' ≡ standing_after order.size order.pairs
       (standing_opened order.size)
   -- which is the sheet that the file states
-  pub shows : Shows order costs' standing'
+  pub shows : ShowsOrder order costs' standing'
   -- so all that is told of the grid in them is told of the grid that the file states
-  pub grid : SameInside (plain_grid order.size costs' standing') (grid_stated order)
+  pub grid : AreSameInside (plain_grid order.size costs' standing') (stated_grid order)
   -- and they are pair tables in order, at which no call on a sheet takes offence
   pub pair_tables : ArePairTables plain_kind order.size costs' standing'
 
 -- loading: the first fault of the file, else tables of the wrong length, else the sheet that the
 -- file states
-pub record Loaded (file : List ℕ) (costs : List Plain) (standing : List ℕ) (r : Result Sheet Fault)
+pub record IsLoaded (file : List ℕ) (costs : List Plain) (standing : List ℕ) (r : Result Sheet
+    Fault)
     (costs' : List Plain) (standing' : List ℕ) : Type 0 where
   pub verdict : HasOneVerdict file
   pub faulty : (f : Fault) → FirstFault file f → RefusesLoad f costs standing r costs' standing'
-  pub misfits : (order : Order) → States file order
+  pub misfits : (order : StatedOrder) → States file order
       → (HavePlaces order.size (length costs) (length standing) → ⊥)
       → RefusesLoad (fault TableLength 0) costs standing r costs' standing'
-  pub loads : (order : Order) → States file order
+  pub loads : (order : StatedOrder) → States file order
       → HavePlaces order.size (length costs) (length standing)
-      → Accepted order r costs' standing'
+      → LoadsOrder order r costs' standing'

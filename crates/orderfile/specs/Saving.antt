@@ -5,7 +5,7 @@ use Rattle.std.specs.Prelude.{Result, nat_lt, count_by, if◌then◌else◌, sli
 use Rattle.std.specs.Prelude.{slice_index_or}
 use Rattle.std.specs.List.{AllByRecursion}
 use Rattle.cost.specs.declared.plain_kind.Plain.{Plain}
-use Rattle.pairing.specs.Inside.{SameInside}
+use Rattle.pairing.specs.Inside.{AreSameInside}
 use Rattle.tables.specs.PairTables.{HavePlaces, have_places, says_stands, byte_of}
 use Rattle.tables.specs.PairTables.{in_order}
 use Rattle.sheet.specs.Size.{Sheet, sheet_of}
@@ -16,7 +16,7 @@ use Rattle.orderfile.specs.declared.format.TheConstants.{SIZE_FIELD, PAIR_FIELD,
 use Rattle.orderfile.specs.declared.record.StatedPair.{StatedPair}
 use Rattle.orderfile.specs.Format.{PairFits, file_of}
 use Rattle.orderfile.specs.Loading.{plain, plain_kind, plain_cell, plain_grid, names_blocks}
-use Rattle.orderfile.specs.Loading.{Loaded}
+use Rattle.orderfile.specs.Loading.{IsLoaded}
 
 -- the length of a saved file: a size field, a field for each standing pair, an end field
 abbrev pub saved_length : List ℕ → ℕ
@@ -64,13 +64,13 @@ Reloads n costs standing file =
     (costs₀ : List Plain) (standing₀ : List ℕ) (r : Result Sheet Fault) (costs' : List Plain)
     (standing' : List ℕ)
     → HavePlaces n (length costs₀) (length standing₀)
-    → Loaded file costs₀ standing₀ r costs' standing'
+    → IsLoaded file costs₀ standing₀ r costs' standing'
     → (r ≡ Ok (sheet_of n))
     × ((l r : ℕ) → l < n → r < n
     → plain_cell n costs' standing' l r ≡ plain_cell n costs standing l r)
-    × SameInside (plain_grid n costs' standing') (plain_grid n costs standing)
+    × AreSameInside (plain_grid n costs' standing') (plain_grid n costs standing)
 
-pub record Saved (n : ℕ) (costs : List Plain) (standing out : List ℕ) (r : Result ℕ Fault)
+pub record IsSaved (n : ℕ) (costs : List Plain) (standing out : List ℕ) (r : Result ℕ Fault)
     (out' : List ℕ) : Type 0 where
   pub answers : r ≡ answer (save_refusal n costs standing (length out)) (saved_length standing)
   pub stays : (f : Fault) → save_refusal n costs standing (length out) ≡ Some f → out' ≡ out

@@ -2,8 +2,8 @@
 
 ghost use Rattle.std.specs.Prelude.{◌≡◌, length};
 ghost use Rattle.tables.specs.PairTables.{HavePlaces};
-ghost use Rattle.orderfile.specs.Format.{Order, States};
-ghost use Rattle.orderfile.specs.Loading.{IsChecked, costs_after, standing_after, Loaded};
+ghost use Rattle.orderfile.specs.Format.{StatedOrder, States};
+ghost use Rattle.orderfile.specs.Loading.{IsChecked, costs_after, standing_after, IsLoaded};
 
 use crate::record::Record;
 use crate::record_reader::RecordReader;
@@ -30,7 +30,7 @@ pub fn check(file: &[u8]) -> Result<u16, Fault>
 /// The whole file is read before anything is written. Refused: the first fault of the file, and
 /// then tables that do not have n * n places, for the size n that the file states.
 pub fn load(file: &[u8], costs: &mut [Plain], standing: &mut [u8]) -> Result<OpenSheet, Fault>
-    ensures { Loaded file.now costs.old standing.old result costs.new standing.new }
+    ensures { IsLoaded file.now costs.old standing.old result costs.new standing.new }
 {
     let n = check(file)?;
     let sheet = open(n, costs, standing)?;
@@ -41,9 +41,9 @@ pub fn load(file: &[u8], costs: &mut [Plain], standing: &mut [u8]) -> Result<Ope
 /// Enters the pairs of a file of size n, which is known to have no fault: so the reader, which
 /// tests it again, hands out all of its records.
 fn enter_all(n: u16, file: &[u8], costs: &mut [Plain], standing: &mut [u8])
-    requires stated { (order : Order) × States file.now order × (order.size ≡ n) }
+    requires stated { (order : StatedOrder) × States file.now order × (order.size ≡ n) }
     requires places { HavePlaces n (length costs.old) (length standing.old) }
-    ensures { (order : Order) → States file.now order
+    ensures { (order : StatedOrder) → States file.now order
         → (costs.new ≡ costs_after order.size order.pairs costs.old)
         × (standing.new ≡ standing_after order.size order.pairs standing.old) }
 {

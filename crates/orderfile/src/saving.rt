@@ -10,7 +10,7 @@ ghost use Rattle.tables.specs.PairTables.{HavePlaces};
 ghost use Rattle.sheet.specs.Size.{size_of};
 ghost use Rattle.orderfile.specs.declared.format.TheConstants.{SIZE_FIELD, PAIR_FIELD};
 ghost use Rattle.orderfile.specs.Format.{pair_field, eight_bytes, file_of};
-ghost use Rattle.orderfile.specs.Saving.{saved_length, pair_at, pairs_listed, Saved};
+ghost use Rattle.orderfile.specs.Saving.{saved_length, pair_at, pairs_listed, IsSaved};
 
 use crate::format::{
     END_FIELD, END_LENGTH, END_TAG, PAIR_FIELD, PAIR_LENGTH, PAIR_TAG, SIZE_FIELD, SIZE_LENGTH,
@@ -32,7 +32,7 @@ pub fn save(
     standing: &[u8],
     out: &mut [u8],
 ) -> Result<usize, Fault>
-    ensures { Saved (size_of sheet.now) costs.now standing.now out.old result out.new }
+    ensures { IsSaved (size_of sheet.now) costs.now standing.now out.old result out.new }
 {
     let n = sheet.size();
     if !have_places(n, costs.len(), standing.len()) {

@@ -8,11 +8,11 @@ use Rattle.std.specs.List.{range_with_len, list_any}
 use Rattle.std.proofs.lemmas.Bool.Decides.{Decides-like}
 use Rattle.blockset.specs.Sets.{members, bit}
 use Rattle.blockset.proofs.Members.{members_like}
-use Rattle.pairing.specs.Grid.{at, Perfect}
-use Rattle.pairing.specs.Largest.{Partial, Largest, IsInCrowd, around, shortage, Unpaired}
-use Rattle.pairing.specs.Inside.{Alike}
+use Rattle.pairing.specs.Grid.{at, IsPerfect}
+use Rattle.pairing.specs.Largest.{IsPartial, IsLargest, IsInCrowd, around, shortage, HasNoPerfect}
+use Rattle.pairing.specs.Inside.{AreAlike}
 
-pub alike_back : (n : ℕ) (s t : ℕ → ℕ → Bool) → Alike n s t → Alike n t s
+pub alike_back : (n : ℕ) (s t : ℕ → ℕ → Bool) → AreAlike n s t → AreAlike n t s
 alike_back n s t e l r i j = sym (e l r i j)
 
 some_like : (C D : ℕ → Bool) (a n : ℕ) → ((k : ℕ) → k < a + n → C k ≡ D k)
@@ -21,8 +21,8 @@ some_like C D a zero e = refl
 some_like C D a (suc n) e = ap₂ ◌||◌ (e a (omega arith))
     (some_like C D (a + 1) n (λ k h. e k (omega arith)))
 
-module _ (n : ℕ) (s t : ℕ → ℕ → Bool) (e : Alike n s t) where
-  pub perfect_like : (p : List ℕ) → Perfect n s p → Perfect n t p
+module _ (n : ℕ) (s t : ℕ → ℕ → Bool) (e : AreAlike n s t) where
+  pub perfect_like : (p : List ℕ) → IsPerfect n s p → IsPerfect n t p
   perfect_like p h = record {
     len = h.len;
     below = h.below;
@@ -30,7 +30,7 @@ module _ (n : ℕ) (s t : ℕ → ℕ → Bool) (e : Alike n s t) where
     once = h.once;
   }
 
-  pub partial_like : (p : List ℕ) (out : ℕ → Bool) → Partial n s p out → Partial n t p out
+  pub partial_like : (p : List ℕ) (out : ℕ → Bool) → IsPartial n s p out → IsPartial n t p out
   partial_like p out h = record {
     len = h.len;
     below = h.below;
@@ -46,8 +46,8 @@ module _ (n : ℕ) (s t : ℕ → ℕ → Bool) (e : Alike n s t) where
   shortage_like X =
       ap (λ k. members n X - k) (members_like n (around n t X) (around n s X) (around_like X))
 
-module _ (n : ℕ) (s t : ℕ → ℕ → Bool) (e : Alike n s t) where
-  pub largest_like : (p : List ℕ) (out : ℕ → Bool) → Largest n s p out → Largest n t p out
+module _ (n : ℕ) (s t : ℕ → ℕ → Bool) (e : AreAlike n s t) where
+  pub largest_like : (p : List ℕ) (out : ℕ → Bool) → IsLargest n s p out → IsLargest n t p out
   largest_like p out h = record {
     part = partial_like n s t e p out h.part;
     most = λ q out' k. h.most q out' (partial_like n t s (alike_back n s t e) q out' k);
@@ -62,11 +62,12 @@ module _ (n : ℕ) (s t : ℕ → ℕ → Bool) (e : Alike n s t) where
     left_out = h.left_out;
   }
 
-module _ (n : ℕ) (s t : ℕ → ℕ → Bool) (e : Alike n s t) where
-  pub perfect_alike : (p : List ℕ) → Perfect n s p ↔ Perfect n t p
+module _ (n : ℕ) (s t : ℕ → ℕ → Bool) (e : AreAlike n s t) where
+  pub perfect_alike : (p : List ℕ) → IsPerfect n s p ↔ IsPerfect n t p
   perfect_alike p = (perfect_like n s t e p, perfect_like n t s (alike_back n s t e) p)
 
-  pub unpaired_like : (crowd short : ℕ) → Unpaired n s crowd short → Unpaired n t crowd short
+  pub unpaired_like : (crowd short : ℕ) → HasNoPerfect n s crowd short
+      → HasNoPerfect n t crowd short
   unpaired_like crowd short h = record {
     none = λ p k. h.none p (perfect_like n t s (alike_back n s t e) p k);
     crowd_set = λ l. Decides-like (bit crowd l) (crowd_like n s t e l)

@@ -9,8 +9,8 @@ use Rattle.std.proofs.lemmas.Int.{ints}
 use Rattle.cost.specs.Columns.{zeros}
 use Rattle.cost.specs.Weights.{weight}
 use Rattle.cost.proofs.Weights.{weight_zeros}
-use Rattle.pairing.specs.Grid.{Grid, Sane, at, PerfectIn}
-use Rattle.pairing.specs.Prices.{TightPair, Valid, Low, Greatest}
+use Rattle.pairing.specs.Grid.{Grid, IsSane, at, IsPerfectIn}
+use Rattle.pairing.specs.Prices.{IsTight, AreValid, IsLow, AreGreatest}
 use Rattle.pairing.proofs.Weighing.{value_low, value_from, price_is}
 use Rattle.pairing.proofs.Duality.{pair_under, tight_is}
 
@@ -18,40 +18,42 @@ use Rattle.pairing.proofs.Duality.{pair_under, tight_is}
 abbrev pub Attained : (g : Grid) (left right : ℕ → List ℤ) (p : List ℕ) (rank : ℕ → ℕ) → ℕ → Type 0
 Attained g left right p rank r =
     (right r ≡ zeros g.columns)
-    ⊎ ((l : ℕ) × (l < g.size) × (g.stands l r ≡ true) × TightPair g left right l r
+    ⊎ ((l : ℕ) × (l < g.size) × (g.stands l r ≡ true) × IsTight g left right l r
     × (rank (at p l) < rank r))
 
-module _ (g : Grid) (s : Sane g) (left right : ℕ → List ℤ) (p : List ℕ) (h : PerfectIn g p)
-    (v : Valid g left right p) (rank : ℕ → ℕ)
+module _ (g : Grid) (s : IsSane g) (left right : ℕ → List ℤ) (p : List ℕ) (h : IsPerfectIn g p)
+    (v : AreValid g left right p) (rank : ℕ → ℕ)
     (attained : (r : ℕ) → r < g.size → Attained g left right p rank r) where
-  module _ (left' right' : ℕ → List ℤ) (v' : Valid g left' right' p) (low' : Low g right') where
-    not_above : (b r : ℕ) → r < g.size → rank r < b → weight (right' r) ≤ℤ weight (right r)
-    not_above zero r j less = absurd (omega arith)
-    not_above (suc b) r j less = elim (attained r j) [
-      | inl e ↦ let w : weight (right r) ≡ weight (zeros g.columns) = ap weight e in
-          omega (
+  module _ (left' right' : ℕ → List ℤ) (v' : AreValid g left' right' p) (low' : IsLow g right')
+    where
+      not_above : (b r : ℕ) → r < g.size → rank r < b → weight (right' r) ≤ℤ weight (right r)
+      not_above zero r j less = absurd (omega arith)
+      not_above (suc b) r j less = elim (attained r j) [
+        | inl e ↦ let w : weight (right r) ≡ weight (zeros g.columns) = ap weight e in
+            omega (
+              arith,
+              ints,
+              weight_zeros g.columns,
+              value_low g.columns (right' r) (v'.rights r j)
+                  (low' r j),
+            )
+        | inr w ↦ tied w.0 w.1 w.2 w.3
+            (not_above b (at p w.0) (h.below w.0 w.1) (omega (arith, w.4)))
+      ]
+        where
+          tied : (l : ℕ) → l < g.size → g.stands l r ≡ true → IsTight g left right l r
+              → weight (right' (at p l)) ≤ℤ weight (right (at p l)) → weight (right' r) ≤ℤ weight
+              (right r)
+          tied l i t e ih = omega (
             arith,
             ints,
-            weight_zeros g.columns,
-            value_low g.columns (right' r) (v'.rights r j)
-                (low' r j),
+            pair_under g s left' right' p h v' l r i j t,
+            tight_is g s left' right' p h v' p h v'.equal l i,
+            tight_is g s left right p h v p h v.equal l i,
+            price_is g s left right l r i j t (v.lefts l i) (v.rights r j) e,
           )
-      | inr w ↦ tied w.0 w.1 w.2 w.3 (not_above b (at p w.0) (h.below w.0 w.1) (omega (arith, w.4)))
-    ]
-      where
-        tied : (l : ℕ) → l < g.size → g.stands l r ≡ true → TightPair g left right l r
-            → weight (right' (at p l)) ≤ℤ weight (right (at p l)) → weight (right' r) ≤ℤ weight
-            (right r)
-        tied l i t e ih = omega (
-          arith,
-          ints,
-          pair_under g s left' right' p h v' l r i j t,
-          tight_is g s left' right' p h v' p h v'.equal l i,
-          tight_is g s left right p h v p h v.equal l i,
-          price_is g s left right l r i j t (v.lefts l i) (v.rights r j) e,
-        )
 
-  pub attained_greatest : Low g right → Greatest g left right p
+  pub attained_greatest : IsLow g right → AreGreatest g left right p
   attained_greatest low = record {
     valid = v;
     low = low;

@@ -9,7 +9,7 @@ use Rattle.std.proofs.Common.{pos, ◌+ℤ◌, ◌≤ℤ◌, sym, refl, inl, inr
 use Rattle.std.proofs.lemmas.Int.{ints}
 use Rattle.std.proofs.lemmas.Bool.{cases_Bool, cond-true, cond-false, eqb-true, or_cases}
 use Rattle.std.proofs.lemmas.Bool.{true≢false}
-use Rattle.pairing.specs.Grid.{at, Perfect}
+use Rattle.pairing.specs.Grid.{at, IsPerfect}
 use Rattle.pairing.specs.Theorems.{GivenAlike}
 use Rattle.pairing.proofs.Sums.{sum_z, sum_same, sum-zero, sum_tight, without, sum_without}
 
@@ -53,7 +53,7 @@ struck n p (suc m) below once f =
     (λ r h. cond_or (eqb r (p m)) (hit p m r) (f r)) in
     omega (arith, ints)
 
-module _ (n : ℕ) (stands : ℕ → ℕ → Bool) (p : List ℕ) (h : Perfect n stands p) where
+module _ (n : ℕ) (stands : ℕ → ℕ → Bool) (p : List ℕ) (h : IsPerfect n stands p) where
   all_hit : (r : ℕ) → r < n → hit (at p) n r ≡ true
   all_hit r i =
       let e = struck n (at p) n h.below h.once (λ _. pos 1) in
@@ -84,8 +84,8 @@ implies_le a b h = grind (arith, ints)
 same_if : (a b : Bool) → one_if a ≡ one_if b → a ≡ b
 same_if a b e = grind arith
 
-module _ (n : ℕ) (stands stands' : ℕ → ℕ → Bool) (p q : List ℕ) (h : Perfect n stands p)
-    (k : Perfect n stands' q) (C : ℕ → Bool)
+module _ (n : ℕ) (stands stands' : ℕ → ℕ → Bool) (p q : List ℕ) (h : IsPerfect n stands p)
+    (k : IsPerfect n stands' q) (C : ℕ → Bool)
     (more : (l : ℕ) → l < n → C (at p l) ≡ true → C (at q l) ≡ true) where
   given_same : (l : ℕ) → l < n → C (at p l) ≡ C (at q l)
   given_same l i =

@@ -18,9 +18,9 @@ use Rattle.std.proofs.lemmas.Bool.{leb-true, leb-false, le-leb}
 use Rattle.blockset.specs.Sets.{members}
 use Rattle.blockset.proofs.Members.{members_like, members_with, members_without, members_split}
 use Rattle.blockset.proofs.Members.{members_none, members_no, inject_le, inject_below}
-use Rattle.pairing.specs.Grid.{at, Perfect}
-use Rattle.pairing.specs.Largest.{Partial, Largest, IsInCrowd, CrowdSet, around}
-use Rattle.pairing.specs.Chains.{Reached, free, onward, Held, Stuck, Shut}
+use Rattle.pairing.specs.Grid.{at, IsPerfect}
+use Rattle.pairing.specs.Largest.{IsPartial, IsLargest, IsInCrowd, IsCrowdSet, around}
+use Rattle.pairing.specs.Chains.{IsReached, free, onward, IsHeld, IsStuck, IsShut}
 use Rattle.pairing.specs.Theorems.{LeavesOut, Hall, LargestIfStuck, ShortBy}
 use Rattle.pairing.proofs.Members.{some_below, some_tells, some_two, pairs_and_out}
 use Rattle.pairing.proofs.Closures.{Closure, closure, reached_all}
@@ -28,8 +28,8 @@ use Rattle.pairing.proofs.Filling.{fill}
 
 -- ---- the bound from a set of left blocks that stand with few right blocks
 
-module _ (n : ℕ) (stands : ℕ → ℕ → Bool) (X Y : ℕ → Bool) (shut : Shut n stands X Y) (q : List ℕ)
-    (G : ℕ → Bool) (g : Partial n stands q G) where
+module _ (n : ℕ) (stands : ℕ → ℕ → Bool) (X Y : ℕ → Bool) (shut : IsShut n stands X Y) (q : List ℕ)
+    (G : ℕ → Bool) (g : IsPartial n stands q G) where
   kept : (l : ℕ) → (X l && not (G l)) ≡ true → (X l ≡ true) × (G l ≡ false)
   kept l t = let b = and_parts (X l) (not (G l)) t in (b.0, not-true (G l) b.1)
 
@@ -62,8 +62,8 @@ leaves_out many few least is = record {
 }
 
 -- a perfect pairing leaves nothing out
-pub perfect_partial : (n : ℕ) (stands : ℕ → ℕ → Bool) (q : List ℕ) → Perfect n stands q
-    → Partial n stands q (λ _. false)
+pub perfect_partial : (n : ℕ) (stands : ℕ → ℕ → Bool) (q : List ℕ) → IsPerfect n stands q
+    → IsPartial n stands q (λ _. false)
 perfect_partial n stands q h = record {
   len = h.len;
   below = λ l i _. h.below l i;
@@ -74,7 +74,7 @@ perfect_partial n stands q h = record {
 
 -- and a pairing that leaves nothing out is perfect
 pub partial_perfect : (n : ℕ) (stands : ℕ → ℕ → Bool) (q : List ℕ) (out : ℕ → Bool)
-    → Partial n stands q out → ((l : ℕ) → l < n → out l ≡ false) → Perfect n stands q
+    → IsPartial n stands q out → ((l : ℕ) → l < n → out l ≡ false) → IsPerfect n stands q
 partial_perfect n stands q out h f = record {
   len = h.len;
   below = λ l i. h.below l i (f l i);
@@ -83,8 +83,8 @@ partial_perfect n stands q out h f = record {
 }
 
 -- so too few right blocks stand with X for a perfect pairing
-too_few : (n : ℕ) (stands : ℕ → ℕ → Bool) (X Y : ℕ → Bool) → Shut n stands X Y
-    → members n Y < members n X → (q : List ℕ) → Perfect n stands q → ⊥
+too_few : (n : ℕ) (stands : ℕ → ℕ → Bool) (X Y : ℕ → Bool) → IsShut n stands X Y
+    → members n Y < members n X → (q : List ℕ) → IsPerfect n stands q → ⊥
 too_few n stands X Y shut less q h =
     let g = perfect_partial n stands q h in
     omega (
@@ -100,7 +100,7 @@ apart_by : (A : ℕ → Bool) (x y : ℕ) → A x ≡ false → A y ≡ true →
 apart_by A x y f t e = both_ways (A x) f (ap A e ∙ t)
 
 pub reached_inside : (n : ℕ) (stands : ℕ → ℕ → Bool) (p : List ℕ) (out : ℕ → Bool) (l : ℕ)
-    → Reached n stands p out l → l < n
+    → IsReached n stands p out l → l < n
 reached_inside n stands p out _ (free l i t) = i
 reached_inside n stands p out _ (onward l m w i f t) = i
 
@@ -113,13 +113,13 @@ around_tells n stands X r =
     )
 
 module _ (n : ℕ) (stands : ℕ → ℕ → Bool) where
-  fewest : (p : List ℕ) (out : ℕ → Bool) → Largest n stands p out → (q : List ℕ) (G : ℕ → Bool)
-      → Partial n stands q G → members n out ≤ members n G
+  fewest : (p : List ℕ) (out : ℕ → Bool) → IsLargest n stands p out → (q : List ℕ) (G : ℕ → Bool)
+      → IsPartial n stands q G → members n out ≤ members n G
   fewest p out h q G g = omega (arith, h.most q G g, pairs_and_out n out, pairs_and_out n G)
 
-  largest_from : (p : List ℕ) (out : ℕ → Bool) → Partial n stands p out
-      → ((q : List ℕ) (G : ℕ → Bool) → Partial n stands q G → members n out ≤ members n G)
-      → Largest n stands p out
+  largest_from : (p : List ℕ) (out : ℕ → Bool) → IsPartial n stands p out
+      → ((q : List ℕ) (G : ℕ → Bool) → IsPartial n stands q G → members n out ≤ members n G)
+      → IsLargest n stands p out
   largest_from p out part few =
       record {
         part = part;
@@ -131,7 +131,7 @@ module _ (n : ℕ) (stands : ℕ → ℕ → Bool) where
   is_held : (p : List ℕ) (out : ℕ → Bool) (r : ℕ) → Bool
   is_held p out r = some_below n (λ x. not (out x) && eqb (at p x) r)
 
-  held_tells : (p : List ℕ) (out : ℕ → Bool) (r : ℕ) → Decides (is_held p out r) (Held n p out r)
+  held_tells : (p : List ℕ) (out : ℕ → Bool) (r : ℕ) → Decides (is_held p out r) (IsHeld n p out r)
   unfolding is_held
   held_tells p out r =
       let d = some_tells n (λ x. not (out x) && eqb (at p x) r) in (
@@ -141,7 +141,7 @@ module _ (n : ℕ) (stands : ℕ → ℕ → Bool) where
       )
 
 module _ (n : ℕ) (stands : ℕ → ℕ → Bool) (p : List ℕ) (out : ℕ → Bool)
-    (part : Partial n stands p out) where
+    (part : IsPartial n stands p out) where
   -- a step from a left block to the one whose right block it stands with
   edge : ℕ → ℕ → Bool
   edge m x = not (out x) && stands m (at p x)
@@ -169,14 +169,14 @@ module _ (n : ℕ) (stands : ℕ → ℕ → Bool) (p : List ℕ) (out : ℕ →
   unfolding D rank
   is = found.2
 
-  reached_in : (l : ℕ) → Reached n stands p out l → D l ≡ true
+  reached_in : (l : ℕ) → IsReached n stands p out l → D l ≡ true
   reached_in _ (free l i t) = is.has l i t
   reached_in _ (onward l m w i f t) = is.closed l m (reached_inside n stands p out l w) i
       (reached_in l w) (edge_from l m f t)
 
-  in_reached : (l : ℕ) → l < n → D l ≡ true → Reached n stands p out l
+  in_reached : (l : ℕ) → l < n → D l ≡ true → IsReached n stands p out l
   in_reached l i d =
-      reached_all n out edge D rank is (Reached n stands p out) (λ y j s. free y j s)
+      reached_all n out edge D rank is (IsReached n stands p out) (λ y j s. free y j s)
       (λ x y i j w e. let b = edge_parts x y e in onward x y w j b.0 b.1) (suc (rank l)) l i
       (omega arith) d
 
@@ -193,10 +193,10 @@ module _ (n : ℕ) (stands : ℕ → ℕ → Bool) (p : List ℕ) (out : ℕ →
 
   -- the exchange along an augmenting path, from its end l and r on: one more pair, of a left block
   -- f that was left out
-  pub augmented : (l r : ℕ) → Reached n stands p out l → r < n → stands l r ≡ true
+  pub augmented : (l r : ℕ) → IsReached n stands p out l → r < n → stands l r ≡ true
       → ((x : ℕ) → x < n → out x ≡ false → at p x ≡ r → ⊥)
       → (q : List ℕ) × (f : ℕ) × (f < n) × (out f ≡ true)
-      × Partial n stands q (λ x. out x && not (eqb x f))
+      × IsPartial n stands q (λ x. out x && not (eqb x f))
   augmented l r w j t unheld =
       fill n stands p out out D rank (suc (rank l)) (back out (suc (rank l)) (λ x _ f. f))
       (suc (rank l)) p r l
@@ -213,7 +213,7 @@ module _ (n : ℕ) (stands : ℕ → ℕ → Bool) (p : List ℕ) (out : ℕ →
 
   -- a reached left block is left out by a pairing that leaves as many out
   loosen : (l : ℕ) → l < n → D l ≡ true → (q : List ℕ) × (out' : ℕ → Bool)
-      × Partial n stands q out' × (members n out' ≡ members n out) × (out' l ≡ true)
+      × IsPartial n stands q out' × (members n out' ≡ members n out) × (out' l ≡ true)
   loosen l i d =
       let F : ℕ → Bool = λ x. eqb x l || out x in
       let less : (x : ℕ) → rank x < rank l → out x ≡ false → F x ≡ false = λ x low f. let ne =
@@ -260,11 +260,11 @@ module _ (n : ℕ) (stands : ℕ → ℕ → Bool) (p : List ℕ) (out : ℕ →
 
   -- ---- where no free right block is left
 
-  module _ (stuck : Stuck n stands p out) where
+  module _ (stuck : IsStuck n stands p out) where
     Y : ℕ → Bool
     Y = around n stands D
 
-    shut : Shut n stands D Y
+    shut : IsShut n stands D Y
     unfolding Y
     shut l r i j d t = (around_tells n stands D r).1 (l, i, d, t)
 
@@ -306,7 +306,7 @@ module _ (n : ℕ) (stands : ℕ → ℕ → Bool) (p : List ℕ) (out : ℕ →
       left_out_le n stands D Y shut p out part,
     )
 
-    most : (q : List ℕ) (G : ℕ → Bool) → Partial n stands q G → members n out ≤ members n G
+    most : (q : List ℕ) (G : ℕ → Bool) → IsPartial n stands q G → members n out ≤ members n G
     most q G g =
         omega (
           arith,
@@ -316,7 +316,7 @@ module _ (n : ℕ) (stands : ℕ → ℕ → Bool) (p : List ℕ) (out : ℕ →
               g,
         )
 
-    only_reached : (q : List ℕ) (G : ℕ → Bool) → Partial n stands q G
+    only_reached : (q : List ℕ) (G : ℕ → Bool) → IsPartial n stands q G
         → members n G ≤ members n out → (l : ℕ) → l < n → G l ≡ true → D l ≡ true
     only_reached q G g le l i t =
         let none = members_none n (λ l. G l && not (D l))
@@ -332,20 +332,20 @@ module _ (n : ℕ) (stands : ℕ → ℕ → Bool) (p : List ℕ) (out : ℕ →
 
   -- ---- where one is left, or not
 
-  pub stuck_largest : Stuck n stands p out → Largest n stands p out
+  pub stuck_largest : IsStuck n stands p out → IsLargest n stands p out
   stuck_largest s = largest_from n stands p out part (most s)
 
   -- a chain that ends at r, which is free: a pairing that leaves one fewer out
-  larger : (l r : ℕ) → Reached n stands p out l → r < n → stands l r ≡ true
+  larger : (l r : ℕ) → IsReached n stands p out l → r < n → stands l r ≡ true
       → is_held n stands p out r ≡ false
-      → (q : List ℕ) × (out' : ℕ → Bool) × Partial n stands q out'
+      → (q : List ℕ) × (out' : ℕ → Bool) × IsPartial n stands q out'
       × (members n out ≡ suc (members n out'))
   larger l r w j t e =
       let v = augmented l r w j t
       (λ x k f s. both_ways _ e ((held_tells n stands p out r).1 (x, k, f, s))) in
       (v.0, λ x. out x && not (eqb x v.1), v.4, members_without n out v.1 v.2 v.3)
 
-  pub largest_stuck : Largest n stands p out → Stuck n stands p out
+  pub largest_stuck : IsLargest n stands p out → IsStuck n stands p out
   largest_stuck h l r w j t =
       elim (cases_Bool (is_held n stands p out r)) [
         | inl e ↦ (held_tells n stands p out r).0 e
@@ -357,8 +357,8 @@ module _ (n : ℕ) (stands : ℕ → ℕ → Bool) (p : List ℕ) (out : ℕ →
   open_step : ℕ → ℕ → Bool
   open_step l r = (D l && stands l r) && not (is_held n stands p out r)
 
-  better_or_stuck : ((q : List ℕ) × (out' : ℕ → Bool) × Partial n stands q out'
-      × (members n out ≡ suc (members n out'))) ⊎ Stuck n stands p out
+  better_or_stuck : ((q : List ℕ) × (out' : ℕ → Bool) × IsPartial n stands q out'
+      × (members n out ≡ suc (members n out'))) ⊎ IsStuck n stands p out
   unfolding open_step
   better_or_stuck = elim (some_two n open_step) [
     | inl (l, r, i, j, e) ↦
@@ -376,8 +376,8 @@ module _ (n : ℕ) (stands : ℕ → ℕ → Bool) (p : List ℕ) (out : ℕ →
 
 module _ (n : ℕ) (stands : ℕ → ℕ → Bool) where
   -- augment as long as it goes
-  enlarge : (k : ℕ) (p : List ℕ) (out : ℕ → Bool) → Partial n stands p out → members n out < k
-      → (q : List ℕ) × (out' : ℕ → Bool) × Largest n stands q out'
+  enlarge : (k : ℕ) (p : List ℕ) (out : ℕ → Bool) → IsPartial n stands p out → members n out < k
+      → (q : List ℕ) × (out' : ℕ → Bool) × IsLargest n stands q out'
   enlarge zero p out part low = absurd (omega arith)
   enlarge (suc k) p out part low = elim (better_or_stuck n stands p out part) [
     | inl w ↦ enlarge k w.0 w.1 w.2 (omega (arith, w.3))
@@ -385,7 +385,7 @@ module _ (n : ℕ) (stands : ℕ → ℕ → Bool) where
   ]
 
   -- nothing paired
-  nothing : Partial n stands (replicate n 0) (λ _. true)
+  nothing : IsPartial n stands (replicate n 0) (λ _. true)
   nothing = record {
     len = length-replicate n 0;
     below = λ l i f. absurd (true≢false f);
@@ -393,13 +393,13 @@ module _ (n : ℕ) (stands : ℕ → ℕ → Bool) where
     once = λ l m i j f. absurd (true≢false f);
   }
 
-  pub largest_exists : (p : List ℕ) × (out : ℕ → Bool) × Largest n stands p out
+  pub largest_exists : (p : List ℕ) × (out : ℕ → Bool) × IsLargest n stands p out
   largest_exists = enlarge (suc (members n (λ _. true))) (replicate n 0) (λ _. true) nothing
       (omega arith)
 
 module _ (n : ℕ) (stands : ℕ → ℕ → Bool) (p : List ℕ) (out : ℕ → Bool)
-    (h : Largest n stands p out) where
-  stuck : Stuck n stands p out
+    (h : IsLargest n stands p out) where
+  stuck : IsStuck n stands p out
   stuck = largest_stuck n stands p out h.part h
 
   crowd_in : (l : ℕ) → IsInCrowd n stands l → D n stands p out h.part l ≡ true
@@ -418,13 +418,13 @@ module _ (n : ℕ) (stands : ℕ → ℕ → Bool) (p : List ℕ) (out : ℕ →
         left_out = w.4;
       }
 
-  pub reached_crowd : (l : ℕ) → Reached n stands p out l ↔ IsInCrowd n stands l
+  pub reached_crowd : (l : ℕ) → IsReached n stands p out l ↔ IsInCrowd n stands l
   reached_crowd l = (
     λ w. in_crowd l (reached_inside n stands p out l w) (reached_in n stands p out h.part l w),
     λ w. in_reached n stands p out h.part l w.inside (crowd_in l w),
   )
 
-  module _ (X : ℕ → Bool) (crowd : CrowdSet n stands X) where
+  module _ (X : ℕ → Bool) (crowd : IsCrowdSet n stands X) where
     reached : ℕ → Bool
     reached = D n stands p out h.part
 
@@ -447,7 +447,7 @@ module _ (n : ℕ) (stands : ℕ → ℕ → Bool) (p : List ℕ) (out : ℕ →
       members_like n (around n stands reached) (around n stands X) around_is,
     )
 
-  none_out : members n out ≡ 0 ↔ ((q : List ℕ) × Perfect n stands q)
+  none_out : members n out ≡ 0 ↔ ((q : List ℕ) × IsPerfect n stands q)
   none_out = (
     λ z. (p, partial_perfect n stands p out h.part (members_none n out z)),
     λ w. omega (
@@ -468,7 +468,7 @@ largest_if_stuck = record {
 -- largest pairing leaves none out
 enough : (n : ℕ) (stands : ℕ → ℕ → Bool)
     → ((X : ℕ → Bool) → members n X ≤ members n (around n stands X)) → (p : List ℕ)
-    × Perfect n stands p
+    × IsPerfect n stands p
 unfolding Y
 enough n stands all =
     let w = largest_exists n stands in

@@ -14,8 +14,8 @@ use Rattle.cost.specs.Columns.{minus}
 use Rattle.cost.proofs.Exact.{minus-within, within_more, length-columnwise}
 use Rattle.cost.specs.Weights.{weight}
 use Rattle.cost.proofs.Weights.{same_from, weight_minus}
-use Rattle.pairing.specs.Grid.{Grid, Sane, at, PerfectIn, total, Optimum}
-use Rattle.pairing.specs.Prices.{Valid, Tight, Greatest}
+use Rattle.pairing.specs.Grid.{Grid, IsSane, at, IsPerfectIn, total, IsOptimum}
+use Rattle.pairing.specs.Prices.{AreValid, AreTight, AreGreatest}
 use Rattle.pairing.specs.Theorems.{ProvesOptimum, OptimumIfTight, TightAlike, ValidAlike}
 use Rattle.pairing.specs.Theorems.{GreatestAlike}
 use Rattle.pairing.proofs.Sums.{sum_z, sum-le, sum_same, sum_add, sum_tight}
@@ -23,13 +23,13 @@ use Rattle.pairing.proofs.Counting.{sum_shuffle}
 use Rattle.pairing.proofs.Weighing.{value_light, value_upto, value_same, cost_value, total_value}
 use Rattle.pairing.proofs.Weighing.{total_is, total_from, price_upto, price_same, price_is}
 
-module _ (g : Grid) (s : Sane g) (left right : ℕ → List ℤ) where
+module _ (g : Grid) (s : IsSane g) (left right : ℕ → List ℤ) where
   -- what two prices weigh
   both : ℕ → ℕ → ℤ
   both l r = weight (left l) +ℤ weight (right r)
 
   -- the prices of the pairs of any perfect pairing come to the same
-  all_prices : (q : List ℕ) → PerfectIn g q → sum_z g.size (λ l. both l (at q l)) ≡ sum_z g.size
+  all_prices : (q : List ℕ) → IsPerfectIn g q → sum_z g.size (λ l. both l (at q l)) ≡ sum_z g.size
       (λ l. weight (left l)) +ℤ sum_z g.size (λ r. weight (right r))
   unfolding both
   all_prices q k =
@@ -40,14 +40,14 @@ module _ (g : Grid) (s : Sane g) (left right : ℕ → List ℤ) where
         sum_shuffle g.size g.stands q k (λ r. weight (right r)),
       )
 
-  module _ (p : List ℕ) (h : PerfectIn g p) (v : Valid g left right p) where
+  module _ (p : List ℕ) (h : IsPerfectIn g p) (v : AreValid g left right p) where
     pub pair_under : (l r : ℕ) → l < g.size → r < g.size → g.stands l r ≡ true
         → (weight (left l) +ℤ weight (right r)) ≤ℤ weight (g.cost l r)
     pair_under l r i j t = price_upto g s left right l r i j t (v.lefts l i) (v.rights r j)
         (v.under l r i j t)
 
     -- tight pairs by their weights, at any perfect pairing
-    pub tight_is : (q : List ℕ) → PerfectIn g q → Tight g left right q → (l : ℕ) → l < g.size
+    pub tight_is : (q : List ℕ) → IsPerfectIn g q → AreTight g left right q → (l : ℕ) → l < g.size
         → weight (left l) +ℤ weight (right (at q l)) ≡ weight (g.cost l (at q l))
     tight_is q k t l i = price_is g s left right l (at q l) i (k.below l i) (k.standing l i)
         (v.lefts l i) (v.rights (at q l) (k.below l i)) (t l i)
@@ -58,13 +58,14 @@ module _ (g : Grid) (s : Sane g) (left right : ℕ → List ℤ) where
         ∙ sym (sum_same g.size (λ l. both l (at p l)) (λ l. weight (g.cost l (at p l)))
         (tight_is p h v.equal))
 
-    under_total : (q : List ℕ) → PerfectIn g q → sum_z g.size (λ l. both l (at q l)) ≤ℤ sum_z g.size
+    under_total : (q : List ℕ) → IsPerfectIn g q
+        → sum_z g.size (λ l. both l (at q l)) ≤ℤ sum_z g.size
         (λ l. weight (g.cost l (at q l)))
     unfolding both
     under_total q k = sum-le g.size (λ l. both l (at q l)) (λ l. weight (g.cost l (at q l)))
         (λ l i. pair_under l (at q l) i (k.below l i) (k.standing l i))
 
-    pub optimum : Optimum g p
+    pub optimum : IsOptimum g p
     optimum = record {
       perfect = h;
       least = λ q k. total_from g s p q h k
@@ -79,7 +80,7 @@ module _ (g : Grid) (s : Sane g) (left right : ℕ → List ℤ) where
           ));
     }
 
-    pub tight : (q : List ℕ) → Optimum g q → Tight g left right q
+    pub tight : (q : List ℕ) → IsOptimum g q → AreTight g left right q
     unfolding both
     tight q o l i =
         let k = o.perfect in
@@ -91,7 +92,7 @@ module _ (g : Grid) (s : Sane g) (left right : ℕ → List ℤ) where
         price_same g s left right l (at q l) i (k.below l i) (k.standing l i) (v.lefts l i)
         (v.rights (at q l) (k.below l i)) (same l i)
 
-    pub valid_for : (q : List ℕ) → Tight g left right q → Valid g left right q
+    pub valid_for : (q : List ℕ) → AreTight g left right q → AreValid g left right q
     valid_for q t = record { lefts = v.lefts; rights = v.rights; under = v.under; equal = t }
 
 pub proves_optimum : ProvesOptimum
@@ -117,8 +118,8 @@ valid_alike g left right p q s h v k = (
 
 -- ---- the greatest prices
 
-module _ (g : Grid) (s : Sane g) (left right : ℕ → List ℤ) (p : List ℕ) (h : PerfectIn g p)
-    (v : Valid g left right p) where
+module _ (g : Grid) (s : IsSane g) (left right : ℕ → List ℤ) (p : List ℕ) (h : IsPerfectIn g p)
+    (v : AreValid g left right p) where
   pub left_is : (l : ℕ) → l < g.size → left l ≡ minus (g.cost l (at p l)) (right (at p l))
   left_is l i =
       let r = at p l in
@@ -135,14 +136,14 @@ module _ (g : Grid) (s : Sane g) (left right : ℕ → List ℤ) (p : List ℕ) 
       (minus-within RAIL RAIL (g.cost l r) (right r) c.on_rail w.on_rail))
       (omega (arith, ints))
 
-module _ (g : Grid) (s : Sane g) (left right left' right' : ℕ → List ℤ) (p q : List ℕ)
-    (h : PerfectIn g p) (k : PerfectIn g q) (a : Greatest g left right p)
-    (b : Greatest g left' right' q) where
+module _ (g : Grid) (s : IsSane g) (left right left' right' : ℕ → List ℤ) (p q : List ℕ)
+    (h : IsPerfectIn g p) (k : IsPerfectIn g q) (a : AreGreatest g left right p)
+    (b : AreGreatest g left' right' q) where
   -- prices valid for p are valid for q too, since q is optimum
-  moved : Valid g left right q
+  moved : AreValid g left right q
   moved = (valid_alike g left right p q s h a.valid k).0 (optimum g s left' right' q k b.valid)
 
-  back : Valid g left' right' p
+  back : AreValid g left' right' p
   back = (valid_alike g left' right' q p s k b.valid h).0 (optimum g s left right p h a.valid)
 
   rights_same : (r : ℕ) → r < g.size → right r ≡ right' r

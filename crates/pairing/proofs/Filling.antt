@@ -11,7 +11,7 @@ use Rattle.std.proofs.lemmas.List.{get_or-set_same, get_or-set_other, length-set
 use Rattle.std.proofs.lemmas.Bool.Decides.{nat_tests}
 use Rattle.std.proofs.lemmas.Bool.{cases_eq}
 use Rattle.pairing.specs.Grid.{at}
-use Rattle.pairing.specs.Largest.{Partial}
+use Rattle.pairing.specs.Largest.{IsPartial}
 
 -- E: left blocks that the chain may end at; F: those that are left out while it is exchanged; D:
 -- those that are reached
@@ -20,7 +20,7 @@ module _ (n : ℕ) (stands : ℕ → ℕ → Bool) (p : List ℕ) (E F D : ℕ �
   -- in q no left block has right block r, which left block m is to take; blocks of smaller rank
   -- have what p gives them
   pub record Hole (q : List ℕ) (r m : ℕ) : Type 0 where
-    pub part : Partial n stands q F
+    pub part : IsPartial n stands q F
     pub inside : r < n
     pub free : (x : ℕ) → x < n → F x ≡ false → at q x ≡ r → ⊥
     pub taker : m < n
@@ -38,7 +38,7 @@ module _ (n : ℕ) (stands : ℕ → ℕ → Bool) (p : List ℕ) (E F D : ℕ �
 
     -- m takes the right block, whether or not it was left out
     pub took : (G : ℕ → Bool) → ((x : ℕ) → G x ≡ false → (x ≡ m → ⊥) → F x ≡ false)
-        → Partial n stands (set q m r) G
+        → IsPartial n stands (set q m r) G
     took G g = record {
       len = length-set q m r ∙ h.part.len;
       below = λ x j f. elim (cases_eq x m) [
@@ -88,7 +88,7 @@ module _ (n : ℕ) (stands : ℕ → ℕ → Bool) (p : List ℕ) (E F D : ℕ �
       ⊎ ((F x ≡ false) × ((m : ℕ) × (m < n) × (D m ≡ true) × (stands m (at p x) ≡ true)
       × (rank m < rank x)))) where
     pub fill : (b : ℕ) (q : List ℕ) (r m : ℕ) → Hole q r m → rank m < b → (q' : List ℕ) × (f : ℕ)
-        × (f < n) × (E f ≡ true) × Partial n stands q' (λ x. F x && not (eqb x f))
+        × (f < n) × (E f ≡ true) × IsPartial n stands q' (λ x. F x && not (eqb x f))
     fill zero q r m h low = absurd (omega arith)
     fill (suc b) q r m h low = elim (back m h.taker h.member h.under) [
       | inl e ↦ (

@@ -5,12 +5,12 @@
 use Rattle.std.proofs.Common.{◌≡◌, ℕ, zero, suc, ◌≤◌, Bool, List, length, ℤ, sym}
 use Rattle.std.proofs.Common.{refl, ap, ◌∙◌, subst, ap₂, ltb, ◌&&◌, ◌↔◌, arith}
 use Rattle.cost.specs.declared.TheConstants.{COST_LIMIT}
-use Rattle.cost.specs.Columns.{Within, plus}
-use Rattle.pairing.specs.Grid.{Grid, Sane, at, PerfectIn, total_of, total, Upto, Optimum}
-use Rattle.pairing.specs.Prices.{Valid, Greatest}
-use Rattle.pairing.specs.Optima.{perfects, optima, has_pair, Marked}
-use Rattle.pairing.specs.Inside.{SameInside}
-use Rattle.pairing.specs.Theorems.{AlikeInside, InsideMatters}
+use Rattle.cost.specs.Columns.{AreWithin, plus}
+use Rattle.pairing.specs.Grid.{Grid, IsSane, at, IsPerfectIn, total_of, total, IsUpto, IsOptimum}
+use Rattle.pairing.specs.Prices.{AreValid, AreGreatest}
+use Rattle.pairing.specs.Optima.{perfects, optima, has_pair, IsInOptimum}
+use Rattle.pairing.specs.Inside.{AreSameInside}
+use Rattle.pairing.specs.Theorems.{AreAlikeInside, InsideMatters}
 use Rattle.pairing.proofs.Listing.{in_perfects, in_optima, perfects_ascend, optima_ascend}
 use Rattle.pairing.proofs.Listing.{ascending_same}
 use Rattle.pairing.proofs.Alike.{alike_back, perfect_like, perfect_alike, largest_like}
@@ -26,11 +26,12 @@ other g stands cost = record {
 }
 
 -- ---- from one grid to another of the same size and columns
-module _ (g : Grid) (t : ℕ → ℕ → Bool) (d : ℕ → ℕ → List ℤ) (i : SameInside g (other g t d)) where
+module _ (g : Grid) (t : ℕ → ℕ → Bool) (d : ℕ → ℕ
+    → List ℤ) (i : AreSameInside g (other g t d)) where
   abbrev h : Grid
   h = other g t d
 
-  turned : SameInside h g
+  turned : AreSameInside h g
   turned = record {
     size = refl;
     columns = refl;
@@ -38,45 +39,45 @@ module _ (g : Grid) (t : ℕ → ℕ → Bool) (d : ℕ → ℕ → List ℤ) (i
     cost = λ l r a b k. sym (i.cost l r a b (i.stands l r a b ∙ k));
   }
 
-  sane_like : Sane g → Sane h
+  sane_like : IsSane g → IsSane h
   sane_like s = record {
     few = s.few;
     sized = λ l r a b k. let u = i.stands l r a b ∙ k in
         subst (λ xs. length xs ≡ g.columns) (i.cost l r a b u) (s.sized l r a b u);
     small = λ l r a b k. let u = i.stands l r a b ∙ k in
-        subst (Within COST_LIMIT) (i.cost l r a b u) (s.small l r a b u);
+        subst (AreWithin COST_LIMIT) (i.cost l r a b u) (s.small l r a b u);
   }
 
-  costs_like : (p : List ℕ) → PerfectIn g p → (k : ℕ) → k ≤ g.size
+  costs_like : (p : List ℕ) → IsPerfectIn g p → (k : ℕ) → k ≤ g.size
       → total_of g p k ≡ total_of h p k
   costs_like p f zero b = refl
   costs_like p f (suc k) b =
       ap₂ plus (costs_like p f k (omega arith))
       (i.cost k (at p k) (omega arith) (f.below k (omega arith)) (f.standing k (omega arith)))
 
-  total_like : (p : List ℕ) → PerfectIn g p → total g p ≡ total h p
+  total_like : (p : List ℕ) → IsPerfectIn g p → total g p ≡ total h p
   total_like p f = costs_like p f g.size (omega arith)
 
-  optimum_like : (p : List ℕ) → Optimum g p → Optimum h p
+  optimum_like : (p : List ℕ) → IsOptimum g p → IsOptimum h p
   optimum_like p o = record {
     perfect = perfect_like g.size g.stands t i.stands p o.perfect;
     least = λ q f.
         let k = perfect_like g.size t g.stands turned.stands q f in
-        subst (λ x. Upto x (total h q)) (total_like p o.perfect)
-        (subst (Upto (total g p)) (total_like q k) (o.least q k));
+        subst (λ x. IsUpto x (total h q)) (total_like p o.perfect)
+        (subst (IsUpto (total g p)) (total_like q k) (o.least q k));
   }
 
-  valid_like : (left right : ℕ → List ℤ) (p : List ℕ) → PerfectIn g p → Valid g left right p
-      → Valid h left right p
+  valid_like : (left right : ℕ → List ℤ) (p : List ℕ) → IsPerfectIn g p → AreValid g left right p
+      → AreValid h left right p
   valid_like left right p f v = record {
     lefts = v.lefts;
     rights = v.rights;
     under = λ l r a b k. let u = i.stands l r a b ∙ k in
-        subst (Upto (plus (left l) (right r))) (i.cost l r a b u) (v.under l r a b u);
+        subst (IsUpto (plus (left l) (right r))) (i.cost l r a b u) (v.under l r a b u);
     equal = λ l a. v.equal l a ∙ i.cost l (at p l) a (f.below l a) (f.standing l a);
   }
 
-  marked_like : (l r : ℕ) → Marked g l r → Marked h l r
+  marked_like : (l r : ℕ) → IsInOptimum g l r → IsInOptimum h l r
   marked_like l r m = record {
     inside = m.inside;
     pairing = m.pairing;
@@ -85,12 +86,13 @@ module _ (g : Grid) (t : ℕ → ℕ → Bool) (d : ℕ → ℕ → List ℤ) (i
   }
 
 -- ---- and back
-module _ (g : Grid) (t : ℕ → ℕ → Bool) (d : ℕ → ℕ → List ℤ) (i : SameInside g (other g t d)) where
-  back : SameInside (h g t d i) g
+module _ (g : Grid) (t : ℕ → ℕ → Bool) (d : ℕ → ℕ
+    → List ℤ) (i : AreSameInside g (other g t d)) where
+  back : AreSameInside (h g t d i) g
   back = turned g t d i
 
-  greatest_like : (left right : ℕ → List ℤ) (p : List ℕ) → PerfectIn g p
-      → Greatest g left right p → Greatest (h g t d i) left right p
+  greatest_like : (left right : ℕ → List ℤ) (p : List ℕ) → IsPerfectIn g p
+      → AreGreatest g left right p → AreGreatest (h g t d i) left right p
   greatest_like left right p f top = record {
     valid = valid_like g t d i left right p f top.valid;
     low = top.low;
@@ -108,7 +110,7 @@ module _ (g : Grid) (t : ℕ → ℕ → Bool) (d : ℕ → ℕ → List ℤ) (i
       let are = perfect_alike g.size g.stands t i.stands p in
       (λ c. to.1 (are.0 (from.0 c)), λ c. from.1 (are.1 (to.0 c))))
 
-  optimum_alike : (p : List ℕ) → Optimum g p ↔ Optimum (h g t d i) p
+  optimum_alike : (p : List ℕ) → IsOptimum g p ↔ IsOptimum (h g t d i) p
   optimum_alike p =
       (optimum_like g t d i p, optimum_like (h g t d i) g.stands g.cost back p)
 
@@ -121,8 +123,8 @@ module _ (g : Grid) (t : ℕ → ℕ → Bool) (d : ℕ → ℕ → List ℤ) (i
       let are = optimum_alike p in
       (λ c. to.1 (are.0 (from.0 c)), λ c. from.1 (are.1 (to.0 c))))
 
-alike_at : (g : Grid) (t : ℕ → ℕ → Bool) (d : ℕ → ℕ → List ℤ) → SameInside g (other g t d)
-    → AlikeInside g (other g t d)
+alike_at : (g : Grid) (t : ℕ → ℕ → Bool) (d : ℕ → ℕ → List ℤ) → AreSameInside g (other g t d)
+    → AreAlikeInside g (other g t d)
 alike_at g t d i =
     let there = other g t d in
     let b = back g t d i in
@@ -158,9 +160,9 @@ alike_at g t d i =
 
 pub inside_matters : InsideMatters
 inside_matters g h i =
-    subst (λ k. AlikeInside g
+    subst (λ k. AreAlikeInside g
     (record { size = h.size; columns = k; stands = h.stands; cost = h.cost })) i.columns
-    (subst (λ k. AlikeInside g
+    (subst (λ k. AreAlikeInside g
     (record { size = k; columns = g.columns; stands = h.stands; cost = h.cost })) i.size
     (alike_at g h.stands h.cost
     (record { size = refl; columns = refl; stands = i.stands; cost = i.cost })))

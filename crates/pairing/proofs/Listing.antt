@@ -28,8 +28,8 @@ use Rattle.std.proofs.lemmas.Bool.{cases_Bool, cases_order, true≢false, cond_b
 use Rattle.std.proofs.lemmas.Bool.{eqb-true, eq-eqb, and_parts, and_from, ltb-true, lt-ltb}
 use Rattle.cost.specs.Columns.{lex}
 use Rattle.cost.specs.Weights.{weight}
-use Rattle.pairing.specs.Grid.{Grid, Sane, at, Perfect, PerfectIn, Optimum, total, Upto}
-use Rattle.pairing.specs.Optima.{Before, lists, is_perfect, perfects, is_upto, is_least, optima}
+use Rattle.pairing.specs.Grid.{Grid, IsSane, at, IsPerfect, IsPerfectIn, IsOptimum, total, IsUpto}
+use Rattle.pairing.specs.Optima.{IsBefore, lists, is_perfect, perfects, is_upto, is_least, optima}
 use Rattle.pairing.specs.Optima.{has_pair}
 use Rattle.pairing.proofs.Members.{all_below, all_tells}
 use Rattle.pairing.specs.Theorems.{IsListOf, PerfectsAre, PairsAre, OptimaAre, MarksAre}
@@ -159,7 +159,7 @@ le_tells Less = (λ _ e. cc, λ _. refl)
 le_tells Equal = (λ _ e. cc, λ _. refl)
 le_tells Greater = (λ e. absurd (true≢false (sym e)), λ f. absurd (f refl))
 
-pub upto_tells : (xs ys : List ℤ) → Decides (is_upto xs ys) (Upto xs ys)
+pub upto_tells : (xs ys : List ℤ) → Decides (is_upto xs ys) (IsUpto xs ys)
 upto_tells xs ys = le_tells (lex xs ys)
 
 module _ (n : ℕ) (stands : ℕ → ℕ → Bool) where
@@ -172,7 +172,7 @@ module _ (n : ℕ) (stands : ℕ → ℕ → Bool) where
       (all_tells l (λ m. not (eqb (at p l) (at p m))) (λ m. at p l ≡ at p m → ⊥)
       (λ m. Decides-not _ (Decides-eqb (at p l) (at p m)))))
 
-  pub in_perfects : (p : List ℕ) → Contains (perfects n stands) p ↔ Perfect n stands p
+  pub in_perfects : (p : List ℕ) → Contains (perfects n stands) p ↔ IsPerfect n stands p
   in_perfects p = (
     λ h.
         let w = (in_filter (is_perfect n stands) p (lists n n)).0 h in
@@ -203,11 +203,11 @@ module _ (g : Grid) where
   all_perfect = perfects g.size g.stands
 
   least_tells : (xs : List ℤ) (qs : List (List ℕ)) → Decides (is_least g xs qs)
-      (All (λ q. Upto xs (total g q)) qs)
-  least_tells xs = Decides-by_and (λ q. is_upto xs (total g q)) (λ q. Upto xs (total g q))
+      (All (λ q. IsUpto xs (total g q)) qs)
+  least_tells xs = Decides-by_and (λ q. is_upto xs (total g q)) (λ q. IsUpto xs (total g q))
       (is_least g xs) (λ q. upto_tells xs (total g q)) refl (λ _ _. refl)
 
-  pub in_optima : (p : List ℕ) → Contains (optima g) p ↔ Optimum g p
+  pub in_optima : (p : List ℕ) → Contains (optima g) p ↔ IsOptimum g p
   unfolding all_perfect
   in_optima p =
       let kept = in_filter (λ p. is_least g (total g p) all_perfect) p all_perfect in
@@ -216,7 +216,7 @@ module _ (g : Grid) where
         λ h. let w = kept.0 h in
             record {
               perfect = (are p).0 w.0;
-              least = λ q k. All-contains (λ q. Upto (total g p) (total g q)) all_perfect q
+              least = λ q k. All-contains (λ q. IsUpto (total g p) (total g q)) all_perfect q
                   (tells.0 w.1) ((in_perfects g.size g.stands q).1 k);
             },
         λ o. kept.1 (
@@ -235,8 +235,8 @@ module _ (R : List ℕ → List ℕ → Type 0) (p : List ℕ) (ps : List (List 
   tail_pairs : AllPairs R ps
   tail_pairs i j d l k = h (suc i) (suc j) d (omega arith) (omega arith)
 
-ascending_map : (r : ℕ) (ps : List (List ℕ)) → AllPairs Before ps
-    → AllPairs Before (map (λ t. r ∷ t) ps)
+ascending_map : (r : ℕ) (ps : List (List ℕ)) → AllPairs IsBefore ps
+    → AllPairs IsBefore (map (λ t. r ∷ t) ps)
 ascending_map r ps h i j d l k =
     let long = length-map ps (λ t. r ∷ t) in
     rw (
@@ -244,47 +244,47 @@ ascending_map r ps h i j d l k =
       get_or-map (λ t. r ∷ t) ps j [] d (omega arith),
     ) (inr (refl, h i j [] l (omega arith)))
 
-ascending_append : (ps qs : List (List ℕ)) → AllPairs Before ps → AllPairs Before qs
-    → All (λ p. All (Before p) qs) ps → AllPairs Before (ps ++ qs)
+ascending_append : (ps qs : List (List ℕ)) → AllPairs IsBefore ps → AllPairs IsBefore qs
+    → All (λ p. All (IsBefore p) qs) ps → AllPairs IsBefore (ps ++ qs)
 ascending_append [] qs h k c = k
 ascending_append (p ∷ ps) qs h k c =
-    AllPairs-cons Before p (ps ++ qs)
-    (All-append (Before p) ps qs (head_all Before p ps h) (c 0 p (omega arith)))
-    (ascending_append ps qs (tail_pairs Before p ps h) k (λ j d l. c (suc j) d (omega arith)))
+    AllPairs-cons IsBefore p (ps ++ qs)
+    (All-append (IsBefore p) ps qs (head_all IsBefore p ps h) (c 0 p (omega arith)))
+    (ascending_append ps qs (tail_pairs IsBefore p ps h) k (λ j d l. c (suc j) d (omega arith)))
 
 -- the lists that begin with r, for r from a to a + m - 1, over the same tails
-ascending_heads : (tails : List (List ℕ)) → AllPairs Before tails → (m a : ℕ)
-    → AllPairs Before (flat_map (λ r. map (λ t. r ∷ t) tails) (range_with_len a m))
+ascending_heads : (tails : List (List ℕ)) → AllPairs IsBefore tails → (m a : ℕ)
+    → AllPairs IsBefore (flat_map (λ r. map (λ t. r ∷ t) tails) (range_with_len a m))
 ascending_heads tails h zero a i j d l k = absurd (omega arith)
 ascending_heads tails h (suc m) a i j d l k =
     let behind = flat_map (λ r. map (λ t. r ∷ t) tails) (range_with_len (a + 1) m) in
     ascending_append (map (λ t. a ∷ t) tails) behind (ascending_map a tails h)
     (ascending_heads tails h m (a + 1))
-    (of_members _ (map (λ t. a ∷ t) tails) (λ p in_p. of_members (Before p) behind (λ q in_q.
+    (of_members _ (map (λ t. a ∷ t) tails) (λ p in_p. of_members (IsBefore p) behind (λ q in_q.
     let u = in_map (λ t. a ∷ t) p tails in_p in
     let w = in_joined (λ r. map (λ t. r ∷ t) tails) q (range_with_len (a + 1) m) in_q in
     let v = in_map (λ t. w.0 ∷ t) q tails w.2 in
-    subst (λ x. Before x q) (sym u.2) (subst (Before (a ∷ u.0)) (sym v.2)
+    subst (λ x. IsBefore x q) (sym u.2) (subst (IsBefore (a ∷ u.0)) (sym v.2)
     (inl (omega (arith, in_counting w.0 (a + 1) m w.1))))))) i j d l k
 
-ascending_lists : (n k : ℕ) → AllPairs Before (lists n k)
+ascending_lists : (n k : ℕ) → AllPairs IsBefore (lists n k)
 ascending_lists n zero i j d l k = absurd (omega arith)
 ascending_lists n (suc k) i j d l h =
     ascending_heads (lists n k) (ascending_lists n k) n 0 i j d l h
 
-pub perfects_ascend : (n : ℕ) (stands : ℕ → ℕ → Bool) → AllPairs Before (perfects n stands)
+pub perfects_ascend : (n : ℕ) (stands : ℕ → ℕ → Bool) → AllPairs IsBefore (perfects n stands)
 perfects_ascend n stands =
-    AllPairs-filter Before (is_perfect n stands) (lists n n) (ascending_lists n n)
+    AllPairs-filter IsBefore (is_perfect n stands) (lists n n) (ascending_lists n n)
 
-pub optima_ascend : (g : Grid) → AllPairs Before (optima g)
+pub optima_ascend : (g : Grid) → AllPairs IsBefore (optima g)
 optima_ascend g =
-    AllPairs-filter Before _ (perfects g.size g.stands) (perfects_ascend g.size g.stands)
+    AllPairs-filter IsBefore _ (perfects g.size g.stands) (perfects_ascend g.size g.stands)
 
-pub before_irrefl : (p : List ℕ) → Before p p → ⊥
+pub before_irrefl : (p : List ℕ) → IsBefore p p → ⊥
 before_irrefl [] h = h
 before_irrefl (x ∷ p) h = elim h [ inl a ↦ omega arith | inr b ↦ before_irrefl p b.1 ]
 
-pub before_asym : (p q : List ℕ) → Before p q → Before q p → ⊥
+pub before_asym : (p q : List ℕ) → IsBefore p q → IsBefore q p → ⊥
 before_asym [] [] h k = h
 before_asym [] (y ∷ q) h k = k
 before_asym (x ∷ p) [] h k = h
@@ -295,49 +295,50 @@ before_asym (x ∷ p) (y ∷ q) h k =
           elim k [ inl b ↦ omega (arith, a.0) | inr b ↦ before_asym p q a.1 b.1 ]
     ]
 
-ascending_distinct : (ps : List (List ℕ)) → AllPairs Before ps → AllPairs ◌≢◌ ps
+ascending_distinct : (ps : List (List ℕ)) → AllPairs IsBefore ps → AllPairs ◌≢◌ ps
 ascending_distinct ps h i j d l k e = before_irrefl (get_or ps j d)
-    (subst (λ x. Before x (get_or ps j d)) e (h i j d l k))
+    (subst (λ x. IsBefore x (get_or ps j d)) e (h i j d l k))
 
 -- the first elements of two ascending lists with the same members
-first_same : (x y : List ℕ) (xs ys : List (List ℕ)) → All (Before x) xs → All (Before y) ys
+first_same : (x y : List ℕ) (xs ys : List (List ℕ)) → All (IsBefore x) xs → All (IsBefore y) ys
     → Contains (y ∷ ys) x → Contains (x ∷ xs) y → x ≡ y
 first_same x y xs ys a b i j = elim (in_cases ys y x i) [
   | inl e ↦ e
   | inr h ↦ elim (in_cases xs x y j) [
     | inl e ↦ sym e
     | inr k ↦ absurd
-        (before_asym x y (All-contains (Before x) xs y a k) (All-contains (Before y) ys x b h))
+        (before_asym x y (All-contains (IsBefore x) xs y a k) (All-contains (IsBefore y) ys x b h))
   ]
 ]
 
-rest_in : (x y : List ℕ) (xs ys : List (List ℕ)) → x ≡ y → All (Before x) xs
+rest_in : (x y : List ℕ) (xs ys : List (List ℕ)) → x ≡ y → All (IsBefore x) xs
     → ((p : List ℕ) → Contains (x ∷ xs) p → Contains (y ∷ ys) p) → (p : List ℕ) → Contains xs p
     → Contains ys p
 rest_in x y xs ys e a f p h = elim (in_cases ys y p (f p (later_in xs x p h))) [
   | inl s ↦ absurd (before_irrefl x
-      (subst (Before x) (s ∙ sym e) (All-contains (Before x) xs p a h)))
+      (subst (IsBefore x) (s ∙ sym e) (All-contains (IsBefore x) xs p a h)))
   | inr k ↦ k
 ]
 
 -- a list is known by its members, if it ascends
-pub ascending_same : (xs ys : List (List ℕ)) → AllPairs Before xs → AllPairs Before ys
+pub ascending_same : (xs ys : List (List ℕ)) → AllPairs IsBefore xs → AllPairs IsBefore ys
     → ((p : List ℕ) → Contains xs p ↔ Contains ys p) → xs ≡ ys
 ascending_same [] [] h k f = refl
 ascending_same [] (y ∷ ys) h k f = absurd (omega (arith, ((f y).1 (first_in ys y)).1))
 ascending_same (x ∷ xs) [] h k f = absurd (omega (arith, ((f x).0 (first_in xs x)).1))
 ascending_same (x ∷ xs) (y ∷ ys) h k f =
-    let a = head_all Before x xs h in
-    let b = head_all Before y ys k in
+    let a = head_all IsBefore x xs h in
+    let b = head_all IsBefore y ys k in
     let e = first_same x y xs ys a b ((f x).0 (first_in xs x)) ((f y).1 (first_in ys y)) in
-    ap₂ ◌∷◌ e (ascending_same xs ys (tail_pairs Before x xs h) (tail_pairs Before y ys k) (λ p. (
+    let rests = ascending_same xs ys (tail_pairs IsBefore x xs h) (tail_pairs IsBefore y ys k) in
+    ap₂ ◌∷◌ e (rests (λ p. (
       rest_in x y xs ys e a (λ p. (f p).0) p,
       rest_in y x ys xs (sym e) b (λ p. (f p).1) p,
     )))
 
 -- ---- an ascending list of just what has the property
 module _ (P : List ℕ → Type 0) (ps : List (List ℕ)) (are : (p : List ℕ) → Contains ps p ↔ P p) where
-  list_of : AllPairs Before ps → IsListOf P ps
+  list_of : AllPairs IsBefore ps → IsListOf P ps
   list_of h = record {
     are = are;
     ascend = h;
@@ -371,9 +372,9 @@ pub perfects_are : PerfectsAre
 perfects_are n stands =
     let are = in_perfects n stands in
     record {
-      list = list_of (Perfect n stands) (perfects n stands) are (perfects_ascend n stands);
-      none = none_of (Perfect n stands) (perfects n stands) are;
-      some = some_of (Perfect n stands) (perfects n stands) are;
+      list = list_of (IsPerfect n stands) (perfects n stands) are (perfects_ascend n stands);
+      none = none_of (IsPerfect n stands) (perfects n stands) are;
+      some = some_of (IsPerfect n stands) (perfects n stands) are;
     }
 
 -- ---- where a perfect pairing is, an optimum one is
@@ -409,9 +410,9 @@ least g q (x ∷ qs) =
       )
     ]
 
-module _ (g : Grid) (s : Sane g) where
-  some_optimum : (ps : List (List ℕ)) → ((p : List ℕ) → Contains ps p ↔ PerfectIn g p)
-      → (p : List ℕ) → Contains ps p → (q : List ℕ) × Optimum g q
+module _ (g : Grid) (s : IsSane g) where
+  some_optimum : (ps : List (List ℕ)) → ((p : List ℕ) → Contains ps p ↔ IsPerfectIn g p)
+      → (p : List ℕ) → Contains ps p → (q : List ℕ) × IsOptimum g q
   some_optimum [] are p i = absurd (omega (arith, i.1))
   some_optimum (x ∷ ps) are p i =
       let w = least g x ps in
@@ -425,7 +426,7 @@ module _ (g : Grid) (s : Sane g) where
         },
       )
 
-  pub optimum_exists : (p : List ℕ) → PerfectIn g p → (q : List ℕ) × Optimum g q
+  pub optimum_exists : (p : List ℕ) → IsPerfectIn g p → (q : List ℕ) × IsOptimum g q
   optimum_exists p h = let are = in_perfects g.size g.stands in
       some_optimum (perfects g.size g.stands) are p ((are p).1 h)
 
@@ -433,15 +434,15 @@ module _ (g : Grid) (s : Sane g) where
 pub optima_are : OptimaAre
 optima_are g =
     let are = in_optima g in
-    let none = none_of (Optimum g) (optima g) are in
+    let none = none_of (IsOptimum g) (optima g) are in
     record {
-      list = list_of (Optimum g) (optima g) are (optima_ascend g);
+      list = list_of (IsOptimum g) (optima g) are (optima_ascend g);
       none = λ s. (
         λ e p h. let o = optimum_exists g s p h in none.0 e o.0 o.1,
         λ no_one. none.1 (λ p o. no_one p o.perfect),
       );
       some = λ s. Decides-like _ (λ o. (o.0, o.1.perfect)) (λ w. optimum_exists g s w.0 w.1)
-          (some_of (Optimum g) (optima g) are);
+          (some_of (IsOptimum g) (optima g) are);
     }
 
 -- ---- the pairs

@@ -9,9 +9,9 @@ use Rattle.std.proofs.Common.{◌⊎◌, ◌↔◌, List, sym, refl, ap, ◌∙�
 use Rattle.std.proofs.lemmas.Bool.Decides.{nat_tests}
 use Rattle.std.proofs.lemmas.Bool.{cases_eq, cases_lt, and_parts, and_from, eqb-true, eq-eqb}
 use Rattle.std.proofs.lemmas.Bool.{eqb-false}
-use Rattle.pairing.specs.Grid.{at, Perfect}
-use Rattle.pairing.specs.Largest.{Partial}
-use Rattle.pairing.specs.Chains.{Reached, free, onward, Agree, Chain, here, step, Sends}
+use Rattle.pairing.specs.Grid.{at, IsPerfect}
+use Rattle.pairing.specs.Largest.{IsPartial}
+use Rattle.pairing.specs.Chains.{IsReached, free, onward, AgreeBelow, HasChain, here, step, Sends}
 use Rattle.pairing.specs.Theorems.{SendsIfChain}
 use Rattle.pairing.proofs.Members.{some_below, some_tells}
 use Rattle.pairing.proofs.Closures.{closure, reached_all}
@@ -23,7 +23,7 @@ abbrev pub pinned : ℕ → List ℕ → (ℕ → ℕ → Bool) → ℕ → ℕ 
 pinned k p tight l r = tight l r && (not (ltb l k) || eqb r (at p l))
 
 pub pinned_agree : (n k : ℕ) (tight : ℕ → ℕ → Bool) (p q : List ℕ) → k ≤ n
-    → Perfect n (pinned k p tight) q ↔ (Perfect n tight q × Agree k p q)
+    → IsPerfect n (pinned k p tight) q ↔ (IsPerfect n tight q × AgreeBelow k p q)
 pinned_agree n k tight p q b = (
   λ h. (
     record {
@@ -44,7 +44,7 @@ pinned_agree n k tight p q b = (
   },
 )
 
-module _ (n k : ℕ) (tight : ℕ → ℕ → Bool) (p : List ℕ) (h : Perfect n tight p) (l r : ℕ)
+module _ (n k : ℕ) (tight : ℕ → ℕ → Bool) (p : List ℕ) (h : IsPerfect n tight p) (l r : ℕ)
     (from : k ≤ l) (i : l < n) (j : r < n) (t : tight l r ≡ true) where
   -- ---- a chain is exchanged
 
@@ -71,7 +71,7 @@ module _ (n k : ℕ) (tight : ℕ → ℕ → Bool) (p : List ℕ) (h : Perfect 
   sent_own : (x : ℕ) → x < n → (x ≡ l → ⊥) → sent x (at p x) ≡ true
   sent_own x b ne = let e = h.standing x b in grind (arith, nat_tests)
 
-  part : Partial n sent p alone
+  part : IsPartial n sent p alone
   part = record {
     len = h.len;
     below = λ x b _. h.below x b;
@@ -81,10 +81,10 @@ module _ (n k : ℕ) (tight : ℕ → ℕ → Bool) (p : List ℕ) (h : Perfect 
 
   -- a reached left block that can take the right block c
   abbrev Taker : ℕ → Type 0
-  Taker c = (x : ℕ) × Reached n sent p alone x × (sent x c ≡ true)
+  Taker c = (x : ℕ) × IsReached n sent p alone x × (sent x c ≡ true)
 
   -- along a chain each right block has a taker, until the right block of l has one
-  taker : (c : ℕ) → Chain n k tight p r c → Taker (at p l) ⊎ Taker c
+  taker : (c : ℕ) → HasChain n k tight p r c → Taker (at p l) ⊎ Taker c
   taker _ here = inr (l, free l i (eq-eqb l l refl), sent_l)
   taker _ (step x c le b w e) = elim (taker (at p x) w) [
     | inl v ↦ inl v
@@ -102,9 +102,9 @@ module _ (n k : ℕ) (tight : ℕ → ℕ → Bool) (p : List ℕ) (h : Perfect 
       let w = augmented n sent p alone part v.0 (at p l) v.1 (h.below l i) v.2
       (λ x b f e. eqb-false x l f (h.once x l b i e)) in
       let f-is : w.1 ≡ l = eqb-true w.1 l w.3 in
-      let q-is : Perfect n sent w.0 = partial_perfect n sent w.0 (λ x. alone x && not (eqb x w.1))
+      let q-is : IsPerfect n sent w.0 = partial_perfect n sent w.0 (λ x. alone x && not (eqb x w.1))
       w.4 (λ x b. emptied w.1 x f-is) in
-      let pins : Perfect n (pinned k p tight) w.0 =
+      let pins : IsPerfect n (pinned k p tight) w.0 =
       record {
         len = q-is.len;
         below = q-is.below;
@@ -129,21 +129,21 @@ module _ (n k : ℕ) (tight : ℕ → ℕ → Bool) (p : List ℕ) (h : Perfect 
       (x, b, and_from _ _ (eq-eqb (at p x) (at p x) refl) e)
 
   -- a step over a left block below k stays where it is
-  chained : (c d : ℕ) → Chain n k tight p r c → steps c d ≡ true → Chain n k tight p r d
+  chained : (c d : ℕ) → HasChain n k tight p r c → steps c d ≡ true → HasChain n k tight p r d
   chained c d w e =
       let v = (some_tells n (λ x. eqb (at p x) c && pinned k p tight x d)).0 e in
       let b = and_parts (eqb (at p v.0) c) (pinned k p tight v.0 d) v.2 in
       let own : at p v.0 ≡ c = eqb-true (at p v.0) c b.0 in
       elim (cases_lt v.0 k) [
-        | inl low ↦ subst (Chain n k tight p r) (sym own ∙ sym (stays v.0 low b.1)) w
-        | inr up ↦ step v.0 d up v.1 (subst (Chain n k tight p r) (sym own) w)
+        | inl low ↦ subst (HasChain n k tight p r) (sym own ∙ sym (stays v.0 low b.1)) w
+        | inr up ↦ step v.0 d up v.1 (subst (HasChain n k tight p r) (sym own) w)
             (and_parts (tight v.0 d) _ b.1).0
       ]
     where
       stays : (x : ℕ) → x < k → pinned k p tight x d ≡ true → d ≡ at p x
       stays x low e = grind (arith, nat_tests)
 
-  led : Sends n k tight p l r → Chain n k tight p r (at p l)
+  led : Sends n k tight p l r → HasChain n k tight p r (at p l)
   led w =
       let c = closure n (λ x. eqb x r) steps in
       let pin-p = (pinned_agree n k tight p p (omega arith)).1 (h, λ _ _. refl) in
@@ -152,12 +152,12 @@ module _ (n k : ℕ) (tight : ℕ → ℕ → Bool) (p : List ℕ) (h : Perfect 
       given_alike.closed n (pinned k p tight) p w.0 pin-p pin-q c.0
       (λ x d a b m e. c.2.closed (at p x) d (h.below x a) b m (steps_from x d a e)) l i
       ∙ ap c.0 w.3 ∙ c.2.has r j (eq-eqb r r refl) in
-      reached_all n (λ x. eqb x r) steps c.0 c.1 c.2 (Chain n k tight p r)
-      (λ y _ e. subst (Chain n k tight p r) (sym (eqb-true y r e)) here)
+      reached_all n (λ x. eqb x r) steps c.0 c.1 c.2 (HasChain n k tight p r)
+      (λ y _ e. subst (HasChain n k tight p r) (sym (eqb-true y r e)) here)
       (λ x y _ _ v e. chained x y v e) (suc (c.1 (at p l))) (at p l) (h.below l i) (omega arith)
       inside
 
-  pub chain_sends : Chain n k tight p r (at p l) ↔ Sends n k tight p l r
+  pub chain_sends : HasChain n k tight p r (at p l) ↔ Sends n k tight p l r
   chain_sends = (λ w. elim (taker (at p l) w) [ inl v ↦ exchanged v | inr v ↦ exchanged v ], led)
 
 pub sends_if_chain : SendsIfChain

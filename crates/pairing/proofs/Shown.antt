@@ -10,8 +10,8 @@ use Rattle.blockset.proofs.Bits.{bit_ones}
 use Rattle.cost.specs.declared.Cost.{Ghosts}
 use Rattle.cost.specs.declared.free_kind.Free.{Free}
 use Rattle.pairing.specs.Grid.{at}
-use Rattle.pairing.specs.Largest.{Partial, CrowdSet, Unpaired}
-use Rattle.pairing.specs.Chains.{Reached, free, onward, Stuck}
+use Rattle.pairing.specs.Largest.{IsPartial, IsCrowdSet, HasNoPerfect}
+use Rattle.pairing.specs.Chains.{IsReached, free, onward, IsStuck}
 use Rattle.pairing.specs.Examples.{crowded_grid, bare_grid}
 use Rattle.pairing.proofs.Listing.{perfects_are}
 use Rattle.pairing.proofs.Crowds.{stuck_largest, reached_crowd, reached_inside}
@@ -19,8 +19,8 @@ use Rattle.pairing.proofs.Tests.{passes, standing_pass}
 
 -- where each left block is reached, the crowd set has the bits of 2^n - 1
 crowd_all : (n : ℕ) (stands : ℕ → ℕ → Bool) (p : List ℕ) (out : ℕ → Bool)
-    → Partial n stands p out → Stuck n stands p out
-    → ((l : ℕ) → l < n → Reached n stands p out l) → CrowdSet n stands (bit (2 ^ n - 1))
+    → IsPartial n stands p out → IsStuck n stands p out
+    → ((l : ℕ) → l < n → IsReached n stands p out l) → IsCrowdSet n stands (bit (2 ^ n - 1))
 crowd_all n stands p out part stuck all l =
     let largest = stuck_largest n stands p out part stuck in
     Decides-at (bit (2 ^ n - 1) l) (ltb l n) (bit_ones n l) (
@@ -37,7 +37,7 @@ module _ (kind : Ghosts Free) where
   pairing : List ℕ
   pairing = 0 ∷ 0 ∷ []
 
-  crowded_part : Partial 2 (crowded_grid kind).stands pairing first_out
+  crowded_part : IsPartial 2 (crowded_grid kind).stands pairing first_out
   unfolding pairing first_out
   crowded_part = record {
     len = refl;
@@ -52,7 +52,7 @@ module _ (kind : Ghosts Free) where
       standing (suc zero) i f = absurd (true≢false f)
       standing (suc (suc l)) i f = absurd (omega arith)
 
-  crowded_stuck : Stuck 2 (crowded_grid kind).stands pairing first_out
+  crowded_stuck : IsStuck 2 (crowded_grid kind).stands pairing first_out
   unfolding pairing first_out
   crowded_stuck l r w j t =
       let i = reached_inside 2 (crowded_grid kind).stands pairing first_out l w in (
@@ -63,13 +63,13 @@ module _ (kind : Ghosts Free) where
             (standing_pass (crowded_grid kind) (λ _ c. eqb c 0) refl l r i j t)),
       )
 
-  each_reached : (l : ℕ) → l < 2 → Reached 2 (crowded_grid kind).stands pairing first_out l
+  each_reached : (l : ℕ) → l < 2 → IsReached 2 (crowded_grid kind).stands pairing first_out l
   unfolding pairing first_out
   each_reached zero i = onward 1 0 (free 1 (omega arith) refl) (omega arith) refl refl
   each_reached (suc zero) i = free 1 (omega arith) refl
   each_reached (suc (suc l)) i = absurd (omega arith)
 
-  pub crowded : Unpaired 2 (crowded_grid kind).stands 3 1
+  pub crowded : HasNoPerfect 2 (crowded_grid kind).stands 3 1
   unfolding bit members
   crowded = record {
     none = (perfects_are 2 (crowded_grid kind).stands).none.0 refl;
@@ -81,7 +81,7 @@ module _ (kind : Ghosts Free) where
 -- ---- nothing stands: nothing is paired
 
 module _ (kind : Ghosts Free) where
-  bare_part : Partial 1 (bare_grid kind).stands (0 ∷ []) (λ _. true)
+  bare_part : IsPartial 1 (bare_grid kind).stands (0 ∷ []) (λ _. true)
   bare_part = record {
     len = refl;
     below = λ l i f. absurd (true≢false f);
@@ -89,12 +89,12 @@ module _ (kind : Ghosts Free) where
     once = λ l m i j f. absurd (true≢false f);
   }
 
-  bare_stuck : Stuck 1 (bare_grid kind).stands (0 ∷ []) (λ _. true)
+  bare_stuck : IsStuck 1 (bare_grid kind).stands (0 ∷ []) (λ _. true)
   bare_stuck l r w j t =
       let i = reached_inside 1 (bare_grid kind).stands (0 ∷ []) (λ _. true) l w in
       absurd (true≢false (sym (standing_pass (bare_grid kind) (λ _ _. false) refl l r i j t)))
 
-  pub bare : Unpaired 1 (bare_grid kind).stands 1 1
+  pub bare : HasNoPerfect 1 (bare_grid kind).stands 1 1
   unfolding bit members
   bare = record {
     none = (perfects_are 1 (bare_grid kind).stands).none.0 refl;

@@ -15,9 +15,9 @@ use Rattle.cost.specs.declared.TheConstants.{RAIL, COST_LIMIT}
 use Rattle.cost.specs.Columns.{within, zeros, plus, lex}
 use Rattle.cost.proofs.Exact.{within_tells}
 use Rattle.cost.proofs.Order.{lex_same}
-use Rattle.pairing.specs.Grid.{Grid, right_count, Sane, at, PerfectIn}
-use Rattle.pairing.specs.Prices.{Value, Valid, Greatest}
-use Rattle.pairing.specs.Optima.{is_upto, Marked, is_marked}
+use Rattle.pairing.specs.Grid.{Grid, right_count, IsSane, at, IsPerfectIn}
+use Rattle.pairing.specs.Prices.{IsCostValue, AreValid, AreGreatest}
+use Rattle.pairing.specs.Optima.{is_upto, IsInOptimum, is_in_optimum}
 use Rattle.pairing.proofs.Listing.{upto_tells, marks_are}
 use Rattle.pairing.proofs.Members.{some_below, all_below, some_tells, all_tells}
 use Rattle.pairing.proofs.Attained.{Attained, attained_greatest}
@@ -63,7 +63,7 @@ sane_pair g l r = eqb (length (g.cost l r)) g.columns && within COST_LIMIT (g.co
 abbrev pub sane : Grid → Bool
 sane g = leb g.size MOST_BLOCKS && at_standing g (sane_pair g)
 
-pub sane_is : (g : Grid) → sane g ≡ true → Sane g
+pub sane_is : (g : Grid) → sane g ≡ true → IsSane g
 sane_is g e =
     let b = and_parts (leb g.size MOST_BLOCKS) (at_standing g (sane_pair g)) e in
     let each = λ (l r : ℕ) (i : l < g.size) (j : r < right_count g) (t : g.stands l r ≡ true).
@@ -80,7 +80,7 @@ module _ (g : Grid) (left right : ℕ → List ℤ) (p : List ℕ) (rank : List 
   abbrev value : List ℤ → Bool
   value xs = eqb (length xs) g.columns && within RAIL xs
 
-  value_is : (xs : List ℤ) → value xs ≡ true → Value g.columns xs
+  value_is : (xs : List ℤ) → value xs ≡ true → IsCostValue g.columns xs
   value_is xs e =
       let b = and_parts (eqb (length xs) g.columns) (within RAIL xs) e in
       record {
@@ -130,7 +130,7 @@ module _ (g : Grid) (left right : ℕ → List ℤ) (p : List ℕ) (rank : List 
             )
       ]
 
-  pub greatest_is : Sane g → PerfectIn g p → greatest ≡ true → Greatest g left right p
+  pub greatest_is : IsSane g → IsPerfectIn g p → greatest ≡ true → AreGreatest g left right p
   greatest_is s h e =
       let lefts = and_parts (all_below g.size (λ l. value (left l))) _ e in
       let rights = and_parts (all_below (right_count g) (λ r. value (right r))) _ lefts.1 in
@@ -138,7 +138,7 @@ module _ (g : Grid) (left right : ℕ → List ℤ) (p : List ℕ) (rank : List 
       let tights = and_parts (all_below g.size tight) _ unders.1 in
       let lows = and_parts (all_below (right_count g) low) (all_below (right_count g) attained)
       tights.1 in
-      let v : Valid g left right p = record {
+      let v : AreValid g left right p = record {
         lefts = λ l i. value_is (left l) (passes g.size (λ l. value (left l)) lefts.0 l i);
         rights = λ r j. value_is (right r)
             (passes (right_count g) (λ r. value (right r)) rights.0 r j);
@@ -162,14 +162,14 @@ alike_is a b e = grind (arith, nat_tests)
 
 -- at each standing pair the test t answers whether the pair is marked
 abbrev marks_pair : Grid → (ℕ → ℕ → Bool) → ℕ → ℕ → Bool
-marks_pair g t l r = alike (is_marked g l r) (t l r)
+marks_pair g t l r = alike (is_in_optimum g l r) (t l r)
 
 abbrev pub marks : Grid → (ℕ → ℕ → Bool) → Bool
 marks g t = at_standing g (marks_pair g t)
 
 pub marks_tell : (g : Grid) (t : ℕ → ℕ → Bool) → marks g t ≡ true → (l r : ℕ) → l < g.size
-    → r < right_count g → g.stands l r ≡ true → Decides (t l r) (Marked g l r)
+    → r < right_count g → g.stands l r ≡ true → Decides (t l r) (IsInOptimum g l r)
 marks_tell g t e l r i j s =
-    subst (λ b. Decides b (Marked g l r))
-    (alike_is (is_marked g l r) (t l r) (standing_pass g (marks_pair g t) e l r i j s))
+    subst (λ b. Decides b (IsInOptimum g l r))
+    (alike_is (is_in_optimum g l r) (t l r) (standing_pass g (marks_pair g t) e l r i j s))
     (marks_are g l r)

@@ -9,9 +9,9 @@ use Rattle.cost.specs.declared.free_kind.Free.{Free}
 use Rattle.cost.specs.declared.two_step_kind.TwoStep.{TwoStep}
 use Rattle.pairing.specs.Grid.{Grid, at, total}
 use Rattle.pairing.specs.Stated.{grid_of}
-use Rattle.pairing.specs.Prices.{Greatest, TightPair}
-use Rattle.pairing.specs.Optima.{optima, Marked}
-use Rattle.pairing.specs.Largest.{Unpaired}
+use Rattle.pairing.specs.Prices.{AreGreatest, IsTight}
+use Rattle.pairing.specs.Optima.{optima, IsInOptimum}
+use Rattle.pairing.specs.Largest.{HasNoPerfect}
 use Rattle.pairing.specs.declared.Worked.{Worked}
 
 -- ---- Costs and prices
@@ -99,7 +99,7 @@ pub record ArePriced (g : Grid) (pairings : List (List ℕ)) (sum : ℤ) (left r
     : Type 0 where
   pub all : optima g ≡ pairings
   pub totals : AllByRecursion (λ p. total g p ≡ sum ∷ []) pairings
-  pub greatest : AllByRecursion (Greatest g (prices left) (prices right)) pairings
+  pub greatest : AllByRecursion (AreGreatest g (prices left) (prices right)) pairings
 
 -- the numbers are right for these grids, at the plain, the free and the two-step kind
 pub record Examples (plain : Ghosts Plain) (free : Ghosts Free)
@@ -107,20 +107,20 @@ pub record Examples (plain : Ghosts Plain) (free : Ghosts Free)
   pub s : ArePriced (s_grid plain) w.s_optima w.s_total w.s_left w.s_right
   -- some optimum pairing has each standing pair but these
   pub s_marked : (l r : ℕ) → l < 3 → r < 3 → (s_grid plain).stands l r ≡ true
-      → (IsTrue (not (is_among w.s_unmarked l r)) ↔ Marked (s_grid plain) l r)
+      → (IsTrue (not (is_among w.s_unmarked l r)) ↔ IsInOptimum (s_grid plain) l r)
   pub free_kind : optima (s_free_grid free) ≡ w.free_optima
   pub two_steps : optima (two_step_grid two_step) ≡ w.two_step_optima
   pub two_step_total : AllByRecursion (λ p. total (two_step_grid two_step) p ≡ w.two_step_total)
       w.two_step_optima
-  pub crowded : Unpaired (crowded_grid free).size (crowded_grid free).stands w.crowded_set
+  pub crowded : HasNoPerfect (crowded_grid free).size (crowded_grid free).stands w.crowded_set
       w.crowded_short
-  pub bare : Unpaired (bare_grid free).size (bare_grid free).stands w.bare_set w.bare_short
+  pub bare : HasNoPerfect (bare_grid free).size (bare_grid free).stands w.bare_set w.bare_short
   pub corner : ArePriced (corner_grid plain) w.corner_optima (pos 0) w.corner_left w.corner_right
   -- a standing pair that costs just its prices and is in no optimum pairing
   pub corner_stands : (corner_grid plain).stands w.corner_pair.left w.corner_pair.right ≡ true
-  pub corner_tight : TightPair (corner_grid plain) (prices w.corner_left) (prices w.corner_right)
+  pub corner_tight : IsTight (corner_grid plain) (prices w.corner_left) (prices w.corner_right)
       w.corner_pair.left w.corner_pair.right
-  pub corner_unmarked : Marked (corner_grid plain) w.corner_pair.left w.corner_pair.right → ⊥
+  pub corner_unmarked : IsInOptimum (corner_grid plain) w.corner_pair.left w.corner_pair.right → ⊥
   pub cheap : ArePriced (cheap_grid plain) w.cheap_optima w.cheap_total w.cheap_left w.cheap_right
   pub level_count : length (optima (level_grid plain)) ≡ w.level_count
   pub level_first : slice_index_or (optima (level_grid plain)) 0 [] ≡ w.level_first

@@ -4,11 +4,11 @@ use Rattle.std.specs.Prelude.{IsTrue, ◌↔◌}
 use Rattle.std.specs.List.{list_any}
 use Rattle.blockset.specs.Sets.{members, bit}
 use Rattle.pairing.specs.Places.{rights_of}
-use Rattle.pairing.specs.Grid.{numbers, at, Perfect}
+use Rattle.pairing.specs.Grid.{numbers, at, IsPerfect}
 
 -- a set of standing pairs in which no block comes twice (a matching): p gives each left block that
 -- is not in `out` its right block
-pub record Partial (n : ℕ) (stands : ℕ → ℕ → Bool) (p : List ℕ) (out : ℕ → Bool) : Type 0 where
+pub record IsPartial (n : ℕ) (stands : ℕ → ℕ → Bool) (p : List ℕ) (out : ℕ → Bool) : Type 0 where
   pub len : length p ≡ n
   pub below : (l : ℕ) → l < n → out l ≡ false → at p l < rights_of n
   pub standing : (l : ℕ) → l < n → out l ≡ false → stands l (at p l) ≡ true
@@ -19,22 +19,22 @@ abbrev pub pair_count : ℕ → (ℕ → Bool) → ℕ
 pair_count n out = members n (λ l. not (out l))
 
 -- such a set with at least as many pairs as every other (a maximum matching)
-pub record Largest (n : ℕ) (stands : ℕ → ℕ → Bool) (p : List ℕ) (out : ℕ → Bool) : Type 0 where
-  pub part : Partial n stands p out
-  pub most : (q : List ℕ) (out' : ℕ → Bool) → Partial n stands q out'
+pub record IsLargest (n : ℕ) (stands : ℕ → ℕ → Bool) (p : List ℕ) (out : ℕ → Bool) : Type 0 where
+  pub part : IsPartial n stands p out
+  pub most : (q : List ℕ) (out' : ℕ → Bool) → IsPartial n stands q out'
       → pair_count n out' ≤ pair_count n out
 
 -- left block l is in the crowd set: some largest pairing leaves it out
 pub record IsInCrowd (n : ℕ) (stands : ℕ → ℕ → Bool) (l : ℕ) : Type 0 where
   pub pairing : List ℕ
   pub out : ℕ → Bool
-  pub largest : Largest n stands pairing out
+  pub largest : IsLargest n stands pairing out
   pub inside : l < n
   pub left_out : out l ≡ true
 
 -- the test tells the crowd set
-abbrev pub CrowdSet : (n : ℕ) → (ℕ → ℕ → Bool) → (ℕ → Bool) → Type 0
-CrowdSet n stands X = (l : ℕ) → (IsTrue (X l) ↔ IsInCrowd n stands l)
+abbrev pub IsCrowdSet : (n : ℕ) → (ℕ → ℕ → Bool) → (ℕ → Bool) → Type 0
+IsCrowdSet n stands X = (l : ℕ) → (IsTrue (X l) ↔ IsInCrowd n stands l)
 
 -- the right blocks that stand with any left block of a set X (its neighbourhood N(X))
 abbrev pub around : ℕ → (ℕ → ℕ → Bool) → (ℕ → Bool) → ℕ → Bool
@@ -46,7 +46,7 @@ abbrev pub shortage : ℕ → (ℕ → ℕ → Bool) → (ℕ → Bool) → ℕ
 shortage n stands X = members n X - members (rights_of n) (around n stands X)
 
 -- no pairing is perfect; these are the crowd set, as one number, and its shortage
-pub record Unpaired (n : ℕ) (stands : ℕ → ℕ → Bool) (crowd short : ℕ) : Type 0 where
-  pub none : (p : List ℕ) → Perfect n stands p → ⊥
-  pub crowd_set : CrowdSet n stands (bit crowd)
+pub record HasNoPerfect (n : ℕ) (stands : ℕ → ℕ → Bool) (crowd short : ℕ) : Type 0 where
+  pub none : (p : List ℕ) → IsPerfect n stands p → ⊥
+  pub crowd_set : IsCrowdSet n stands (bit crowd)
   pub shortage_is : shortage n stands (bit crowd) ≡ short

@@ -6,15 +6,15 @@ use Rattle.std.specs.List.{flat_map, list_any, list_all}
 use Rattle.std.specs.Ordering.{is_le}
 use Rattle.cost.specs.Columns.{lex}
 use Rattle.pairing.specs.Places.{rights_of}
-use Rattle.pairing.specs.Grid.{Grid, numbers, at, Perfect, total, Optimum}
+use Rattle.pairing.specs.Grid.{Grid, numbers, at, IsPerfect, total, IsOptimum}
 
 -- dictionary order: p comes before q if at the first place where they differ p has the smaller
 -- number
-abbrev pub Before : List ℕ → List ℕ → Type 0
-Before [] [] = ⊥
-Before [] (y ∷ ys) = Unit {0}
-Before (x ∷ xs) [] = ⊥
-Before (x ∷ xs) (y ∷ ys) = (x < y) ⊎ ((x ≡ y) × Before xs ys)
+abbrev pub IsBefore : List ℕ → List ℕ → Type 0
+IsBefore [] [] = ⊥
+IsBefore [] (y ∷ ys) = Unit {0}
+IsBefore (x ∷ xs) [] = ⊥
+IsBefore (x ∷ xs) (y ∷ ys) = (x < y) ⊎ ((x ≡ y) × IsBefore xs ys)
 
 -- ---- The lists
 
@@ -50,14 +50,14 @@ optima g = let ps = perfects g.size g.stands in filter (λ p. is_least g (total 
 pub record IsInPerfect (n : ℕ) (stands : ℕ → ℕ → Bool) (l r : ℕ) : Type 0 where
   pub inside : l < n
   pub pairing : List ℕ
-  pub perfect : Perfect n stands pairing
+  pub perfect : IsPerfect n stands pairing
   pub has : at pairing l ≡ r
 
 -- some optimum pairing has the pair of l and r
-pub record Marked (g : Grid) (l r : ℕ) : Type 0 where
+pub record IsInOptimum (g : Grid) (l r : ℕ) : Type 0 where
   pub inside : l < g.size
   pub pairing : List ℕ
-  pub optimum : Optimum g pairing
+  pub optimum : IsOptimum g pairing
   pub has : at pairing l ≡ r
 
 -- one of the pairings has the pair of l and r
@@ -65,5 +65,5 @@ abbrev pub has_pair : ℕ → ℕ → List (List ℕ) → Bool
 has_pair l r ps = list_any (λ p. at p l == r) ps
 
 -- the test that some optimum pairing has it
-abbrev pub is_marked : Grid → ℕ → ℕ → Bool
-is_marked g l r = nat_lt l g.size && has_pair l r (optima g)
+abbrev pub is_in_optimum : Grid → ℕ → ℕ → Bool
+is_in_optimum g l r = nat_lt l g.size && has_pair l r (optima g)

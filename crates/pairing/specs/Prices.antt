@@ -1,39 +1,39 @@
 -- Prices of the blocks (dual prices): they prove a pairing optimum, and show which others are.
 use Rattle.std.specs.Prelude.{◌≡◌, ℕ, ◌<◌, true, List, length, ℤ}
 use Rattle.cost.specs.declared.TheConstants.{RAIL}
-use Rattle.cost.specs.Columns.{Within, zeros, plus}
-use Rattle.pairing.specs.Grid.{Grid, right_count, at, Upto}
+use Rattle.cost.specs.Columns.{AreWithin, zeros, plus}
+use Rattle.pairing.specs.Grid.{Grid, right_count, at, IsUpto}
 
 -- what a value of a cost kind means: so many columns, each on the rail from -`RAIL` to `RAIL`
-pub record Value (columns : ℕ) (xs : List ℤ) : Type 0 where
+pub record IsCostValue (columns : ℕ) (xs : List ℤ) : Type 0 where
   pub sized : length xs ≡ columns
-  pub on_rail : Within RAIL xs
+  pub on_rail : AreWithin RAIL xs
 
 -- the pair costs its two prices, neither more nor less: it is tight (its reduced cost is 0)
-abbrev pub TightPair : Grid → (left right : ℕ → List ℤ) → ℕ → ℕ → Type 0
-TightPair g left right l r = plus (left l) (right r) ≡ g.cost l r
+abbrev pub IsTight : Grid → (left right : ℕ → List ℤ) → ℕ → ℕ → Type 0
+IsTight g left right l r = plus (left l) (right r) ≡ g.cost l r
 
 -- each pair of the pairing is tight (complementary slackness)
-abbrev pub Tight : Grid → (left right : ℕ → List ℤ) → List ℕ → Type 0
-Tight g left right p = (l : ℕ) → l < g.size → TightPair g left right l (at p l)
+abbrev pub AreTight : Grid → (left right : ℕ → List ℤ) → List ℕ → Type 0
+AreTight g left right p = (l : ℕ) → l < g.size → IsTight g left right l (at p l)
 
 -- no standing pair costs less than its two prices (dual feasible: no reduced cost is below 0), and
 -- the pairs of p cost just them
-pub record Valid (g : Grid) (left right : ℕ → List ℤ) (p : List ℕ) : Type 0 where
-  pub lefts : (l : ℕ) → l < g.size → Value g.columns (left l)
-  pub rights : (r : ℕ) → r < right_count g → Value g.columns (right r)
+pub record AreValid (g : Grid) (left right : ℕ → List ℤ) (p : List ℕ) : Type 0 where
+  pub lefts : (l : ℕ) → l < g.size → IsCostValue g.columns (left l)
+  pub rights : (r : ℕ) → r < right_count g → IsCostValue g.columns (right r)
   pub under : (l r : ℕ) → l < g.size → r < right_count g → g.stands l r ≡ true
-      → Upto (plus (left l) (right r)) (g.cost l r)
-  pub equal : Tight g left right p
+      → IsUpto (plus (left l) (right r)) (g.cost l r)
+  pub equal : AreTight g left right p
 
 -- no right price is above zero
-abbrev pub Low : Grid → (right : ℕ → List ℤ) → Type 0
-Low g right = (r : ℕ) → r < right_count g → Upto (right r) (zeros g.columns)
+abbrev pub IsLow : Grid → (right : ℕ → List ℤ) → Type 0
+IsLow g right = (r : ℕ) → r < right_count g → IsUpto (right r) (zeros g.columns)
 
 -- valid prices, no right price above zero, whose right prices are at least those of all other such
 -- prices, at each right block
-pub record Greatest (g : Grid) (left right : ℕ → List ℤ) (p : List ℕ) : Type 0 where
-  pub valid : Valid g left right p
-  pub low : Low g right
-  pub most : (left' right' : ℕ → List ℤ) → Valid g left' right' p → Low g right' → (r : ℕ)
-      → r < right_count g → Upto (right' r) (right r)
+pub record AreGreatest (g : Grid) (left right : ℕ → List ℤ) (p : List ℕ) : Type 0 where
+  pub valid : AreValid g left right p
+  pub low : IsLow g right
+  pub most : (left' right' : ℕ → List ℤ) → AreValid g left' right' p → IsLow g right' → (r : ℕ)
+      → r < right_count g → IsUpto (right' r) (right r)

@@ -3,7 +3,7 @@ use Rattle.std.specs.Prelude.{ℕ, Bool, List, length, slice_index_or}
 use Rattle.blockset.specs.declared.BlockSet.{BlockSet}
 use Rattle.blockset.specs.Has.{no_blocks, has}
 use Rattle.pairing.specs.Places.{rights_of}
-use Rattle.pairing.specs.Grid.{Perfect}
+use Rattle.pairing.specs.Grid.{IsPerfect}
 use Rattle.pairing.specs.Optima.{perfects}
 
 -- how many right blocks there are for the rows
@@ -16,8 +16,8 @@ holds rows l r = has (slice_index_or rows l no_blocks) r
 
 -- p is a perfect pairing over the rows: each left block has a right block of its row, and none
 -- comes twice
-abbrev pub Pairs : List BlockSet → List ℕ → Type 0
-Pairs rows p = Perfect (length rows) (holds rows) p
+abbrev pub IsPerfectOver : List BlockSet → List ℕ → Type 0
+IsPerfectOver rows p = IsPerfect (length rows) (holds rows) p
 
 -- all perfect pairings over the rows, in dictionary order
 abbrev pub pairings : List BlockSet → List (List ℕ)

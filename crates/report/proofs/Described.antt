@@ -9,9 +9,9 @@ use Rattle.std.specs.Option.{option_map}
 use Rattle.cost.specs.declared.plain_kind.Plain.{Plain}
 use Rattle.sheet.specs.Size.{size_of}
 use Rattle.sheet.specs.declared.fault.Fault.{Fault}
-use Rattle.orderfile.specs.Format.{Order, States}
+use Rattle.orderfile.specs.Format.{StatedOrder, States}
 use Rattle.orderfile.specs.Faults.{FirstFault}
-use Rattle.orderfile.specs.Loading.{plain, cost_stated, Shows}
+use Rattle.orderfile.specs.Loading.{plain, stated_cost, ShowsOrder}
 use Rattle.orderfile.proofs.Verdicts.{one_order, one_fault, not_both, verdict_order, verdict_fault}
 use Rattle.refusal_words.specs.Lines.{up_to}
 use Rattle.report.specs.Afresh.{IsLoaded}
@@ -20,13 +20,14 @@ use Rattle.report.specs.Text.{pair_line, cost_in, row_lines, all_lines, sheet_te
 use Rattle.report.specs.declared.fresh_tables.LoadedSheet.{LoadedSheet}
 use Rattle.report.proofs.Lines.{up_same}
 
-module _ (IsOfOrder : Order → List ℕ → Type 0) (of_fault : Fault → List ℕ) (file : List ℕ)
+module _ (IsOfOrder : StatedOrder → List ℕ → Type 0) (of_fault : Fault → List ℕ) (file : List ℕ)
   where
-    report_of_order : (text : List ℕ) (order : Order) → States file order → IsOfOrder order text
+    report_of_order : (text : List ℕ) (order : StatedOrder) → States file order
+        → IsOfOrder order text
         → IsReport IsOfOrder of_fault file text
     report_of_order text order s e = record {
       verdict = verdict_order file order s;
-      states = λ o t. subst (λ (x : Order). IsOfOrder x text) (one_order file order o s t) e;
+      states = λ o t. subst (λ (x : StatedOrder). IsOfOrder x text) (one_order file order o s t) e;
       faulty = λ f t. absurd (not_both file order f s t);
     }
 
@@ -63,11 +64,11 @@ mapped_back (Some z) = refl
 mapped_back None = refl
 
 -- the cost of a pair in tables that show an order is the stated one
-pub cost_shown : (order : Order) (costs : List Plain) (standing : List ℕ)
-    → Shows order costs standing → (l r : ℕ) → l < order.size → r < order.size
-    → cost_in order.size costs standing l r ≡ cost_stated order.pairs l r
+pub cost_shown : (order : StatedOrder) (costs : List Plain) (standing : List ℕ)
+    → ShowsOrder order costs standing → (l r : ℕ) → l < order.size → r < order.size
+    → cost_in order.size costs standing l r ≡ stated_cost order.pairs l r
 cost_shown order costs standing shows l r i j =
-    ap (option_map (λ p. p.0)) (shows l r i j) ∙ mapped_back (cost_stated order.pairs l r)
+    ap (option_map (λ p. p.0)) (shows l r i j) ∙ mapped_back (stated_cost order.pairs l r)
 
 -- the text of a loaded sheet is the order's statement
 pub statement_loaded : (file : List ℕ) (sheet : LoadedSheet) (loaded : IsLoaded file sheet)
@@ -79,11 +80,11 @@ statement_loaded file sheet loaded =
     let order = loaded.order in
     let n = order.size in
     let lines : all_lines n costs standing n ≡ up_to n
-    (λ l. up_to n (λ r. pair_line l r (cost_stated order.pairs l r))) =
+    (λ l. up_to n (λ r. pair_line l r (stated_cost order.pairs l r))) =
     up_same n (λ l. row_lines n costs standing l n)
-    (λ l. up_to n (λ r. pair_line l r (cost_stated order.pairs l r)))
+    (λ l. up_to n (λ r. pair_line l r (stated_cost order.pairs l r)))
     (λ l i. up_same n (λ r. pair_line l r (cost_in n costs standing l r))
-    (λ r. pair_line l r (cost_stated order.pairs l r))
+    (λ r. pair_line l r (stated_cost order.pairs l r))
     (λ r j. ap (pair_line l r) (cost_shown order costs standing loaded.accepted.shows l r i j))) in
     ap (λ k. sheet_text k costs standing) loaded.size
     ∙ ap (λ t. (codes "size " ++ (decimal n ++ codes "\n")) ++ (t ++ codes "end\n")) lines

@@ -10,16 +10,16 @@ use Rattle.std.proofs.lemmas.Bool.{lt-ltb}
 use Rattle.cost.specs.declared.plain_kind.Plain.{Plain}
 use Rattle.pairing.specs.Grid.{Grid, at, total}
 use Rattle.pairing.specs.Places.{place_of}
-use Rattle.pairing.specs.Largest.{Unpaired}
-use Rattle.pairing.specs.Optima.{optima, has_pair, is_marked}
+use Rattle.pairing.specs.Largest.{HasNoPerfect}
+use Rattle.pairing.specs.Optima.{optima, has_pair, is_in_optimum}
 use Rattle.matching.specs.Answers.{IsNth}
 use Rattle.matching.proofs.Nth.{nth_optimum}
 use Rattle.tables.specs.Lent.{Lent, grid}
 use Rattle.sheet.specs.Walking.{AreMarks}
 use Rattle.sheet.specs.Size.{Sheet}
 use Rattle.sheet.specs.declared.fault.Fault.{Fault}
-use Rattle.orderfile.specs.Format.{Order}
-use Rattle.orderfile.specs.Loading.{plain_kind, plain_grid, cost_stated, grid_stated, Accepted}
+use Rattle.orderfile.specs.Format.{StatedOrder}
+use Rattle.orderfile.specs.Loading.{plain_kind, plain_grid, stated_cost, stated_grid, LoadsOrder}
 use Rattle.orderfile.proofs.LoadedGrid.{loaded_alike}
 use Rattle.report.specs.Text.{cost_in}
 use Rattle.report.specs.Listing.{total_line}
@@ -65,7 +65,7 @@ over_same : (cost cost' : ℕ → ℕ → Option ℤ) (g h : Grid) (ps : List (L
     → ((p : List ℕ) → IsNth ps 0 p → total g p ≡ total h p)
     → ((p : List ℕ) → map_text (grid_view cost g p) ≡ map_text (grid_view cost' h p))
     → ((crowd short : ℕ)
-    → Unpaired g.size g.stands crowd short → Unpaired h.size h.stands crowd short)
+    → HasNoPerfect g.size g.stands crowd short → HasNoPerfect h.size h.stands crowd short)
     → IsMapOver cost g ps text → IsMapOver cost' h ps text
 over_same cost cost' g h [] text totals maps crowds is =
     (is.0, crowds is.0.crowd is.0.short is.1, is.2)
@@ -89,7 +89,7 @@ module _ (t : Lent Plain) (marks : List ℕ) where
   }
 
   occurs_marked : AreMarks plain_kind t marks → (l r : ℕ) → l < t.size → r < t.size
-      → tables_view.occurs l r ≡ is_marked (grid plain_kind t) l r
+      → tables_view.occurs l r ≡ is_in_optimum (grid plain_kind t) l r
   occurs_marked m l r i j =
       let has = has_pair l r (optima (grid plain_kind t)) in
       ap (λ k. k == 1) (m.marks l r i j) ∙ is_one has
@@ -111,17 +111,17 @@ module _ (t : Lent Plain) (marks : List ℕ) where
 
 -- ---- The order that was loaded
 
-module _ (order : Order) (r : Result Sheet Fault) (costs : List Plain) (standing : List ℕ)
-    (accepted : Accepted order r costs standing) where
+module _ (order : StatedOrder) (r : Result Sheet Fault) (costs : List Plain) (standing : List ℕ)
+    (accepted : LoadsOrder order r costs standing) where
   pub drawn_order : (text : List ℕ)
       → IsMap (cost_in order.size costs standing) (plain_grid order.size costs standing) text
-      → IsMap (cost_stated order.pairs) (grid_stated order) text
+      → IsMap (stated_cost order.pairs) (stated_grid order) text
   drawn_order text map =
       let n = order.size in
       let cost = cost_in n costs standing in
-      let stated = cost_stated order.pairs in
+      let stated = stated_cost order.pairs in
       let g = plain_grid n costs standing in
-      let h = grid_stated order in
+      let h = stated_grid order in
       let alike = loaded_alike order r costs standing accepted in
       subst (λ (ps : List (List ℕ)). IsMapOver stated h ps text) alike.optima
       (over_same cost stated g h (optima g) text

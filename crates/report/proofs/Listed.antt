@@ -9,7 +9,7 @@ use Rattle.std.proofs.lemmas.List.{take_more, flat_map_more}
 use Rattle.std.proofs.lemmas.Bool.{cases_lt, cond-true, cond-false, lt-ltb, le-ltb}
 use Rattle.pairing.specs.Grid.{Grid, total}
 use Rattle.pairing.specs.Optima.{optima}
-use Rattle.pairing.specs.Theorems.{AlikeInside}
+use Rattle.pairing.specs.Theorems.{AreAlikeInside}
 use Rattle.pairing.proofs.Listing.{optima_are}
 use Rattle.matching.specs.Answers.{IsNth, Follows}
 use Rattle.matching.proofs.Nth.{nth_optimum}
@@ -88,7 +88,7 @@ module _ (g h : Grid) where
   over_same (p ∷ ps) same =
       ap (λ t. total_line t ++ listed (p ∷ ps)) (same p (omega arith, refl))
 
-  pub listing_same : AlikeInside g h → listing_text g ≡ listing_text h
+  pub listing_same : AreAlikeInside g h → listing_text g ≡ listing_text h
   listing_same alike =
       over_same (optima g) (λ p i. alike.totals p (nth_optimum g 0 p i).perfect)
       ∙ ap (listing_over h) alike.optima

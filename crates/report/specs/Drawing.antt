@@ -1,11 +1,11 @@
 -- The map of what a file states, and what drawing a file answers.
 use Rattle.std.specs.Prelude.{◌≡◌, ℕ, List, [], ◌∷◌, ◌++◌, ℤ, Option, ◌==◌}
 use Rattle.pairing.specs.Grid.{Grid, at, total}
-use Rattle.pairing.specs.Largest.{Unpaired}
-use Rattle.pairing.specs.Optima.{optima, is_marked}
+use Rattle.pairing.specs.Largest.{HasNoPerfect}
+use Rattle.pairing.specs.Optima.{optima, is_in_optimum}
 use Rattle.matching.specs.declared.augmenting.Shortfall.{Shortfall}
 use Rattle.sheet.specs.declared.fault.Cause.TheVariants.{NoPerfectPairing}
-use Rattle.orderfile.specs.Loading.{cost_stated, grid_stated}
+use Rattle.orderfile.specs.Loading.{stated_cost, stated_grid}
 use Rattle.refusal_words.specs.Refusing.{unmatched_lines}
 use Rattle.refusal_words.specs.Words.{explanation}
 use Rattle.report.specs.Describing.{IsReport}
@@ -18,7 +18,7 @@ grid_view cost g p = record {
   size = g.size;
   cost = cost;
   first = λ l r. at p l == r;
-  occurs = is_marked g;
+  occurs = is_in_optimum g;
 }
 
 -- what stands in place of the map of a grid with no perfect pairing, by its crowd set and shortage
@@ -30,7 +30,7 @@ no_map = unmatched_lines NoPerfectPairing
 -- the grid and its shortage
 abbrev pub IsMapOver : (cost : ℕ → ℕ → Option ℤ) → Grid → List (List ℕ) → List ℕ → Type 0
 IsMapOver cost g [] text =
-    (s : Shortfall) × Unpaired g.size g.stands s.crowd s.short × (text ≡ no_map s)
+    (s : Shortfall) × HasNoPerfect g.size g.stands s.crowd s.short × (text ≡ no_map s)
 IsMapOver cost g (p ∷ ps) text = text ≡ total_line (total g p) ++ map_text (grid_view cost g p)
 
 abbrev pub IsMap : (cost : ℕ → ℕ → Option ℤ) → Grid → List ℕ → Type 0
@@ -38,4 +38,4 @@ IsMap cost g text = IsMapOver cost g (optima g) text
 
 -- the text is the map of what the file states, or tells its first fault in words
 abbrev pub Draws : (file text : List ℕ) → Type 0
-Draws = IsReport (λ order. IsMap (cost_stated order.pairs) (grid_stated order)) explanation
+Draws = IsReport (λ order. IsMap (stated_cost order.pairs) (stated_grid order)) explanation

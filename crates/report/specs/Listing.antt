@@ -9,7 +9,7 @@ use Rattle.pairing.specs.Optima.{optima}
 use Rattle.sheet.specs.Numbers.{cause_number}
 use Rattle.sheet.specs.declared.fault.Cause.{Cause}
 use Rattle.sheet.specs.declared.fault.Cause.TheVariants.{NoPerfectPairing}
-use Rattle.orderfile.specs.Loading.{grid_stated}
+use Rattle.orderfile.specs.Loading.{stated_grid}
 use Rattle.refusal_words.specs.Lines.{pairing_line}
 use Rattle.report.specs.Describing.{IsReport}
 use Rattle.report.specs.declared.listing_lines.TheConstants.{MOST_PAIRINGS}
@@ -51,4 +51,4 @@ listing_text g = listing_over g (optima g)
 -- first fault
 abbrev pub Lists : (file text : List ℕ) → Type 0
 Lists =
-    IsReport (λ order text. text ≡ listing_text (grid_stated order)) (λ f. cause_line f.cause)
+    IsReport (λ order text. text ≡ listing_text (stated_grid order)) (λ f. cause_line f.cause)

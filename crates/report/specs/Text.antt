@@ -5,8 +5,8 @@ use Rattle.std.specs.Fmt.{signed_decimal}
 use Rattle.cost.specs.declared.plain_kind.Plain.{Plain}
 use Rattle.sheet.specs.Refusals.{refusal_text}
 use Rattle.sheet.specs.declared.fault.Fault.{Fault}
-use Rattle.orderfile.specs.Format.{Order}
-use Rattle.orderfile.specs.Loading.{plain_cell, cost_stated}
+use Rattle.orderfile.specs.Format.{StatedOrder}
+use Rattle.orderfile.specs.Loading.{plain_cell, stated_cost}
 use Rattle.refusal_words.specs.Lines.{up_to}
 
 -- the line of a pair, if it stands at a cost: `pair L R COST`
@@ -37,9 +37,9 @@ sheet_text n costs standing = (codes "size " ++ (decimal n ++ codes "\n"))
     ++ (all_lines n costs standing n ++ codes "end\n")
 
 -- what a file states: `size N`, the pairs, `end`
-abbrev pub statement : Order → List ℕ
+abbrev pub statement : StatedOrder → List ℕ
 statement order = (codes "size " ++ (decimal order.size ++ codes "\n"))
-    ++ (pair_lines order.size (cost_stated order.pairs) ++ codes "end\n")
+    ++ (pair_lines order.size (stated_cost order.pairs) ++ codes "end\n")
 
 -- why it is refused: `refused NUMBER at PLACE layer LAYER`
 abbrev pub refusal : Fault → List ℕ

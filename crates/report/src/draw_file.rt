@@ -3,7 +3,7 @@
 
 ghost use Rattle.std.specs.Prelude.{◌≡◌, IfOk, string_bytes};
 ghost use Rattle.tables.specs.Lent.{grid};
-ghost use Rattle.tables.specs.Together.{Together, ArePairTables};
+ghost use Rattle.tables.specs.Together.{HoldTogether, ArePairTables};
 ghost use Rattle.assign.specs.Answer.{Settled};
 ghost use Rattle.sheet.specs.Size.{size_of};
 ghost use Rattle.orderfile.specs.Loading.{plain_kind, plain_grid};
@@ -26,7 +26,7 @@ fn draw_settled(
     tables: &Tables<'_, Plain>,
 ) -> Result<String, AllocError>
     requires size { size_of sheet.now ≡ tables.now.size }
-    requires together { Together plain_kind tables.now }
+    requires together { HoldTogether plain_kind tables.now }
     requires settled { Settled plain_kind tables.now }
     ensures { let t = tables.now in IfOk result (λ text.
         IsMap (cost_in t.size t.costs t.standing) (grid plain_kind t) (string_bytes text)) }

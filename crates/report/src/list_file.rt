@@ -1,11 +1,11 @@
 //! Order files as listings: all optimum pairings of what a file states, or why it is refused.
 
 ghost use Rattle.std.specs.Prelude.{◌≡◌, ◌++◌, IfOk, OnOk, string_bytes};
-ghost use Rattle.pairing.specs.Grid.{Optimum};
+ghost use Rattle.pairing.specs.Grid.{IsOptimum};
 ghost use Rattle.pairing.specs.Optima.{optima};
 ghost use Rattle.matching.specs.Answers.{IsNth, Follows};
 ghost use Rattle.tables.specs.Lent.{grid};
-ghost use Rattle.tables.specs.Together.{Together, ArePairTables};
+ghost use Rattle.tables.specs.Together.{HoldTogether, ArePairTables};
 ghost use Rattle.assign.specs.Answer.{Settled};
 ghost use Rattle.sheet.specs.Size.{size_of};
 ghost use Rattle.orderfile.specs.Loading.{plain_kind, plain_grid};
@@ -22,8 +22,8 @@ use tables::Tables;
 // Goes on to the next pairing of a walk over tables that hold together.
 fn step(walk: &Walk, tables: &Tables<'_, Plain>, list: &mut [u16]) -> Step
     requires size { size_of walk.now ≡ tables.now.size }
-    requires together { Together plain_kind tables.now }
-    requires optimum { Optimum (grid plain_kind tables.now) list.old }
+    requires together { HoldTogether plain_kind tables.now }
+    requires optimum { IsOptimum (grid plain_kind tables.now) list.old }
     ensures { Follows (optima (grid plain_kind tables.now)) list.old list.new result }
 {
     let Tables {
@@ -49,7 +49,7 @@ fn push_pairings(
     list: &mut [u16],
 ) -> Result<(), AllocError>
     requires size { size_of walk.now ≡ tables.now.size }
-    requires together { Together plain_kind tables.now }
+    requires together { HoldTogether plain_kind tables.now }
     requires first { IsNth (optima (grid plain_kind tables.now)) 0 list.old }
     ensures { OnOk result (string_bytes text.new
         ≡ string_bytes text.old ++ listed (optima (grid plain_kind tables.now))) }
@@ -70,7 +70,7 @@ fn list_settled(
     tables: &Tables<'_, Plain>,
 ) -> Result<String, AllocError>
     requires size { size_of sheet ≡ tables.now.size }
-    requires together { Together plain_kind tables.now }
+    requires together { HoldTogether plain_kind tables.now }
     requires settled { Settled plain_kind tables.now }
     ensures { IfOk result
         (λ text. string_bytes text ≡ listing_text (grid plain_kind tables.now)) }

@@ -10,10 +10,10 @@ use Rattle.std.proofs.lemmas.List.{length-set, length-replicate, get_or-map, get
 use Rattle.std.proofs.lemmas.List.{get_or-set_same, get_or-set_other}
 use Rattle.std.proofs.lemmas.Bool.{cond-true, and_parts, and_from, eqb-true, eq-eqb, false≢true}
 use Rattle.cost.specs.declared.Cost.{Ghosts}
-use Rattle.cost.specs.Columns.{Within}
+use Rattle.cost.specs.Columns.{AreWithin}
 use Rattle.cost.specs.declared.TheConstants.{COST_LIMIT}
-use Rattle.pairing.specs.Inside.{SameInside}
-use Rattle.pairing.specs.Theorems.{AlikeInside}
+use Rattle.pairing.specs.Inside.{AreSameInside}
+use Rattle.pairing.specs.Theorems.{AreAlikeInside}
 use Rattle.pairing.proofs.Inside.{inside_matters}
 use Rattle.pairing.specs.Places.{place_of, places_of}
 use Rattle.tables.specs.PairTables.{says_stands, says_disturbed, byte_of}
@@ -44,7 +44,7 @@ module _ {K : Type 0} (kind : Ghosts K) (n : ℕ) (b : Book K) (costs : List K) 
   cell_is l r i j stands =
       sym (each kind n b.cells costs standing shows l r i j) ∙ cond-true _ _ _ stands
 
-  pub same_inside : SameInside (grid_of kind n costs standing) (grid_in kind n b)
+  pub same_inside : AreSameInside (grid_of kind n costs standing) (grid_in kind n b)
   same_inside = record {
     size = refl;
     columns = refl;
@@ -55,7 +55,7 @@ module _ {K : Type 0} (kind : Ghosts K) (n : ℕ) (b : Book K) (costs : List K) 
         ∙ sym (ap (columns_in kind n) (cell_is l r i j stands));
   }
 
-  pub alike : AlikeInside (grid_of kind n costs standing) (grid_in kind n b)
+  pub alike : AreAlikeInside (grid_of kind n costs standing) (grid_in kind n b)
   alike = inside_matters (grid_of kind n costs standing) (grid_in kind n b) same_inside
 
 -- what a cell says, written at the place of its pair
@@ -85,7 +85,7 @@ module _ {K : Type 0} (kind : Ghosts K) (n : ℕ) (cells : ℕ → ℕ → Optio
     (hr : r < n) where
   pub written_shows : (new : Option K)
       → (says_stands (byte_in new) ≡ true
-      → Within COST_LIMIT (kind.meaning (cost_in kind.zero new)))
+      → AreWithin COST_LIMIT (kind.meaning (cost_in kind.zero new)))
       → Shows kind n (with_cell cells l r new)
       (set costs (place_of n l r) (cost_in kind.zero new))
       (set standing (place_of n l r) (byte_in new))

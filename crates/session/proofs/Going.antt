@@ -10,7 +10,7 @@ use Rattle.std.proofs.lemmas.List.{length-take-le, take_all, take_more, with_ite
 use Rattle.cost.specs.declared.Cost.{Ghosts}
 use Rattle.sheet.specs.declared.fault.Fault.{Fault}
 use Rattle.sheet.specs.declared.fault.Refusal.{Refusal}
-use Rattle.sheet.specs.Opening.{open_needs, Opened}
+use Rattle.sheet.specs.Opening.{open_needs, OpensSheet}
 use Rattle.sheet.proofs.Needs.{met_or_not}
 use Rattle.sheet.specs.Settling.{Settles}
 use Rattle.sheet.specs.Size.{Sheet, size_of, IsSize}
@@ -98,7 +98,7 @@ module _ {K : Type 0} (kind : Ghosts K) (n : ℕ) where
   module _ (t : SheetTables K) (xs costs : List K) (ys standing : List ℕ) (a : Result Sheet Fault)
       (size : IsSize n) (right : lengths (tables_of t) ≡ right_lengths n)
       (ex : xs ≡ t.costs.items) (ey : ys ≡ t.standing.items)
-      (is : Opened kind.zero n xs ys a costs standing) where
+      (is : OpensSheet kind.zero n xs ys a costs standing) where
     pub opens_always : (f : Fault) → a ≡ Err f → ⊥
     opens_always f e =
         met_or_not (open_needs n (length xs) (length ys)) f (
@@ -118,12 +118,12 @@ module _ {K : Type 0} (kind : Ghosts K) (n : ℕ) where
           standing = with_items t.standing standing;
         }))
     begun ec es sheet e =
-        let accepted : Opened kind.zero n xs ys (Ok sheet) costs standing = rw e at is in
+        let accepted : OpensSheet kind.zero n xs ys (Ok sheet) costs standing = rw e at is in
         let wc : (with_items t.costs costs).items ≡ costs =
         with_items_is t.costs costs (ec ∙ ap length ex ∙ sym t.costs.ok.0) in
         let ws : (with_items t.standing standing).items ≡ standing =
         with_items_is t.standing standing (es ∙ ap length ey ∙ sym t.standing.ok.0) in
-        let opening : Opened kind.zero n t.costs.items t.standing.items (Ok sheet)
+        let opening : OpensSheet kind.zero n t.costs.items t.standing.items (Ok sheet)
         (with_items t.costs costs).items (with_items t.standing standing).items =
         rw (wc, ws, ← ex, ← ey) accepted in
         record {

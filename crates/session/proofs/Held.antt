@@ -9,10 +9,10 @@ use Rattle.std.specs.List.{AllByRecursion}
 use Rattle.cost.specs.declared.Cost.{Ghosts}
 use Rattle.pairing.specs.Grid.{Grid}
 use Rattle.pairing.specs.Optima.{optima}
-use Rattle.matching.specs.Answers.{IsNth, MarksOf}
+use Rattle.matching.specs.Answers.{IsNth, AreMarksOf}
 use Rattle.pairing.specs.Places.{place_of}
 use Rattle.tables.specs.PairTables.{cell, byte_of, says_stands}
-use Rattle.tables.specs.Together.{ArePairTables, Together}
+use Rattle.tables.specs.Together.{ArePairTables, HoldTogether}
 use Rattle.sheet.specs.Size.{size_of}
 use Rattle.session.specs.declared.call.Act.{Act}
 use Rattle.session.specs.declared.call.Lengths.{Lengths}
@@ -42,7 +42,7 @@ module _ {K : Type 0} (kind : Ghosts K) (n : ℕ) where
   -- what was told since a settle is right
   pub record HasWalksInTurn (s : Settling K) : Type 0 where
     pub walks : AllByRecursion (InTurn (optima s.grid)) (s.walk ∷ s.earlier)
-    pub marks : AllByRecursion (MarksOf n (optima s.grid)) s.marks
+    pub marks : AllByRecursion (AreMarksOf n (optima s.grid)) s.marks
 
   -- the tables are as the settle left them
   pub record IsReady (g : Grid) (s : Settling K) (t : TableLists K) : Type 0 where
@@ -50,7 +50,7 @@ module _ {K : Type 0} (kind : Ghosts K) (n : ℕ) where
     pub left_is : t.left ≡ s.settlement.left
     pub right_is : t.right ≡ s.settlement.right
     pub first : IsNth (optima g) 0 t.partners
-    pub together : Together kind (lent_of n t)
+    pub together : HoldTogether kind (lent_of n t)
 
   -- what the tables hold beyond the pairs
   abbrev pub Beyond : Phase → Grid → Settling K → TableLists K → Type 0
@@ -109,7 +109,7 @@ module _ {K : Type 0} (kind : Ghosts K) (n : ℕ) (t t' : TableLists K) where
       left_is = ap (λ l. l.left) e ∙ ready.left_is;
       right_is = ap (λ l. l.right) e ∙ ready.right_is;
       first = subst (IsNth (optima g) 0) (sym (ap (λ l. l.partners) e)) ready.first;
-      together = subst (Together kind) (sym e) ready.together;
+      together = subst (HoldTogether kind) (sym e) ready.together;
     }
 
     -- what a state rests on stays

@@ -7,9 +7,9 @@ use Rattle.std.proofs.Common.{Option, Result, Ok, Err, sym, refl, ap, ◌∙◌,
 use Rattle.std.specs.Prelude.{MatchOption}
 use Rattle.std.specs.List.{AllByRecursion}
 use Rattle.cost.specs.declared.Cost.{Ghosts}
-use Rattle.pairing.specs.Largest.{Unpaired}
+use Rattle.pairing.specs.Largest.{HasNoPerfect}
 use Rattle.pairing.specs.Optima.{optima}
-use Rattle.matching.specs.Answers.{MarksOf}
+use Rattle.matching.specs.Answers.{AreMarksOf}
 use Rattle.matching.specs.declared.augmenting.Shortfall.{Shortfall}
 use Rattle.sheet.specs.declared.fault.Cause.{Cause}
 use Rattle.sheet.specs.declared.fault.Cause.TheVariants.{NoPerfectPairing, Inconsistent}
@@ -46,9 +46,9 @@ module _ {K : Type 0} (kind : Ghosts K) (n : ℕ) where
       let walks = s.walk ∷ s.earlier in
       record {
         walks = each_so (InTurn ps) (HandsOut ps) (hands_out ps) walks h.walks;
-        agree = each_so (MarksOf n ps) (λ table. AllByRecursion (AgreesWith n table) walks)
+        agree = each_so (AreMarksOf n ps) (λ table. AllByRecursion (AgreesWith n table) walks)
             (λ table marks. each_so (InTurn ps) (AgreesWith n table) (λ walk turn ended.
-            subst (λ qs. MarksOf n qs table) (sym (ended_whole ps walk turn ended)) marks) walks
+            subst (λ qs. AreMarksOf n qs table) (sym (ended_whole ps walk turn ended)) marks) walks
             h.walks) s.marks h.marks;
       }
 
@@ -122,7 +122,7 @@ module _ {K : Type 0} (kind : Ghosts K) (n : ℕ) where
     pub refused_next : (f : Fault) (w : Option Shortfall) → o ≡ turned_down f w
         → allows b.phase act ≡ true → refusal_by (needs kind n b.cells h act) ≡ Some f
         → MatchOption w (f ≢ fault NoPerfectPairing 0)
-        (λ s. (f ≡ fault NoPerfectPairing 0) × Unpaired n (stands_in b.cells) s.crowd s.short)
+        (λ s. (f ≡ fault NoPerfectPairing 0) × HasNoPerfect n (stands_in b.cells) s.crowd s.short)
         → Keeps kind n b s state t → GoesOn kind n b s act h o state t
     refused_next f w e ea er explained keeps =
         by_verdict (refused f) (turned_down f w) e refl (verdict_from true (Some f) ea er) (record {

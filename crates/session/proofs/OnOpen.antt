@@ -8,7 +8,7 @@ use Rattle.std.specs.Prelude.{⊤}
 use Rattle.std.specs.Bool.{Decides}
 use Rattle.cost.specs.declared.Cost.{Ghosts}
 use Rattle.cost.specs.declared.TheConstants.{COST_LIMIT}
-use Rattle.cost.specs.Columns.{Within}
+use Rattle.cost.specs.Columns.{AreWithin}
 use Rattle.cost.proofs.Exact.{within_tells}
 use Rattle.pairing.specs.Places.{place_of}
 use Rattle.tables.specs.PairTables.{HavePlaces, byte_of, says_stands, says_disturbed, costs_entered}
@@ -41,7 +41,7 @@ module _ {K : Type 0} {kind : Ghosts K} {swaps : Bool} {b : Book K} {s : Settlin
   writes : (new : Option K) → HavePlaces (n m) (length m.x.costs) (length m.x.standing)
       → AreBlocks (n m) l r
       → (says_stands (byte_in new) ≡ true
-      → Within COST_LIMIT (kind.meaning (cost_in kind.zero new)))
+      → AreWithin COST_LIMIT (kind.meaning (cost_in kind.zero new)))
       → PairTablesAre (set m.x.costs (place_of (n m) l r) (cost_in kind.zero new))
       (set m.x.standing (place_of (n m) l r) (byte_in new)) m.x'.costs m.x'.standing
       → Keeps kind (n m) (record b { cells = with_cell b.cells l r new }) s (here m) m.own'

@@ -8,10 +8,10 @@ use Rattle.std.specs.Prelude.{MatchOption, ⊤}
 use Rattle.cost.specs.declared.Cost.{Ghosts}
 use Rattle.cost.specs.Columns.{plus, minus}
 use Rattle.pairing.specs.Grid.{Grid, total}
-use Rattle.pairing.specs.Largest.{Unpaired}
+use Rattle.pairing.specs.Largest.{HasNoPerfect}
 use Rattle.pairing.specs.Optima.{optima}
 use Rattle.pairing.specs.Places.{places_of}
-use Rattle.matching.specs.Answers.{IsNth, MarksOf}
+use Rattle.matching.specs.Answers.{IsNth, AreMarksOf}
 use Rattle.matching.specs.declared.augmenting.Shortfall.{Shortfall}
 use Rattle.tables.specs.Lent.{grid, HasLengths}
 use Rattle.tables.specs.PairTables.{byte_of, says_stands, cell}
@@ -135,7 +135,7 @@ module _ {K : Type 0} {kind : Ghosts K} {swaps : Bool} {b : Book K} {s : Settlin
   marks o state h =
       let same = marks_alone m.x m.x' h.3 in
       let marked = λ (long : HasLengths (lent_to m)) (is : AreMarks kind (lent_to m) m.x'.marks).
-      subst (λ ps. MarksOf (n m) ps m.x'.marks) (optima_are long) is.marks in
+      subst (λ ps. AreMarksOf (n m) ps m.x'.marks) (optima_are long) is.marks in
       goes_on_by kind (n m) b s Marks (lengths m.x) o (here m) m.own'
       (marks_needs kind (lent_to m) (length m.x.marks)) (λ u. m.x'.marks) h.0 state h.1
       (λ u. AreMarks kind (lent_to m) m.x'.marks) (m.x'.marks ≡ m.x.marks) h.2 h.4
@@ -155,7 +155,7 @@ module _ {K : Type 0} {kind : Ghosts K} {swaps : Bool} {b : Book K} {s : Settlin
           walks = record {
             walks = m.keeps.walks.walks;
             marks = (
-              subst (λ (g : Grid). MarksOf (n m) (optima g) m.x'.marks) (sym ready.grid_is)
+              subst (λ (g : Grid). AreMarksOf (n m) (optima g) m.x'.marks) (sym ready.grid_is)
                   (marked met.0.0 is),
               m.keeps.walks.marks,
             );
@@ -211,7 +211,7 @@ module _ {K : Type 0} {kind : Ghosts K} {swaps : Bool} {b : Book K} {s : Settlin
         → f ≢ fault NoPerfectPairing 0
         → MatchOption w (f ≢ fault NoPerfectPairing 0)
         (λ k. (f ≡ fault NoPerfectPairing 0)
-        × Unpaired (n m) (stands_in b.cells) k.crowd k.short)
+        × HasNoPerfect (n m) (stands_in b.cells) k.crowd k.short)
     unexplained f w e h = rw e h
 
     starts_by : (a : Result Sheet (Refusal Sheet)) (o : Reply (List ℕ))

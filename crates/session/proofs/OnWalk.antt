@@ -6,7 +6,7 @@ use Rattle.std.proofs.Common.{Option, sym, refl, ap, ◌∙◌, subst, inl, ⊎_
 use Rattle.std.proofs.lemmas.Bool.{cases_order}
 use Rattle.std.proofs.lemmas.List.{length-append}
 use Rattle.cost.specs.declared.Cost.{Ghosts}
-use Rattle.pairing.specs.Grid.{Grid, Optimum}
+use Rattle.pairing.specs.Grid.{Grid, IsOptimum}
 use Rattle.pairing.specs.Optima.{optima}
 use Rattle.pairing.proofs.Listing.{optima_are}
 use Rattle.matching.specs.Answers.{IsNth}
@@ -72,7 +72,7 @@ module _ {K : Type 0} {kind : Ghosts K} {swaps : Bool} {b : Book K} {s : Settlin
       own_list = is_own m the_walk refl long.1
 
       -- the list is an optimum pairing of the tables' grid
-      list_optimum : Optimum (grid kind (lent_to m)) m.x.walk
+      list_optimum : IsOptimum (grid kind (lent_to m)) m.x.walk
       list_optimum = nth_optimum (grid kind (lent_to m)) at.place m.x.walk
           (subst (λ list. IsNth (optima (grid kind (lent_to m))) at.place list) (sym own_list)
           (subst (λ ps. IsNth ps at.place m.own.walk) (sym (own_optima long.0)) at.is))

@@ -9,7 +9,7 @@ use Rattle.matching.specs.Answers.{IsNth}
 use Rattle.pairing.specs.Optima.{optima}
 use Rattle.tables.specs.Lent.{Lent, grid, HasLengths}
 use Rattle.tables.specs.PairTables.{HavePlaces}
-use Rattle.tables.specs.Together.{Together}
+use Rattle.tables.specs.Together.{HoldTogether}
 use Rattle.sheet.specs.Size.{Sheet, size_of}
 use Rattle.session.specs.declared.call.Act.{Act}
 use Rattle.session.specs.Book.{Book, Phase, settled, walking, allows, grid_in}
@@ -113,7 +113,7 @@ module _ {K : Type 0} {kind : Ghosts K} {swaps : Bool} {p : Phase} {b : Book K} 
         left_is = ap (λ l. l.left) e ∙ ready.left_is ∙ ap (λ w. w.left) (sym ew);
         right_is = ap (λ l. l.right) e ∙ ready.right_is ∙ ap (λ w. w.right) (sym ew);
         first = subst (IsNth (optima (book m)) 0) (sym (ap (λ l. l.partners) e)) ready.first;
-        together = subst (Together kind) (sym e) ready.together;
+        together = subst (HoldTogether kind) (sym e) ready.together;
       }
 
 module _ {K : Type 0} {kind : Ghosts K} {swaps : Bool} {p : Phase} {b : Book K} {s : Settling K}
@@ -130,8 +130,8 @@ module _ {K : Type 0} {kind : Ghosts K} {swaps : Bool} {p : Phase} {b : Book K} 
         (is_own m the_left (rests the_left refl) h.room.left_long)
         (is_own m the_right (rests the_right refl) h.room.right_long)
 
-    pub together : Together kind (lent_to m)
-    together = subst (Together kind) (sym own_lent) ready.together
+    pub together : HoldTogether kind (lent_to m)
+    together = subst (HoldTogether kind) (sym own_lent) ready.together
 
     pub optima_are : optima (grid kind (lent_to m)) ≡ optima (book m)
     optima_are = ap (λ t. optima (grid kind t)) own_lent

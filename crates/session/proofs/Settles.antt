@@ -6,15 +6,15 @@ use Rattle.std.proofs.Common.{Err, Option, Result, sym, refl, ap, ◌∙◌, sub
 use Rattle.std.specs.Prelude.{MatchOption}
 use Rattle.std.specs.Bool.{Decides}
 use Rattle.cost.specs.declared.Cost.{Ghosts}
-use Rattle.pairing.specs.Grid.{Grid, PerfectIn}
-use Rattle.pairing.specs.Largest.{Unpaired}
+use Rattle.pairing.specs.Grid.{Grid, IsPerfectIn}
+use Rattle.pairing.specs.Largest.{HasNoPerfect}
 use Rattle.pairing.specs.Optima.{perfects, optima}
-use Rattle.pairing.specs.Theorems.{AlikeInside}
+use Rattle.pairing.specs.Theorems.{AreAlikeInside}
 use Rattle.pairing.proofs.Listing.{perfects_are}
 use Rattle.matching.specs.Answers.{IsNth}
 use Rattle.matching.specs.declared.augmenting.Shortfall.{Shortfall}
 use Rattle.tables.specs.Lent.{grid, HasLengths}
-use Rattle.tables.specs.Together.{Together}
+use Rattle.tables.specs.Together.{HoldTogether}
 use Rattle.sheet.specs.declared.fault.Cause.TheVariants.{TableLength, NoPerfectPairing}
 use Rattle.sheet.specs.declared.fault.Cause.{Cause}
 use Rattle.sheet.specs.declared.fault.Fault.{Fault}
@@ -40,7 +40,7 @@ use Rattle.session.proofs.Resting.{OneCall, n, here, book, lent_to, allowed, own
 
 -- some pairing is perfect exactly if the list of them has one
 pub perfect_decided : (g : Grid)
-    → Decides (has_perfect g.size g.stands) ((p : List ℕ) × PerfectIn g p)
+    → Decides (has_perfect g.size g.stands) ((p : List ℕ) × IsPerfectIn g p)
 perfect_decided g = (perfects_are g.size g.stands).some
 
 module _ {K : Type 0} {kind : Ghosts K} {swaps : Bool} {b : Book K} {s : Settling K}
@@ -50,14 +50,14 @@ module _ {K : Type 0} {kind : Ghosts K} {swaps : Bool} {b : Book K} {s : Settlin
   shown h = own_shows m
       (record { costs = h.room.costs_long; standing = h.room.standing_long })
 
-  same : HasLengths (lent_to m) → AlikeInside (grid kind (lent_to m)) (book m)
+  same : HasLengths (lent_to m) → AreAlikeInside (grid kind (lent_to m)) (book m)
   same h = alike kind (n m) b m.x.costs m.x.standing (shown h)
 
   -- the book tests for a perfect pairing of the tables' grid
   paired : HasLengths (lent_to m) → Decides (has_perfect (n m) (stands_in b.cells))
-      ((p : List ℕ) × PerfectIn (grid kind (lent_to m)) p)
+      ((p : List ℕ) × IsPerfectIn (grid kind (lent_to m)) p)
   paired h = subst (λ ps. Decides (ltb 0 (length ps))
-      ((p : List ℕ) × PerfectIn (grid kind (lent_to m)) p)) (same h).perfects
+      ((p : List ℕ) × IsPerfectIn (grid kind (lent_to m)) p)) (same h).perfects
       (perfect_decided (grid kind (lent_to m)))
 
   abbrev checks : List (Bool × Cause)
@@ -91,7 +91,7 @@ module _ {K : Type 0} {kind : Ghosts K} {swaps : Bool} {b : Book K} {s : Settlin
         new_shown : Shows kind (n m) b.cells m.x'.costs m.x'.standing
         new_shown = shows_same kind (n m) m.x m.x' b.cells costs_stay standing_stays (shown long)
 
-        new_same : AlikeInside (grid kind (lent_of (n m) m.x')) (book m)
+        new_same : AreAlikeInside (grid kind (lent_of (n m) m.x')) (book m)
         new_same = alike kind (n m) b m.x'.costs m.x'.standing new_shown
 
         first : IsNth (optima (book m)) 0 m.x'.partners
@@ -122,7 +122,7 @@ module _ {K : Type 0} {kind : Ghosts K} {swaps : Bool} {b : Book K} {s : Settlin
             left_is = ap (λ l. l.left) own_new;
             right_is = ap (λ l. l.right) own_new;
             first = subst (IsNth (optima (book m)) 0) (sym (ap (λ l. l.partners) own_new)) first;
-            together = subst (Together kind) (sym own_new) is.together;
+            together = subst (HoldTogether kind) (sym own_new) is.together;
           };
         }
 
@@ -139,7 +139,7 @@ module _ {K : Type 0} {kind : Ghosts K} {swaps : Bool} {b : Book K} {s : Settlin
         explains : (w : Option Shortfall) → Explains kind (lent_to m) r.fault w
             → MatchOption w (r.fault ≢ fault NoPerfectPairing 0)
             (λ k. (r.fault ≡ fault NoPerfectPairing 0)
-            × Unpaired (n m) (stands_in b.cells) k.crowd k.short)
+            × HasNoPerfect (n m) (stands_in b.cells) k.crowd k.short)
         explains None e = e
         explains (Some k) e =
             (e.0, ((same (long_if_unpaired e.0)).unpaired k.crowd k.short).0 e.1)

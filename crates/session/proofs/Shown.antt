@@ -5,22 +5,22 @@ use Rattle.std.proofs.Common.{◌≡◌, ◌≢◌, ℕ, zero, suc, ◌<◌, tru
 use Rattle.std.proofs.Common.{ℤ, pos, negsuc, Option, Some, None, cond, refl, sym, ◌∙◌, inl, ap}
 use Rattle.std.proofs.Common.{Contains, arith}
 use Rattle.std.proofs.lemmas.Bool.{false≢true}
-use Rattle.cost.specs.Columns.{Within}
+use Rattle.cost.specs.Columns.{AreWithin}
 use Rattle.cost.specs.declared.Cost.{Ghosts}
 use Rattle.cost.specs.declared.free_kind.Free.{Free}
 use Rattle.blockset.specs.Sets.{members, bit}
 use Rattle.pairing.specs.Examples.{crowded_grid, bare_grid}
-use Rattle.pairing.specs.Grid.{Grid, PerfectIn, at, Upto}
-use Rattle.pairing.specs.Inside.{Alike}
-use Rattle.pairing.specs.Largest.{Unpaired}
+use Rattle.pairing.specs.Grid.{Grid, IsPerfectIn, at, IsUpto}
+use Rattle.pairing.specs.Inside.{AreAlike}
+use Rattle.pairing.specs.Largest.{HasNoPerfect}
 use Rattle.pairing.specs.Optima.{optima, has_pair}
 use Rattle.pairing.specs.Places.{place_of}
 use Rattle.pairing.proofs.Alike.{unpaired_like}
 use Rattle.pairing.proofs.Listing.{optima_are}
 use Rattle.pairing.proofs.Shown.{crowded as crowded_is, bare as bare_is}
 use Rattle.pairing.proofs.Tests.{sane_is, greatest_is}
-use Rattle.matching.specs.Answers.{MarksOf}
-use Rattle.tables.specs.Said.{columns_at, Bounded}
+use Rattle.matching.specs.Answers.{AreMarksOf}
+use Rattle.tables.specs.Said.{columns_at, AreValuesWithin}
 use Rattle.sheet.specs.declared.fault.Cause.{Cause}
 use Rattle.sheet.specs.declared.fault.Cause.TheVariants.{NoPerfectPairing, Inconsistent}
 use Rattle.sheet.specs.declared.fault.Cause.TheVariants.{TableLength, Block, Absent}
@@ -37,7 +37,7 @@ use Rattle.session.specs.Promise.{AllRight, Settling, fresh, settling_by, settli
 use Rattle.session.proofs.Theorem.{settling_after}
 
 -- what is in the list is perfect
-perfect : (g : Grid) (p : List ℕ) → Contains (optima g) p → PerfectIn g p
+perfect : (g : Grid) (p : List ℕ) → Contains (optima g) p → IsPerfectIn g p
 perfect g p i = (((optima_are g).list.are p).0 i).perfect
 
 -- what holds of the numbers below three
@@ -79,16 +79,17 @@ too_short = refusal full TableLength (λ e. cc) (λ e. cc)
 
 -- ---- What the two settles wrote
 
-near : (table : List ℤ) → Within 1000000000000 (columns_at whole_numbers table 0)
-    → Within 1000000000000 (columns_at whole_numbers table 1)
-    → Within 1000000000000 (columns_at whole_numbers table 2)
-    → Bounded whole_numbers 1000000000000 3 table
-near table a b c = below_three (λ k. Within 1000000000000 (columns_at whole_numbers table k)) a b c
+near : (table : List ℤ) → AreWithin 1000000000000 (columns_at whole_numbers table 0)
+    → AreWithin 1000000000000 (columns_at whole_numbers table 1)
+    → AreWithin 1000000000000 (columns_at whole_numbers table 2)
+    → AreValuesWithin whole_numbers 1000000000000 3 table
+near table a b c = below_three (λ k. AreWithin 1000000000000 (columns_at whole_numbers table k)) a
+    b c
 
-left_near : Bounded whole_numbers 1000000000000 3 (with_prices first).left
+left_near : AreValuesWithin whole_numbers 1000000000000 3 (with_prices first).left
 left_near = near (with_prices first).left (omega arith, tt) (omega arith, tt) (omega arith, tt)
 
-right_near : Bounded whole_numbers 1000000000000 3 (with_prices first).right
+right_near : AreValuesWithin whole_numbers 1000000000000 3 (with_prices first).right
 right_near = near (with_prices first).right (omega arith, tt) (omega arith, tt) (omega arith, tt)
 
 abbrev grid : Grid
@@ -124,7 +125,7 @@ settled_second = record {
 
 -- ---- Marks and walks
 
-marked : MarksOf 3 (first ∷ second ∷ []) marks
+marked : AreMarksOf 3 (first ∷ second ∷ []) marks
 marked l r i j = below_three
     (λ l. at marks (place_of 3 l r) ≡ cond (has_pair l r (first ∷ second ∷ [])) 1 0)
     (below_three (λ r. at marks (place_of 3 0 r) ≡ cond (has_pair 0 r (first ∷ second ∷ [])) 1 0)
@@ -250,7 +251,7 @@ keeps =
 -- ---- Sheets without a perfect pairing
 
 -- what is told of a settle that is refused for want of a perfect pairing
-explained : (n : ℕ) (b : Book ℤ) (crowd short : ℕ) → Unpaired n (stands_in b.cells) crowd short
+explained : (n : ℕ) (b : Book ℤ) (crowd short : ℕ) → HasNoPerfect n (stands_in b.cells) crowd short
     → IsRefusal whole_numbers n b (fault NoPerfectPairing 0)
     (Some (record { crowd = crowd; short = short }))
 explained n b crowd short is = record { explained = (refl, is); never_seven = λ e. cc }
@@ -265,7 +266,7 @@ crowded_book = record blank {
   cells = with_cell (with_cell (λ l r. None) 0 0 (Some (pos 0))) 1 0 (Some (pos 0));
 }
 
-crowded_alike : Alike 2 (crowded_grid costless).stands (stands_in crowded_book.cells)
+crowded_alike : AreAlike 2 (crowded_grid costless).stands (stands_in crowded_book.cells)
 crowded_alike l r i j = below_two
     (λ l. (crowded_grid costless).stands l r ≡ stands_in crowded_book.cells l r)
     (below_two (λ r. (crowded_grid costless).stands 0 r ≡ stands_in crowded_book.cells 0 r)
@@ -273,7 +274,7 @@ crowded_alike l r i j = below_two
     (below_two (λ r. (crowded_grid costless).stands 1 r ≡ stands_in crowded_book.cells 1 r)
     refl refl r j) l i
 
-pub crowded_unpaired : Unpaired 2 (stands_in crowded_book.cells) 3 1
+pub crowded_unpaired : HasNoPerfect 2 (stands_in crowded_book.cells) 3 1
 crowded_unpaired =
     unpaired_like 2 (crowded_grid costless).stands (stands_in crowded_book.cells) crowded_alike 3 1
     (crowded_is costless)
@@ -284,7 +285,7 @@ crowded_keeps =
     (also (is_right refl tt no_walks)
     (also (is_right refl (explained 2 crowded_book 3 1 crowded_unpaired) no_walks) tt))
 
-bare_alike : Alike 1 (bare_grid costless).stands (stands_in {K = ℤ} (λ l r. None))
+bare_alike : AreAlike 1 (bare_grid costless).stands (stands_in {K = ℤ} (λ l r. None))
 bare_alike zero zero i j = refl
 bare_alike (suc l) r i j = absurd (omega (arith, i))
 bare_alike zero (suc r) i j = absurd (omega (arith, j))
@@ -295,13 +296,13 @@ bare_keeps =
     (stands_in {K = ℤ} (λ l r. None)) bare_alike 1 1 (bare_is costless))) no_walks) tt
 
 -- a crowd set without left block 1 is made up, and so is a shortage of 2
-pub not_one : Unpaired 2 (stands_in crowded_book.cells) 1 1 → ⊥
+pub not_one : HasNoPerfect 2 (stands_in crowded_book.cells) 1 1 → ⊥
 unfolding bit
 not_one is =
     let e : bit 1 1 ≡ true = (is.crowd_set 1).1 ((crowded_unpaired.crowd_set 1).0 refl) in
     false≢true e
 
-pub not_two : Unpaired 2 (stands_in crowded_book.cells) 3 2 → ⊥
+pub not_two : HasNoPerfect 2 (stands_in crowded_book.cells) 3 2 → ⊥
 unfolding bit members
 not_two is = omega (arith, sym crowded_unpaired.shortage_is ∙ is.shortage_is)
 
@@ -309,6 +310,6 @@ not_two is = omega (arith, sym crowded_unpaired.shortage_is ∙ is.shortage_is)
 
 pub not_greatest : IsSettlement whole_numbers 3 grid lower_prices → ⊥
 not_greatest is =
-    let over : Upto (pos 0 ∷ []) (negsuc 0 ∷ []) = is.greatest.most _ _
+    let over : IsUpto (pos 0 ∷ []) (negsuc 0 ∷ []) = is.greatest.most _ _
     settled_first.greatest.valid settled_first.greatest.low 0 (omega arith) in
     over refl

@@ -6,7 +6,7 @@ use Rattle.std.proofs.Common.{◌≡◌, ℕ, Bool, false, not, List, [], ◌∷
 use Rattle.std.proofs.Common.{subst, inl, inr}
 use Rattle.std.proofs.lemmas.Bool.{or_left}
 use Rattle.cost.specs.declared.Cost.{Ghosts}
-use Rattle.sheet.specs.Opening.{Opened}
+use Rattle.sheet.specs.Opening.{OpensSheet}
 use Rattle.sheet.specs.Size.{Sheet, size_of}
 use Rattle.session.specs.declared.call.Act.{Act}
 use Rattle.session.specs.declared.call.Act.TheVariants.{Enter, Strike, Read, Settle, Quote, Total}
@@ -135,7 +135,7 @@ module _ {K : Type 0} (kind : Ghosts K) (n : ℕ) where
   }
 
   begun : (sheet : Sheet) (costs : List K) (standing : List ℕ) (own : TableLists K)
-      → Opened kind.zero n costs standing (Ok sheet) own.costs own.standing
+      → OpensSheet kind.zero n costs standing (Ok sheet) own.costs own.standing
       → RightSoFar [] (state_at opened sheet) own
   begun sheet costs standing own is = record {
     right = tt;

@@ -12,7 +12,7 @@ use Rattle.tables.specs.PairTables.{byte_of}
 use Rattle.sheet.specs.declared.fault.Fault.{Fault}
 use Rattle.sheet.specs.declared.fault.Refusal.{Refusal}
 use Rattle.sheet.specs.Needs.{Responds}
-use Rattle.sheet.specs.Opening.{Opened}
+use Rattle.sheet.specs.Opening.{OpensSheet}
 use Rattle.sheet.specs.Pairs.{Enters, Strikes, Reads}
 use Rattle.sheet.specs.Settling.{Settles}
 use Rattle.sheet.specs.Size.{Sheet, size_of}
@@ -199,7 +199,7 @@ module _ {K : Type 0} (kind : Ghosts K) where
   pub data Program (swaps : Bool) (n : ℕ) (lent : TableLists K)
       : List (Exchange K) → SheetAt → TableLists K → Type 0 where
     opens : (sheet : Sheet) (own : TableLists K)
-        → Opened kind.zero n lent.costs lent.standing (Ok sheet) own.costs own.standing
+        → OpensSheet kind.zero n lent.costs lent.standing (Ok sheet) own.costs own.standing
         → own ≡ record lent { costs = own.costs; standing = own.standing }
         → Program swaps n lent [] (state_at opened sheet) own
     calls : {es : List (Exchange K)} {s s' : SheetAt} {own own' : TableLists K} {e : Exchange K}

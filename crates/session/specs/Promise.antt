@@ -7,13 +7,13 @@ use Rattle.cost.specs.declared.Cost.{Ghosts}
 use Rattle.cost.specs.declared.TheConstants.{PRICE_LIMIT}
 use Rattle.cost.specs.Columns.{plus, minus}
 use Rattle.pairing.specs.Grid.{Grid, total}
-use Rattle.pairing.specs.Largest.{Unpaired}
+use Rattle.pairing.specs.Largest.{HasNoPerfect}
 use Rattle.pairing.specs.Optima.{optima}
 use Rattle.pairing.specs.Places.{places_of, rights_of}
-use Rattle.pairing.specs.Prices.{Greatest}
-use Rattle.matching.specs.Answers.{IsNth, MarksOf}
+use Rattle.pairing.specs.Prices.{AreGreatest}
+use Rattle.matching.specs.Answers.{IsNth, AreMarksOf}
 use Rattle.matching.specs.declared.augmenting.Shortfall.{Shortfall}
-use Rattle.tables.specs.Said.{columns_at, Bounded}
+use Rattle.tables.specs.Said.{columns_at, AreValuesWithin}
 use Rattle.sheet.specs.declared.fault.Cause.TheVariants.{NoPerfectPairing, Inconsistent}
 use Rattle.sheet.specs.declared.fault.Fault.{Fault}
 use Rattle.sheet.specs.Refusals.{fault}
@@ -47,7 +47,7 @@ pairings_of (Some p ∷ walk) = p ∷ pairings_of walk
 -- a walk that was carried to its end has handed out a pairing with a pair exactly if the marks say
 -- yes to it
 abbrev pub AgreesWith : ℕ → List ℕ → List (Option (List ℕ)) → Type 0
-AgreesWith n table walk = has_ended walk ≡ true → MarksOf n (pairings_of walk) table
+AgreesWith n table walk = has_ended walk ≡ true → AreMarksOf n (pairings_of walk) table
 
 -- ---- Settlings
 
@@ -94,11 +94,11 @@ module _ {K : Type 0} (kind : Ghosts K) (n : ℕ) where
   pub record IsSettlement (g : Grid) (w : Settlement K) : Type 0 where
     pub first : IsNth (optima g) 0 w.partners
     pub partners_long : length w.partners ≡ n
-    pub greatest : Greatest g (columns_at kind w.left) (columns_at kind w.right) w.partners
+    pub greatest : AreGreatest g (columns_at kind w.left) (columns_at kind w.right) w.partners
     pub left_long : length w.left ≡ n
     pub right_long : length w.right ≡ rights_of n
-    pub left_near : Bounded kind PRICE_LIMIT n w.left
-    pub right_near : Bounded kind PRICE_LIMIT (rights_of n) w.right
+    pub left_near : AreValuesWithin kind PRICE_LIMIT n w.left
+    pub right_near : AreValuesWithin kind PRICE_LIMIT (rights_of n) w.right
 
   -- the pair's cost, and what it exceeds the two prices by that the settle wrote
   pub record IsQuoted (cell : Option K) (w : Settlement K) (l r : ℕ) (quote : K × K) : Type 0 where
@@ -109,7 +109,7 @@ module _ {K : Type 0} (kind : Ghosts K) (n : ℕ) where
   -- 1 for each pair that some optimum pairing has, and 0 for every other
   pub record IsMarked (g : Grid) (table : List ℕ) : Type 0 where
     pub long : length table ≡ places_of n
-    pub marks : MarksOf n (optima g) table
+    pub marks : AreMarksOf n (optima g) table
 
   -- what an accepted call gives is true of the book's pairs and costs. What start and next tell is
   -- said of the walk as a whole
@@ -132,7 +132,7 @@ module _ {K : Type 0} (kind : Ghosts K) (n : ℕ) where
   -- together
   pub record IsRefusal (b : Book K) (f : Fault) (shortfall : Option Shortfall) : Type 0 where
     pub explained : MatchOption shortfall (f ≢ fault NoPerfectPairing 0)
-        (λ s. (f ≡ fault NoPerfectPairing 0) × Unpaired n (stands_in b.cells) s.crowd s.short)
+        (λ s. (f ≡ fault NoPerfectPairing 0) × HasNoPerfect n (stands_in b.cells) s.crowd s.short)
     pub never_seven : f.cause ≢ Inconsistent
 
   abbrev pub IsReply : Book K → Settling K → (act : Act K) → Reply (ValueOf K act) → Type 0

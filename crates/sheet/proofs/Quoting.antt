@@ -5,13 +5,13 @@ use Rattle.std.proofs.Common.{sym, ap, ◌∙◌, subst, arith}
 use Rattle.std.proofs.lemmas.List.{get_or-map, get_or_default}
 use Rattle.cost.specs.declared.Cost.{Ghosts}
 use Rattle.cost.specs.declared.TheConstants.{COST_LIMIT, PRICE_LIMIT}
-use Rattle.cost.specs.Columns.{Within, sums, differences, plus, minus}
+use Rattle.cost.specs.Columns.{AreWithin, sums, differences, plus, minus}
 use Rattle.cost.proofs.Exact.{exact, plus-within}
 use Rattle.pairing.specs.Places.{place_of, places_of}
 use Rattle.tables.specs.PairTables.{byte_of, says_stands}
 use Rattle.tables.specs.Said.{columns_at}
 use Rattle.tables.specs.Lent.{Lent, left_price, right_price}
-use Rattle.tables.specs.Together.{Together}
+use Rattle.tables.specs.Together.{HoldTogether}
 use Rattle.tables.proofs.Cells.{place_below}
 use Rattle.sheet.specs.Pairs.{AreBlocks}
 use Rattle.sheet.specs.Walking.{IsQuote}
@@ -21,7 +21,7 @@ pub read_columns : {K : Type 0} (kind : Ghosts K) (xs : List K) (k : ℕ) (x : K
     → k < length xs → x ≡ get_or xs k x → columns_at kind xs k ≡ kind.meaning x
 read_columns kind xs k x h e = get_or-map kind.meaning xs k x [] h ∙ sym (ap kind.meaning e)
 
-module _ {K : Type 0} (kind : Ghosts K) (t : Lent K) (together : Together kind t) (l r : ℕ)
+module _ {K : Type 0} (kind : Ghosts K) (t : Lent K) (together : HoldTogether kind t) (l r : ℕ)
     (are : AreBlocks t.size l r)
     (stands : says_stands (byte_of t.size t.standing l r) ≡ true) where
   at_place : ℕ
@@ -48,15 +48,15 @@ module _ {K : Type 0} (kind : Ghosts K) (t : Lent K) (together : Together kind t
       (omega (arith, together.right_prices.long, are.right_below)) er in
       let cost_is : columns_at kind t.costs (place_of t.size l r) ≡ m cost =
       read_columns kind t.costs (place_of t.size l r) cost in_costs ec in
-      let wl : Within PRICE_LIMIT (m lp) = subst (Within PRICE_LIMIT) left_is
+      let wl : AreWithin PRICE_LIMIT (m lp) = subst (AreWithin PRICE_LIMIT) left_is
       (together.left_prices.near l are.left_below) in
-      let wr : Within PRICE_LIMIT (m rp) = subst (Within PRICE_LIMIT) right_is
+      let wr : AreWithin PRICE_LIMIT (m rp) = subst (AreWithin PRICE_LIMIT) right_is
       (together.right_prices.near r are.right_below) in
-      let wc : Within COST_LIMIT (m cost) = subst (Within COST_LIMIT) cost_is
+      let wc : AreWithin COST_LIMIT (m cost) = subst (AreWithin COST_LIMIT) cost_is
       (together.pair_tables.in_order.small (place_of t.size l r) inside stands) in
       let sum_is : sums (m lp) (m rp) ≡ plus (m lp) (m rp) =
       (exact PRICE_LIMIT PRICE_LIMIT (m lp) (m rp) (omega arith) wl wr).0 in
-      let ws : Within 2000000000000 (plus (m lp) (m rp)) =
+      let ws : AreWithin 2000000000000 (plus (m lp) (m rp)) =
       plus-within PRICE_LIMIT PRICE_LIMIT (m lp) (m rp) wl wr in
       let gone : differences (m cost) (plus (m lp) (m rp)) ≡ minus (m cost) (plus (m lp) (m rp)) =
       (exact COST_LIMIT 2000000000000 (m cost) (plus (m lp) (m rp)) (omega arith) wc ws).1 in

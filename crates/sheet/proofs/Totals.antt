@@ -4,22 +4,22 @@ use Rattle.std.proofs.Common.{◌≡◌, ℕ, ◌+◌, ◌*◌, ◌<◌, get_or,
 use Rattle.std.proofs.Common.{add-one, arith}
 use Rattle.cost.specs.declared.Cost.{Ghosts}
 use Rattle.cost.specs.declared.TheConstants.{COST_LIMIT}
-use Rattle.cost.specs.Columns.{Within, sums, plus}
+use Rattle.cost.specs.Columns.{AreWithin, sums, plus}
 use Rattle.cost.proofs.Exact.{exact, plus-within}
 use Rattle.pairing.specs.Grid.{at, total_of}
 use Rattle.pairing.specs.Places.{place_of, places_of}
 use Rattle.tables.specs.Said.{columns_at}
 use Rattle.tables.specs.Lent.{Lent, grid}
-use Rattle.tables.specs.Together.{Together}
+use Rattle.tables.specs.Together.{HoldTogether}
 use Rattle.tables.proofs.Cells.{place_below}
 use Rattle.sheet.proofs.Quoting.{read_columns}
 
 -- the total of the first k pairs
 pub record IsSumOf {K : Type 0} (kind : Ghosts K) (t : Lent K) (k : ℕ) (sum : K) : Type 0 where
   pub is : kind.meaning sum ≡ total_of (grid kind t) t.partners k
-  pub small : Within (k * COST_LIMIT) (kind.meaning sum)
+  pub small : AreWithin (k * COST_LIMIT) (kind.meaning sum)
 
-module _ {K : Type 0} (kind : Ghosts K) (t : Lent K) (together : Together kind t) where
+module _ {K : Type 0} (kind : Ghosts K) (t : Lent K) (together : HoldTogether kind t) where
   pub partner_below : (k : ℕ) → k < t.size
       → place_of t.size k (at t.partners k) < places_of t.size
   partner_below k h = place_below t.size k (at t.partners k) h (together.perfect.below k h)
@@ -34,11 +34,11 @@ module _ {K : Type 0} (kind : Ghosts K) (t : Lent K) (together : Together kind t
       let inside = partner_below k h in
       let cost_is : columns_at kind t.costs spot ≡ m x = read_columns kind t.costs spot x
       (omega (arith, inside, together.pair_tables.costs_long)) read in
-      let wc : Within COST_LIMIT (m x) = subst (Within COST_LIMIT) cost_is
+      let wc : AreWithin COST_LIMIT (m x) = subst (AreWithin COST_LIMIT) cost_is
       (together.pair_tables.in_order.small spot inside (together.perfect.standing k h)) in
       let sum_is : sums (m sum) (m x) ≡ plus (m sum) (m x) = (exact (k * COST_LIMIT) COST_LIMIT
       (m sum) (m x) (omega (arith, h, together.pair_tables.few)) s.small wc).0 in
-      let near : Within (k * COST_LIMIT + COST_LIMIT) (plus (m sum) (m x)) =
+      let near : AreWithin (k * COST_LIMIT + COST_LIMIT) (plus (m sum) (m x)) =
       plus-within (k * COST_LIMIT) COST_LIMIT (m sum) (m x) s.small wc in
       let all : m next ≡ plus (total_of (grid kind t) t.partners k) (columns_at kind t.costs spot) =
       add ∙ sum_is ∙ ap (λ p. plus p (m x)) s.is
@@ -46,6 +46,6 @@ module _ {K : Type 0} (kind : Ghosts K) (t : Lent K) (together : Together kind t
       let bound : k * COST_LIMIT + COST_LIMIT ≡ (k + 1) * COST_LIMIT = omega arith in
       record {
         is = rw add-one all;
-        small = subst (λ b. Within b (m next)) bound
-            (subst (Within (k * COST_LIMIT + COST_LIMIT)) (sym (add ∙ sum_is)) near);
+        small = subst (λ b. AreWithin b (m next)) bound
+            (subst (AreWithin (k * COST_LIMIT + COST_LIMIT)) (sym (add ∙ sum_is)) near);
       }

@@ -14,9 +14,9 @@ open_needs n costs bytes =
     need (IsSize n) Size (need (HavePlaces n costs bytes) TableLength nothing)
 
 -- a sheet of n blocks a plane is open, over tables in which every pair is absent and at cost zero
-abbrev pub Opened : {K : Type 0} (nought : K) (n : ℕ) (costs : List K) (standing : List ℕ)
+abbrev pub OpensSheet : {K : Type 0} (nought : K) (n : ℕ) (costs : List K) (standing : List ℕ)
     → Result Sheet Fault → (costs' : List K) (standing' : List ℕ) → Type 0
-Opened nought n costs standing answer costs' standing' =
+OpensSheet nought n costs standing answer costs' standing' =
     Responds (open_needs n (length costs) (length standing)) answer
     (λ sheet. (sheet ≡ sheet_of n)
     × PairTablesAre (costs_opened nought n) (standing_opened n) costs' standing')

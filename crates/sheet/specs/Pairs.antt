@@ -3,7 +3,7 @@ use Rattle.std.specs.Prelude.{◌≡◌, ℕ, ◌<◌, Bool, true, false, ◌&&�
 use Rattle.std.specs.Prelude.{nat_lt, slice_index_or}
 use Rattle.cost.specs.declared.Cost.{Ghosts}
 use Rattle.cost.specs.declared.TheConstants.{COST_LIMIT}
-use Rattle.cost.specs.Columns.{Within}
+use Rattle.cost.specs.Columns.{AreWithin}
 use Rattle.pairing.specs.Places.{place_of, rights_of}
 use Rattle.tables.specs.PairTables.{HavePlaces, says_stands, says_disturbed, byte_of}
 use Rattle.tables.specs.PairTables.{costs_entered, standing_entered, costs_struck, standing_struck}
@@ -37,7 +37,7 @@ module _ {K : Type 0} (kind : Ghosts K) (n : ℕ) (costs : List K) (standing : L
   -- and a cost within 10^9 in each column
   abbrev pub enter_needs : K → Needs
   enter_needs cost = place_needs n (length costs) (length standing) l r
-      (need (Within COST_LIMIT (kind.meaning cost)) CostRange nothing)
+      (need (AreWithin COST_LIMIT (kind.meaning cost)) CostRange nothing)
 
   -- the pair stands at this cost, and the rest of the tables stays
   abbrev pub Enters : (cost : K) → Result (Unit {0}) Fault → (costs' : List K)

@@ -1,10 +1,10 @@
 -- What `settle` answers, and what it leaves in the tables, at every input.
 use Rattle.std.specs.Prelude.{◌≡◌, ◌≢◌, ℕ, List, Option, Result, MatchOption, MatchResult}
 use Rattle.cost.specs.declared.Cost.{Ghosts}
-use Rattle.pairing.specs.Grid.{PerfectIn}
-use Rattle.pairing.specs.Largest.{Unpaired}
+use Rattle.pairing.specs.Grid.{IsPerfectIn}
+use Rattle.pairing.specs.Largest.{HasNoPerfect}
 use Rattle.tables.specs.Lent.{Lent, grid, HasLengths, IsOrderly}
-use Rattle.tables.specs.Together.{Together}
+use Rattle.tables.specs.Together.{HoldTogether}
 use Rattle.matching.specs.declared.augmenting.Shortfall.{Shortfall}
 use Rattle.assign.specs.Answer.{Settled}
 use Rattle.sheet.specs.declared.fault.Cause.TheVariants.{TableLength, Inconsistent}
@@ -20,12 +20,13 @@ module _ {K : Type 0} (kind : Ghosts K) where
   abbrev pub settle_needs : Lent K → Needs
   settle_needs t = need (HasLengths t) TableLength
       (need (IsOrderly kind t) Inconsistent
-      (need ((p : List ℕ) × PerfectIn (grid kind t) p) NoPerfectPairing nothing))
+      (need ((p : List ℕ) × IsPerfectIn (grid kind t) p) NoPerfectPairing nothing))
 
   -- the crowd set and its shortage come along exactly where no pairing is perfect
   abbrev pub Explains : Lent K → Fault → Option Shortfall → Type 0
   Explains t f shortfall = MatchOption shortfall (f ≢ fault NoPerfectPairing 0)
-      (λ s. (f ≡ fault NoPerfectPairing 0) × Unpaired t.size (grid kind t).stands s.crowd s.short)
+      (λ s. (f ≡ fault NoPerfectPairing 0)
+      × HasNoPerfect t.size (grid kind t).stands s.crowd s.short)
 
   -- the open sheet became a settled one of the same size, and the tables hold the first of all
   -- optimum pairings and the greatest prices; they hold together, so all of them have the right
@@ -34,7 +35,7 @@ module _ {K : Type 0} (kind : Ghosts K) where
     pub same : settled ≡ sheet
     pub met : AreMet (settle_needs old)
     pub tables : Settled kind new
-    pub together : Together kind new
+    pub together : HoldTogether kind new
 
   -- the open sheet came back, and the tables are as they were
   pub record IsUnsettled (sheet : Sheet) (refusal : Refusal Sheet) (old new : Lent K) : Type 0 where

@@ -3,17 +3,17 @@
 use Rattle.std.proofs.Common.{ℕ, Bool, ◌&&◌, List, ap, ◌∙◌}
 use Rattle.std.proofs.lemmas.Bool.{lt-ltb}
 use Rattle.blockset.specs.declared.BlockSet.{BlockSet}
-use Rattle.pairing.specs.Largest.{Unpaired}
-use Rattle.pairing.specs.Inside.{Alike}
+use Rattle.pairing.specs.Largest.{HasNoPerfect}
+use Rattle.pairing.specs.Inside.{AreAlike}
 use Rattle.pairing.specs.Rows.{holds}
 use Rattle.pairing.proofs.Alike.{unpaired_like}
-use Rattle.tables.specs.PairRows.{StandingRows}
+use Rattle.tables.specs.PairRows.{AreStandingRows}
 
 module _ (n : ℕ) (stands : ℕ → ℕ → Bool) (rows : List BlockSet)
-    (made : StandingRows n stands rows) where
-  pub rows_alike : Alike n (holds rows) stands
+    (made : AreStandingRows n stands rows) where
+  pub rows_alike : AreAlike n (holds rows) stands
   rows_alike l r i j = made l r i ∙ ap (λ b. b && stands l r) (lt-ltb r n j)
 
-  pub unpaired_rows : (crowd short : ℕ) → Unpaired n (holds rows) crowd short
-      → Unpaired n stands crowd short
+  pub unpaired_rows : (crowd short : ℕ) → HasNoPerfect n (holds rows) crowd short
+      → HasNoPerfect n stands crowd short
   unpaired_rows = unpaired_like n (holds rows) stands rows_alike

@@ -9,7 +9,8 @@ use Rattle.std.proofs.lemmas.Nat.{mul-add-lt, div-mul-add, mod-mul-add}
 use Rattle.std.proofs.lemmas.List.{get_or-set_other, get_or-replicate}
 use Rattle.std.proofs.lemmas.Grind.{get_or-set_at}
 use Rattle.pairing.specs.Places.{place_of, places_of}
-use Rattle.tables.specs.PairTables.{HavePlaces, says_stands, byte_of, cell, ChangesCell, AllAbsent}
+use Rattle.tables.specs.PairTables.{HavePlaces, says_stands, byte_of, cell, ChangesCell}
+use Rattle.tables.specs.PairTables.{AreAllAbsent}
 use Rattle.tables.specs.PairTables.{standing_opened}
 
 -- a place tells its pair, and lies within the tables
@@ -56,7 +57,7 @@ module _ {K : Type 0} (nought : K) (n : ℕ) (costs : List K) (standing : List �
 
 -- tables that were just opened
 pub opened : {K : Type 0} (nought : K) (n : ℕ) (costs : List K) (standing : List ℕ)
-    → standing ≡ standing_opened n → AllAbsent n (cell nought n costs standing)
+    → standing ≡ standing_opened n → AreAllAbsent n (cell nought n costs standing)
 opened nought n costs standing e l r hl hr =
     ap (λ b. if says_stands b then Some (slice_index_or costs (place_of n l r) nought) else None)
     (ap (λ bytes. byte_of n bytes l r) e

@@ -11,18 +11,18 @@ use Rattle.std.proofs.lemmas.List.Sums.{AllPass-from_list_all, list_all-from_All
 use Rattle.std.proofs.lemmas.Slice.Zip.{get_or-zip, length-zip}
 use Rattle.cost.specs.declared.Cost.{Ghosts}
 use Rattle.cost.specs.declared.TheConstants.{COST_LIMIT, PRICE_LIMIT, RAIL}
-use Rattle.cost.specs.Columns.{Within, within}
+use Rattle.cost.specs.Columns.{AreWithin, within}
 use Rattle.cost.proofs.Exact.{within_tells, within_more}
 use Rattle.blockset.specs.declared.TheConstants.{MOST_BLOCKS}
 use Rattle.tables.specs.PairTables.{says_stands, says_disturbed, is_place_in_order, in_order}
 use Rattle.pairing.specs.Places.{place_of, places_of}
-use Rattle.pairing.specs.Grid.{Sane}
-use Rattle.pairing.specs.Prices.{Value}
-use Rattle.tables.specs.Said.{columns_at, grid_of, Bounded, IsInOrder}
+use Rattle.pairing.specs.Grid.{IsSane}
+use Rattle.pairing.specs.Prices.{IsCostValue}
+use Rattle.tables.specs.Said.{columns_at, grid_of, AreValuesWithin, IsInOrder}
 use Rattle.tables.proofs.Gathering.{fine_tells}
 
 place_tells : (columns : List ℤ) (byte : ℕ) → IsTrue (is_place_in_order columns byte)
-    ↔ ((says_disturbed byte ≡ false) × (says_stands byte ≡ true → Within COST_LIMIT columns))
+    ↔ ((says_disturbed byte ≡ false) × (says_stands byte ≡ true → AreWithin COST_LIMIT columns))
 place_tells columns byte =
     fine_tells byte (within COST_LIMIT columns) (within_tells COST_LIMIT columns)
 
@@ -67,8 +67,9 @@ module _ {K : Type 0} (kind : Ghosts K) where
     columns_sized (x ∷ table) (suc k) h = columns_sized table k (omega arith)
 
     -- and values within 10^12 lie on the rail
-    pub near_value : (n : ℕ) (table : List K) → length table ≡ n → Bounded kind PRICE_LIMIT n table
-        → (k : ℕ) → k < n → Value kind.columns (columns_at kind table k)
+    pub near_value : (n : ℕ) (table : List K) → length table ≡ n
+        → AreValuesWithin kind PRICE_LIMIT n table
+        → (k : ℕ) → k < n → IsCostValue kind.columns (columns_at kind table k)
     near_value n table long near k h = record {
       sized = columns_sized table k (omega arith);
       on_rail = within_more PRICE_LIMIT RAIL (columns_at kind table k) (omega arith) (near k h);
@@ -77,7 +78,7 @@ module _ {K : Type 0} (kind : Ghosts K) where
     module _ (n : ℕ) (costs : List K) (standing : List ℕ) (few : n ≤ MOST_BLOCKS)
         (whole : length costs ≡ places_of n) where
       pub sane_in_order : IsInOrder kind (places_of n) costs standing
-          → Sane (grid_of kind n costs standing)
+          → IsSane (grid_of kind n costs standing)
       sane_in_order o = record {
         few = few;
         sized = λ l r i j t. columns_sized costs (place_of n l r)

@@ -21,7 +21,7 @@ use Rattle.std.proofs.lemmas.Bool.{both_ways, false≢true, and_parts, and_from,
 use Rattle.std.proofs.lemmas.Bool.Decides.{Decides-at, Decides-like, Decides-and, nat_tests}
 use Rattle.cost.specs.declared.Cost.{Ghosts}
 use Rattle.cost.specs.declared.TheConstants.{COST_LIMIT}
-use Rattle.cost.specs.Columns.{Within, within, plus, lex}
+use Rattle.cost.specs.Columns.{AreWithin, within, plus, lex}
 use Rattle.cost.proofs.Exact.{within_tells, length-columnwise}
 use Rattle.cost.proofs.Order.{lex_same, lex_refl}
 use Rattle.blockset.specs.declared.BlockSet.{BlockSet}
@@ -204,10 +204,10 @@ module _ {K : Type 0} (kind : Ghosts K) (t : Lent K) where
       at_place : (k : ℕ) → k < places_of t.size
           → (says_disturbed (slice_index t.standing k) ≡ false)
           × (says_stands (slice_index t.standing k) ≡ true
-          → Within COST_LIMIT (columns_at kind t.costs k))
+          → AreWithin COST_LIMIT (columns_at kind t.costs k))
       at_place = each_place t.size (λ k. (says_disturbed (slice_index t.standing k) ≡ false)
           × (says_stands (slice_index t.standing k) ≡ true
-          → Within COST_LIMIT (columns_at kind t.costs k)))
+          → AreWithin COST_LIMIT (columns_at kind t.costs k)))
           (λ l i r j. let s = filled.sound l i r j in (s.calm, s.small))
 
       pub all_sound : IsSound kind t

@@ -6,23 +6,24 @@ use Rattle.std.specs.Prelude.{◌≡◌, ℕ, ◌<◌, true, ◌↔◌, List, le
 use Rattle.std.proofs.Common.{sym, subst}
 use Rattle.cost.specs.declared.Cost.{Ghosts}
 use Rattle.blockset.specs.declared.BlockSet.{BlockSet}
-use Rattle.pairing.specs.Grid.{Sane, at, Perfect, PerfectIn, Optimum}
-use Rattle.pairing.specs.Prices.{Tight, Valid}
+use Rattle.pairing.specs.Grid.{IsSane, at, IsPerfect, IsPerfectIn, IsOptimum}
+use Rattle.pairing.specs.Prices.{AreTight, AreValid}
 use Rattle.pairing.specs.Optima.{optima}
 use Rattle.pairing.proofs.Duality.{optimum_if_tight}
 use Rattle.pairing.proofs.Listing.{perfects_are, optima_are}
-use Rattle.pairing.specs.Rows.{holds, Pairs, pairings}
+use Rattle.pairing.specs.Rows.{holds, IsPerfectOver, pairings}
 use Rattle.tables.specs.Lent.{Lent, grid, left_price, right_price}
 use Rattle.tables.specs.PairRows.{AreTightRows}
 
 module _ {K : Type 0} (kind : Ghosts K) (t : Lent K) (rows : List BlockSet)
     (made : AreTightRows kind t rows) where
   -- the perfect pairings over the rows are the perfect pairings whose pairs are all tight
-  pub pairs_tight : (p : List ℕ) → Pairs rows p
-      ↔ (PerfectIn (grid kind t) p × Tight (grid kind t) (left_price kind t) (right_price kind t) p)
+  pub pairs_tight : (p : List ℕ) → IsPerfectOver rows p
+      ↔ (IsPerfectIn (grid kind t) p × AreTight (grid kind t) (left_price kind t) (right_price kind
+      t) p)
   pairs_tight p = (
-    λ h. to (subst (λ n. Perfect n (holds rows) p) made.long h),
-    λ h. subst (λ n. Perfect n (holds rows) p) (sym made.long) (record {
+    λ h. to (subst (λ n. IsPerfect n (holds rows) p) made.long h),
+    λ h. subst (λ n. IsPerfect n (holds rows) p) (sym made.long) (record {
       len = h.0.len;
       below = h.0.below;
       standing = λ l i. (made.held l (at p l) i).1 (record {
@@ -34,9 +35,9 @@ module _ {K : Type 0} (kind : Ghosts K) (t : Lent K) (rows : List BlockSet)
     }),
   )
     where
-      to : Perfect t.size (holds rows) p
-          → PerfectIn (grid kind t) p
-          × Tight (grid kind t) (left_price kind t) (right_price kind t) p
+      to : IsPerfect t.size (holds rows) p
+          → IsPerfectIn (grid kind t) p
+          × AreTight (grid kind t) (left_price kind t) (right_price kind t) p
       to h =
           let edge = λ (l : ℕ) (i : l < t.size). (made.held l (at p l) i).0 (h.standing l i) in (
             record {
@@ -49,18 +50,19 @@ module _ {K : Type 0} (kind : Ghosts K) (t : Lent K) (rows : List BlockSet)
           )
 
   -- under valid prices these are the optimum pairings
-  module _ (sane : Sane (grid kind t)) (p : List ℕ) (perfect : PerfectIn (grid kind t) p)
-      (valid : Valid (grid kind t) (left_price kind t) (right_price kind t) p) where
-    pub pairs_optimum : (q : List ℕ) → Pairs rows q ↔ Optimum (grid kind t) q
+  module _ (sane : IsSane (grid kind t)) (p : List ℕ) (perfect : IsPerfectIn (grid kind t) p)
+      (valid : AreValid (grid kind t) (left_price kind t) (right_price kind t) p) where
+    pub pairs_optimum : (q : List ℕ) → IsPerfectOver rows q ↔ IsOptimum (grid kind t) q
     pairs_optimum q = (
       λ k. let w = (pairs_tight q).0 k in (if_tight w.0).0 w.1,
       λ o. (pairs_tight q).1 (o.perfect, (if_tight o.perfect).1 o),
     )
       where
-        if_tight : PerfectIn (grid kind t) q
-            → Tight (grid kind t) (left_price kind t) (right_price kind t) q
-            ↔ Optimum (grid kind t) q
-        if_tight w = optimum_if_tight (grid kind t) (left_price kind t) (right_price kind t) p q sane
+        if_tight : IsPerfectIn (grid kind t) q
+            → AreTight (grid kind t) (left_price kind t) (right_price kind t) q
+            ↔ IsOptimum (grid kind t) q
+        if_tight w = optimum_if_tight (grid kind t) (left_price kind t) (right_price kind t) p q
+            sane
             perfect valid w
 
     -- and their list is the list of these

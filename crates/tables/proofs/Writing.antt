@@ -10,7 +10,7 @@ use Rattle.std.proofs.lemmas.Grind.{get_or-set_at}
 use Rattle.std.proofs.lemmas.Bool.{cases_eq, false≢true}
 use Rattle.cost.specs.declared.Cost.{Ghosts}
 use Rattle.cost.specs.declared.TheConstants.{COST_LIMIT}
-use Rattle.cost.specs.Columns.{Within}
+use Rattle.cost.specs.Columns.{AreWithin}
 use Rattle.tables.specs.PairTables.{says_stands, says_disturbed}
 use Rattle.tables.specs.Said.{columns_at, IsInOrder}
 
@@ -43,12 +43,12 @@ module _ {K : Type 0} (kind : Ghosts K) (places : ℕ) (costs : List K) (standin
           cc
 
   pub wrote_in_order : says_disturbed byte ≡ false
-      → (says_stands byte ≡ true → Within COST_LIMIT (kind.meaning cost))
+      → (says_stands byte ≡ true → AreWithin COST_LIMIT (kind.meaning cost))
       → IsInOrder kind places costs standing
       → IsInOrder kind places (slice_set costs at cost) (slice_set standing at byte)
   wrote_in_order calm small o = record {
     bytes = each_still (λ _ b. says_disturbed b ≡ false) calm o.bytes;
-    small = each_still (λ x b. says_stands b ≡ true → Within COST_LIMIT x) small o.small;
+    small = each_still (λ x b. says_stands b ≡ true → AreWithin COST_LIMIT x) small o.small;
   }
 
 pub blank_in_order : {K : Type 0} (kind : Ghosts K) (places : ℕ) (costs : List K)

@@ -6,7 +6,7 @@ use Rattle.cost.specs.declared.Cost.{Ghosts}
 use Rattle.cost.specs.declared.TheConstants.{PRICE_LIMIT}
 use Rattle.pairing.specs.Grid.{Grid}
 use Rattle.pairing.specs.Places.{places_of, rights_of}
-use Rattle.tables.specs.Said.{columns_at, grid_of, Bounded, IsInOrder}
+use Rattle.tables.specs.Said.{columns_at, grid_of, AreValuesWithin, IsInOrder}
 use Rattle.tables.specs.declared.flaw.Flaw.{Flaw}
 use Rattle.tables.specs.declared.flaw.Flaw.TheVariants.{Size, Length, Order}
 
@@ -71,8 +71,8 @@ module _ {K : Type 0} (kind : Ghosts K) (t : Lent K) where
   pub record ArePriced : Type 0 where
     pub few : t.size ≤ MOST_BLOCKS
     pub room : HasRoom t
-    pub left_near : Bounded kind PRICE_LIMIT t.size t.left
-    pub right_near : Bounded kind PRICE_LIMIT (rights_of t.size) t.right
+    pub left_near : AreValuesWithin kind PRICE_LIMIT t.size t.left
+    pub right_near : AreValuesWithin kind PRICE_LIMIT (rights_of t.size) t.right
 
   -- the pair tables are in order
   abbrev pub IsOrderly : Type 0

@@ -5,7 +5,7 @@ use Rattle.blockset.specs.declared.BlockSet.{BlockSet}
 use Rattle.blockset.specs.Has.{has}
 use Rattle.pairing.specs.Grid.{Grid, right_count}
 use Rattle.pairing.specs.Places.{rights_of}
-use Rattle.pairing.specs.Prices.{TightPair}
+use Rattle.pairing.specs.Prices.{IsTight}
 use Rattle.pairing.specs.Rows.{holds}
 use Rattle.tables.specs.Lent.{Lent, grid, left_price, right_price}
 
@@ -14,8 +14,8 @@ abbrev pub HoldsPassing : ℕ → (ℕ → Bool) → BlockSet → Type 0
 HoldsPassing rights test set = (r : ℕ) → has set r ≡ (nat_lt r rights && test r)
 
 -- row l holds right block r exactly if there is such a block and the pair stands
-abbrev pub StandingRows : ℕ → (ℕ → ℕ → Bool) → List BlockSet → Type 0
-StandingRows n stands rows =
+abbrev pub AreStandingRows : ℕ → (ℕ → ℕ → Bool) → List BlockSet → Type 0
+AreStandingRows n stands rows =
     (l r : ℕ) → l < n → holds rows l r ≡ (nat_lt r (rights_of n) && stands l r)
 
 -- left block l and right block r are joined by a tight edge, one of the equality subgraph: there is
@@ -24,7 +24,7 @@ StandingRows n stands rows =
 pub record IsTightEdge (g : Grid) (left right : ℕ → List ℤ) (l r : ℕ) : Type 0 where
   pub inside : r < right_count g
   pub stands : g.stands l r ≡ true
-  pub tight : TightPair g left right l r
+  pub tight : IsTight g left right l r
 
 -- the rows are those of the tables' tight edges
 pub record AreTightRows {K : Type 0} (kind : Ghosts K) (t : Lent K) (rows : List BlockSet)

@@ -41,8 +41,8 @@ pub record ChangesCell {K : Type 0} (n l r : ℕ) (new : Option K)
       → after i j ≡ before i j
 
 -- every pair of n left blocks and their right blocks is absent
-abbrev pub AllAbsent : {K : Type 0} → ℕ → (ℕ → ℕ → Option K) → Type 0
-AllAbsent n cells = (l r : ℕ) → l < n → r < rights_of n → cells l r ≡ None
+abbrev pub AreAllAbsent : {K : Type 0} → ℕ → (ℕ → ℕ → Option K) → Type 0
+AreAllAbsent n cells = (l r : ℕ) → l < n → r < rights_of n → cells l r ≡ None
 
 -- the tables of a sheet of n blocks that was just opened: every pair is absent, at cost zero
 abbrev pub costs_opened : {K : Type 0} → K → ℕ → List K

@@ -4,8 +4,8 @@ use Rattle.std.specs.Prelude.{◌≡◌, ℕ, ◌<◌, Bool, true, false, ◌&&�
 use Rattle.std.specs.Ordering.{is_eq}
 use Rattle.cost.specs.declared.Cost.{Ghosts}
 use Rattle.cost.specs.declared.TheConstants.{COST_LIMIT}
-use Rattle.cost.specs.Columns.{Within, plus, lex}
-use Rattle.pairing.specs.Grid.{Grid, Upto, right_count}
+use Rattle.cost.specs.Columns.{AreWithin, plus, lex}
+use Rattle.pairing.specs.Grid.{Grid, IsUpto, right_count}
 use Rattle.tables.specs.PairTables.{says_stands, says_disturbed}
 use Rattle.tables.specs.Said.{columns_at}
 use Rattle.tables.specs.Lent.{Lent, grid, left_price, right_price, IsOrderly}
@@ -13,7 +13,7 @@ use Rattle.tables.specs.Lent.{Lent, grid, left_price, right_price, IsOrderly}
 -- the prices are dual feasible: no standing pair has a reduced cost below zero
 abbrev pub AreFeasible : Grid → (left right : ℕ → List ℤ) → Type 0
 AreFeasible g left right = (l r : ℕ) → l < g.size → r < right_count g → g.stands l r ≡ true
-    → Upto (plus (left l) (right r)) (g.cost l r)
+    → IsUpto (plus (left l) (right r)) (g.cost l r)
 
 -- all pairs of lent tables are sound
 pub record IsSound {K : Type 0} (kind : Ghosts K) (t : Lent K) : Type 0 where
@@ -33,8 +33,8 @@ pub record Edge : Type 0 where
 -- the edge is sound
 pub record IsSoundEdge (p : Edge) : Type 0 where
   pub calm : says_disturbed p.byte ≡ false
-  pub small : says_stands p.byte ≡ true → Within COST_LIMIT p.cost
-  pub feasible : says_stands p.byte ≡ true → Upto (plus p.left p.right) p.cost
+  pub small : says_stands p.byte ≡ true → AreWithin COST_LIMIT p.cost
+  pub feasible : says_stands p.byte ≡ true → IsUpto (plus p.left p.right) p.cost
 
 -- it stands and costs just its two prices
 abbrev pub adds_up : Edge → Bool

@@ -4,7 +4,7 @@ ghost use Rattle.std.specs.Prelude.{◌≡◌, ◌≤◌, length, IfNone, IfSome
 ghost use Rattle.blockset.specs.declared.TheConstants.{MOST_BLOCKS};
 ghost use Rattle.pairing.specs.Places.{places_of};
 ghost use Rattle.tables.specs.PairTables.{byte_of, says_stands};
-ghost use Rattle.tables.specs.PairRows.{StandingRows, AreTightRows};
+ghost use Rattle.tables.specs.PairRows.{AreStandingRows, AreTightRows};
 ghost use Rattle.tables.specs.Lent.{ArePriced};
 ghost use Rattle.tables.specs.Sound.{IsSound};
 
@@ -40,7 +40,7 @@ impl PairRows {
         requires few { n ≤ MOST_BLOCKS }
         requires long { length standing.now ≡ places_of n }
         ensures long { length result ≡ n }
-        ensures rows { StandingRows n (λ l r. says_stands (byte_of n standing.now l r)) result }
+        ensures rows { AreStandingRows n (λ l r. says_stands (byte_of n standing.now l r)) result }
     {
         let len = n as usize;
         let mut sets = [BlockSet::empty(); SET_WIDTH];

@@ -2,7 +2,7 @@
 
 ghost use Rattle.std.specs.Prelude.{◌≡◌, ◌<◌, ◌≤◌, length, replicate, count_by};
 ghost use Rattle.cost.specs.declared.TheConstants.{COST_LIMIT};
-ghost use Rattle.cost.specs.Columns.{Within};
+ghost use Rattle.cost.specs.Columns.{AreWithin};
 ghost use Rattle.pairing.specs.Places.{place_of, places_of, rights_of};
 ghost use Rattle.tables.specs.PairTables.{HavePlaces, have_places, says_stands, says_disturbed};
 ghost use Rattle.tables.specs.PairTables.{part_of};
@@ -94,7 +94,7 @@ pub fn enter_pair<K: Cost>(
     requires places { HavePlaces n (length costs.old) (length standing.old) }
     requires left_inside { left < n }
     requires right_inside { right < n }
-    requires within { Within COST_LIMIT (K.meaning cost) }
+    requires within { AreWithin COST_LIMIT (K.meaning cost) }
     ensures costs { costs.new ≡ costs_entered n left right cost costs.old }
     ensures standing { standing.new ≡ standing_entered n left right standing.old }
     ensures in_order { IsInOrder K.Cost (places_of n) costs.old standing.old

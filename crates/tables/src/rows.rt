@@ -5,7 +5,7 @@ ghost use Rattle.std.specs.Prelude.{◌≡◌, ◌≤◌, length, slice_index};
 ghost use Rattle.blockset.specs.declared.TheConstants.{MOST_BLOCKS, SET_WIDTH};
 ghost use Rattle.pairing.specs.Places.{places_of};
 ghost use Rattle.tables.specs.PairTables.{byte_of, says_stands};
-ghost use Rattle.tables.specs.PairRows.{HoldsPassing, StandingRows};
+ghost use Rattle.tables.specs.PairRows.{HoldsPassing, AreStandingRows};
 
 use crate::pair_tables::{part_of, stands};
 use blockset::BlockSet;
@@ -27,7 +27,7 @@ pub fn fill_standing_rows(n: u16, standing: &[u8], rows: &mut [BlockSet])
     requires few { n ≤ MOST_BLOCKS }
     requires long { length standing.now ≡ places_of n }
     requires rows_long { length rows.old ≡ n }
-    ensures { StandingRows n (λ l r. says_stands (byte_of n standing.now l r)) rows.new }
+    ensures { AreStandingRows n (λ l r. says_stands (byte_of n standing.now l r)) rows.new }
 {
     for (l, row) in rows.iter_mut().enumerate() {
         *row = standing_row(part_of(n, l, standing));

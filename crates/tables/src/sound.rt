@@ -6,8 +6,8 @@ ghost use Rattle.std.specs.Bool.{OnTrue};
 ghost use Rattle.std.specs.Ordering.{is_gt, is_eq};
 ghost use Rattle.blockset.specs.declared.TheConstants.{SET_WIDTH};
 ghost use Rattle.cost.specs.declared.TheConstants.{PRICE_LIMIT};
-ghost use Rattle.cost.specs.Columns.{Within, plus, lex};
-ghost use Rattle.tables.specs.Said.{Bounded};
+ghost use Rattle.cost.specs.Columns.{AreWithin, plus, lex};
+ghost use Rattle.tables.specs.Said.{AreValuesWithin};
 ghost use Rattle.tables.specs.Lent.{ArePriced};
 ghost use Rattle.tables.specs.PairRows.{HoldsPassing, AreTightRows};
 ghost use Rattle.tables.specs.Sound.{IsSound, IsSoundRow, edge_in, adds_up};
@@ -20,8 +20,8 @@ use cost::{COST_LIMIT, Cost};
 /// Whether two prices together are beyond a cost, and whether they are just that cost. Any cost may
 /// be asked, one beyond 10^9 too, so that no pair needs a branch.
 fn compare_prices<K: Cost>(left: K, right: K, cost: K) -> (bool, bool)
-    requires left_near { Within PRICE_LIMIT (K.meaning left) }
-    requires right_near { Within PRICE_LIMIT (K.meaning right) }
+    requires left_near { AreWithin PRICE_LIMIT (K.meaning left) }
+    requires right_near { AreWithin PRICE_LIMIT (K.meaning right) }
     ensures beyond { result.0
         ≡ is_gt (lex (plus (K.meaning left) (K.meaning right)) (K.meaning cost)) }
     ensures tight { result.1
@@ -37,8 +37,8 @@ fn sound_row<K: Cost>(costs: &[K], standing: &[u8], left: K, right: &[K]) -> Opt
     requires few { length right.now ≤ SET_WIDTH }
     requires costs_long { length costs.now ≡ length right.now }
     requires standing_long { length standing.now ≡ length right.now }
-    requires left_near { Within PRICE_LIMIT (K.meaning left) }
-    requires right_near { Bounded K.Cost PRICE_LIMIT (length right.now) right.now }
+    requires left_near { AreWithin PRICE_LIMIT (K.meaning left) }
+    requires right_near { AreValuesWithin K.Cost PRICE_LIMIT (length right.now) right.now }
     ensures unsound { IfNone result (IsSoundRow K.Cost costs.now standing.now (K.meaning left)
         right.now (length right.now) → ⊥) }
     ensures sound { IfSome result (λ _. IsSoundRow K.Cost costs.now standing.now

@@ -2,9 +2,9 @@
 //! however long they are, and a yes hands out what was found.
 
 ghost use Rattle.std.specs.Prelude.{length, IsTrue, ◌↔◌, IfNone, IfSome};
-ghost use Rattle.tables.specs.Said.{Bounded};
+ghost use Rattle.tables.specs.Said.{AreValuesWithin};
 ghost use Rattle.tables.specs.Lent.{HasLengths, ArePriced};
-ghost use Rattle.tables.specs.Together.{Together};
+ghost use Rattle.tables.specs.Together.{HoldTogether};
 ghost use Rattle.walk.specs.Certified.{IsCertified};
 
 use cost::{Cost, PRICE_LIMIT};
@@ -13,7 +13,7 @@ use tables::{MOST_BLOCKS, PairRows, Tables};
 
 /// Whether each price is within 10^12 in each column.
 pub fn prices_within_limit<K: Cost>(prices: &[K]) -> bool
-    ensures { IsTrue result ↔ Bounded K.Cost PRICE_LIMIT (length prices.now) prices.now }
+    ensures { IsTrue result ↔ AreValuesWithin K.Cost PRICE_LIMIT (length prices.now) prices.now }
 {
     for price in prices {
         if !price.within(PRICE_LIMIT) {
@@ -36,7 +36,7 @@ fn are_priced<K: Cost>(tables: &Tables<'_, K>) -> bool
 /// If the tables hold together, rows over which just the optimum pairings are perfect: the rows of
 /// the tight pairs.
 pub fn certify<K: Cost>(tables: &Tables<'_, K>) -> Option<PairRows>
-    ensures apart { IfNone result (Together K.Cost tables.now → ⊥) }
+    ensures apart { IfNone result (HoldTogether K.Cost tables.now → ⊥) }
     ensures certified { IfSome result (IsCertified K.Cost tables.now) }
 {
     if !tables.fit() {
@@ -48,7 +48,7 @@ pub fn certify<K: Cost>(tables: &Tables<'_, K>) -> Option<PairRows>
 /// What `certify` does once all lengths are known to fit.
 pub fn certify_fitting<K: Cost>(tables: &Tables<'_, K>) -> Option<PairRows>
     requires { HasLengths tables.now }
-    ensures apart { IfNone result (Together K.Cost tables.now → ⊥) }
+    ensures apart { IfNone result (HoldTogether K.Cost tables.now → ⊥) }
     ensures certified { IfSome result (IsCertified K.Cost tables.now) }
 {
     if !are_priced(tables) {

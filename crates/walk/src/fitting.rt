@@ -1,12 +1,12 @@
 //! The three calls over tables as one value, where all lengths are known to fit.
 
 ghost use Rattle.std.specs.Prelude.{◌≡◌, ◌↔◌, length, IsOk, IfOk, OnOk, OnErr};
-ghost use Rattle.pairing.specs.Grid.{Optimum};
+ghost use Rattle.pairing.specs.Grid.{IsOptimum};
 ghost use Rattle.pairing.specs.Optima.{optima};
 ghost use Rattle.pairing.specs.Places.{places_of};
-ghost use Rattle.matching.specs.Answers.{IsNth, Follows, MarksOf};
+ghost use Rattle.matching.specs.Answers.{IsNth, Follows, AreMarksOf};
 ghost use Rattle.tables.specs.Lent.{HasLengths, grid};
-ghost use Rattle.tables.specs.Together.{Together};
+ghost use Rattle.tables.specs.Together.{HoldTogether};
 
 use crate::Apart;
 use crate::certificate::certify_fitting;
@@ -18,9 +18,9 @@ use tables::Tables;
 pub fn start_fitting<K: Cost>(tables: &Tables<'_, K>, walk: &mut [u16]) -> Result<(), Apart>
     requires fit { HasLengths tables.now }
     requires long { length walk.old ≡ tables.now.size }
-    ensures accepted { IsOk result ↔ Together K.Cost tables.now }
+    ensures accepted { IsOk result ↔ HoldTogether K.Cost tables.now }
     ensures first { OnOk result (IsNth (optima (grid K.Cost tables.now)) 0 walk.new) }
-    ensures optimum { OnOk result (Optimum (grid K.Cost tables.now) walk.new) }
+    ensures optimum { OnOk result (IsOptimum (grid K.Cost tables.now) walk.new) }
     ensures apart { OnErr result (walk.new ≡ walk.old) }
 {
     let Some(rows) = certify_fitting(tables) else {
@@ -36,9 +36,9 @@ pub fn step_fitting<K: Cost>(tables: &Tables<'_, K>, walk: &mut [u16]) -> Result
     requires fit { HasLengths tables.now }
     requires long { length walk.old ≡ tables.now.size }
     ensures accepted { let t = tables.now in
-        IsOk result ↔ (Together K.Cost t × Optimum (grid K.Cost t) walk.old) }
+        IsOk result ↔ (HoldTogether K.Cost t × IsOptimum (grid K.Cost t) walk.old) }
     ensures steps { IfOk result (Follows (optima (grid K.Cost tables.now)) walk.old walk.new) }
-    ensures optimum { OnOk result (Optimum (grid K.Cost tables.now) walk.new) }
+    ensures optimum { OnOk result (IsOptimum (grid K.Cost tables.now) walk.new) }
     ensures apart { OnErr result (walk.new ≡ walk.old) }
 {
     let Some(rows) = certify_fitting(tables) else {
@@ -54,9 +54,9 @@ pub fn step_fitting<K: Cost>(tables: &Tables<'_, K>, walk: &mut [u16]) -> Result
 pub fn mark_fitting<K: Cost>(tables: &Tables<'_, K>, table: &mut [u8]) -> Result<(), Apart>
     requires fit { HasLengths tables.now }
     requires long { length table.old ≡ places_of tables.now.size }
-    ensures accepted { IsOk result ↔ Together K.Cost tables.now }
+    ensures accepted { IsOk result ↔ HoldTogether K.Cost tables.now }
     ensures marks { let t = tables.now in
-        OnOk result (MarksOf t.size (optima (grid K.Cost t)) table.new) }
+        OnOk result (AreMarksOf t.size (optima (grid K.Cost t)) table.new) }
     ensures apart { OnErr result (table.new ≡ table.old) }
 {
     let Some(rows) = certify_fitting(tables) else {

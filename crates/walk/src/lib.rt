@@ -3,13 +3,13 @@
 #![tactic(auto)]
 
 ghost use Rattle.std.specs.Prelude.{◌≡◌, ◌↔◌, length, Some, codes, IsOk, IfOk, OnOk, OnErr};
-ghost use Rattle.pairing.specs.Grid.{Optimum};
+ghost use Rattle.pairing.specs.Grid.{IsOptimum};
 ghost use Rattle.pairing.specs.Optima.{optima};
 ghost use Rattle.pairing.specs.Places.{places_of};
-ghost use Rattle.matching.specs.Answers.{IsNth, Follows, MarksOf};
+ghost use Rattle.matching.specs.Answers.{IsNth, Follows, AreMarksOf};
 ghost use Rattle.tables.specs.Said.{grid_of};
 ghost use Rattle.tables.specs.Lent.{lent, grid};
-ghost use Rattle.tables.specs.Together.{Together};
+ghost use Rattle.tables.specs.Together.{HoldTogether};
 
 mod certificate;
 mod fitting;
@@ -49,13 +49,13 @@ pub fn start<K: Cost>(
     right: &[K],
     walk: &mut [u16],
 ) -> Result<(), Apart>
-    ensures accepted { IsOk result ↔ (length walk.old ≡ n × Together K.Cost
+    ensures accepted { IsOk result ↔ (length walk.old ≡ n × HoldTogether K.Cost
         (lent n costs.now standing.now partners.now left.now right.now)) }
     ensures first { OnOk result
         (IsNth (optima (grid_of K.Cost n costs.now standing.now)) 0 walk.new) }
 
     // So `next` accepts the list.
-    ensures optimum { OnOk result (Optimum (grid_of K.Cost n costs.now standing.now) walk.new) }
+    ensures optimum { OnOk result (IsOptimum (grid_of K.Cost n costs.now standing.now) walk.new) }
     ensures apart { OnErr result (walk.new ≡ walk.old) }
 {
     let tables = Tables {
@@ -84,12 +84,12 @@ pub fn next<K: Cost>(
     walk: &mut [u16],
 ) -> Result<Step, Apart>
     ensures accepted { let t = lent n costs.now standing.now partners.now left.now right.now in
-        IsOk result ↔ (Together K.Cost t × Optimum (grid K.Cost t) walk.old) }
+        IsOk result ↔ (HoldTogether K.Cost t × IsOptimum (grid K.Cost t) walk.old) }
     ensures steps { IfOk result
         (Follows (optima (grid_of K.Cost n costs.now standing.now)) walk.old walk.new) }
 
     // So the next call accepts the list too.
-    ensures optimum { OnOk result (Optimum (grid_of K.Cost n costs.now standing.now) walk.new) }
+    ensures optimum { OnOk result (IsOptimum (grid_of K.Cost n costs.now standing.now) walk.new) }
     ensures apart { OnErr result (walk.new ≡ walk.old) }
 {
     let tables = Tables {
@@ -117,10 +117,10 @@ pub fn marks<K: Cost>(
     right: &[K],
     table: &mut [u8],
 ) -> Result<(), Apart>
-    ensures accepted { IsOk result ↔ (length table.old ≡ places_of n × Together K.Cost
+    ensures accepted { IsOk result ↔ (length table.old ≡ places_of n × HoldTogether K.Cost
         (lent n costs.now standing.now partners.now left.now right.now)) }
     ensures marks { OnOk result
-        (MarksOf n (optima (grid_of K.Cost n costs.now standing.now)) table.new) }
+        (AreMarksOf n (optima (grid_of K.Cost n costs.now standing.now)) table.new) }
     ensures apart { OnErr result (table.new ≡ table.old) }
 {
     let tables = Tables {

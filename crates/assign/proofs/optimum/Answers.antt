@@ -1,7 +1,7 @@
 -- Usable tables make a sane grid, and what the search leaves in them is told by the grid.
 use Rattle.std.proofs.Common.{List, ℕ, length, sym, refl, ◌∙◌, rules}
-use Rattle.pairing.specs.Grid.{Perfect}
-use Rattle.pairing.specs.Largest.{Unpaired}
+use Rattle.pairing.specs.Grid.{IsPerfect}
+use Rattle.pairing.specs.Largest.{HasNoPerfect}
 use Rattle.pairing.specs.Rows.{holds}
 use Rattle.tables.specs.Lent.{lent}
 use Rattle.assign.proofs.Solving.{HasRows, written, usable_still}
@@ -16,7 +16,8 @@ returns-in-Some g c =
     record { usable = search rules; made = c.standing-rows.ensures.rows } in
     let crowd = c.in-Some.shortfall.crowd in
     let short = c.in-Some.shortfall.short in
-    let none : Unpaired (length c.as_slice.result.now) (holds c.as_slice.result.now) crowd short =
+    let none : HasNoPerfect (length c.as_slice.result.now) (holds c.as_slice.result.now) crowd
+    short =
     search rules in (
       given.usable,
       unpaired_of c.standing-rows.ensures.long given crowd short
@@ -32,7 +33,7 @@ solve-requires g c =
     let given : HasRows g.K.Cost t c.standing-rows.result =
     record { usable = search rules; made = c.standing-rows.ensures.rows } in
     let lengths = given.usable.lengths in
-    let possible : (q : List ℕ) × Perfect (length c.as_slice.result.now)
+    let possible : (q : List ℕ) × IsPerfect (length c.as_slice.result.now)
     (holds c.as_slice.result.now) q = search rules in
     rw c.as_slice-2.ensures.rows (record {
       lent = search_tables_of long given;

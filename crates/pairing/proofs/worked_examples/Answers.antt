@@ -4,7 +4,7 @@ use Rattle.std.proofs.Common.{ℕ, ◌<◌, [], ◌∷◌, length, get_or, refl,
 use Rattle.std.proofs.lemmas.Bool.{false≢true}
 use Rattle.cost.specs.contracts.plain_kind.PlainCost.TheImpl.{ghosts as plain}
 use Rattle.cost.specs.contracts.free_kind.FreeCost.TheImpl.{ghosts as free}
-use Rattle.pairing.specs.Grid.{Grid, PerfectIn}
+use Rattle.pairing.specs.Grid.{Grid, IsPerfectIn}
 use Rattle.pairing.specs.Optima.{optima}
 use Rattle.pairing.specs.Examples.{s_grid, corner_grid, cheap_grid}
 use Rattle.std.proofs.lemmas.List.Elements.{Contains-get_or}
@@ -14,7 +14,7 @@ use Rattle.pairing.proofs.Shown.{crowded, bare}
 use Rattle.pairing.proofs.worked_examples.Goals as goal
 
 -- what stands in the list is perfect
-perfect : (g : Grid) (k : ℕ) → k < length (optima g) → PerfectIn g (get_or (optima g) k [])
+perfect : (g : Grid) (k : ℕ) → k < length (optima g) → IsPerfectIn g (get_or (optima g) k [])
 perfect g k h = (((optima_are g).list.are _).0 (Contains-get_or (optima g) k [] h)).perfect
 
 pub returns : goal.returns

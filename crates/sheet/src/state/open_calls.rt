@@ -1,10 +1,10 @@
 //! The calls on an open sheet: open one, then enter, strike and read pairs, and settle.
 
 ghost use Rattle.std.specs.Prelude.{◌≡◌, ◌<◌, ⊤, length, IfOk, OnOk, OnErr, Some, None};
-ghost use Rattle.tables.specs.PairTables.{cell, ChangesCell, AllAbsent, HavePlaces};
+ghost use Rattle.tables.specs.PairTables.{cell, ChangesCell, AreAllAbsent, HavePlaces};
 ghost use Rattle.pairing.specs.Places.{place_of, rights_of};
 ghost use Rattle.sheet.specs.Needs.{nothing, Responds};
-ghost use Rattle.sheet.specs.Opening.{Opened};
+ghost use Rattle.sheet.specs.Opening.{OpensSheet};
 ghost use Rattle.sheet.specs.Pairs.{place_needs, strike_needs, Enters, Strikes, Reads};
 ghost use Rattle.sheet.specs.Settling.{Settles};
 ghost use Rattle.sheet.specs.Size.{IsSize, size_of};
@@ -21,8 +21,8 @@ use tables::{COST_LIMIT, MOST_BLOCKS, disturbed, enter_pair, fill, have_places, 
 /// `costs` and `standing` have a place for each pair, n * n. Refused, in this order: a size of 0 or
 /// above 64, a table of the wrong length.
 pub fn open<K: Cost>(n: u16, costs: &mut [K], standing: &mut [u8]) -> Result<OpenSheet, Fault>
-    ensures call { Opened K.zero n costs.old standing.old result costs.new standing.new }
-    ensures cells { OnOk result (AllAbsent n (cell K.zero n costs.new standing.new)) }
+    ensures call { OpensSheet K.zero n costs.old standing.old result costs.new standing.new }
+    ensures cells { OnOk result (AreAllAbsent n (cell K.zero n costs.new standing.new)) }
 {
     if n == 0 || n > MOST_BLOCKS {
         return Err(Cause::Size.at(0));

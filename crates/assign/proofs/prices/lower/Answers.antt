@@ -68,7 +68,8 @@ loop-c-preserved g c =
       can_next = tt;
       is_finite = tt;
       lowering = lowering_take n (has c.args.taken) (weight (kind.meaning far))
-          (weight_at kind dist) (columns_at kind c.args.right.now) (has c.loop-c.c-iterator) (columns_at kind right)
+          (weight_at kind dist) (columns_at kind c.args.right.now) (has c.loop-c.c-iterator)
+          (columns_at kind right)
           c.loop-c.invariant.lowering
           r (has c.next.new.self) (columns_at kind (set right r x)) member
           c.in-Some.ensures.steps.others

@@ -1,7 +1,7 @@
 -- The state of proofs/Lowering.antt, with a bound on what every distance is lowered by; each turn
 -- lowers the price of one right block that the iterator has left.
 use Rattle.std.proofs.Common.{length}
-use Rattle.cost.specs.Columns.{Within}
+use Rattle.cost.specs.Columns.{AreWithin}
 use Rattle.cost.specs.Weights.{weight}
 use Rattle.blockset.specs.Has.{has}
 use Rattle.tables.specs.Said.{columns_at}
@@ -19,5 +19,5 @@ invariant-loop-c g l =
       lowering : Lowering (length l.dist) (has l.fn.taken) (has l.c-iterator)
           (weight (kind.meaning l.far)) (weight_at kind l.dist)
           (columns_at kind l.initial.right) (columns_at kind l.right);
-      near : Within LEFT_PRICE_LIMIT (kind.meaning l.far);
+      near : AreWithin LEFT_PRICE_LIMIT (kind.meaning l.far);
     }

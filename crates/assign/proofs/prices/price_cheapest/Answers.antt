@@ -3,7 +3,7 @@
 use Rattle.std.proofs.Common.{length, replicate, sym, ap, ◌∙◌, subst, arith}
 use Rattle.blockset.specs.declared.TheConstants.{SET_WIDTH}
 use Rattle.cost.specs.declared.TheConstants.{COST_LIMIT, HALF_RAIL}
-use Rattle.cost.specs.Columns.{Within}
+use Rattle.cost.specs.Columns.{AreWithin}
 use Rattle.cost.proofs.Exact.{zeros_within, within_more}
 use Rattle.cost.specs.Weights.{weight}
 use Rattle.cost.proofs.Weights.{weight_zeros}
@@ -41,7 +41,7 @@ offer_all-requires g c =
         few = omega (arith, long, c.requires.lent.few);
         block = omega (arith, c.requires.lent.few);
         costs = part_modest c.requires.lent l lies;
-        shift = subst (Within SHIFT_LIMIT)
+        shift = subst (AreWithin SHIFT_LIMIT)
             (sym (ap kind.meaning c.zero.ensures ∙ g.met.K.Cost.laws.zero_columns))
             (zeros_within SHIFT_LIMIT g.K.Cost.columns);
       };
@@ -71,6 +71,6 @@ loop-l-preserved g c =
           (λ j r. ap weight (part_is c.requires.lent l lies j r))
           c.union-priced.ensures c.offer_all.ensures.offered;
       bound = λ k h. c.offer_all.ensures.bound 0 k
-          (subst (Within 0) (sym zero) (zeros_within 0 g.K.Cost.columns)) (omega arith)
+          (subst (AreWithin 0) (sym zero) (zeros_within 0 g.K.Cost.columns)) (omega arith)
           (λ _. c.loop-l.invariant.bound k h) (λ _. c.loop-l.invariant.bound k h);
     }

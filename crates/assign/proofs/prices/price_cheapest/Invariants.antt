@@ -1,7 +1,7 @@
 -- The left blocks before l have made their offers.
 use Rattle.std.proofs.Common.{length}
 use Rattle.pairing.specs.Rows.{holds}
-use Rattle.tables.specs.Said.{Bounded}
+use Rattle.tables.specs.Said.{AreValuesWithin}
 use Rattle.cost.specs.declared.TheConstants.{COST_LIMIT}
 use Rattle.assign.specs.Weighed.{weight_at, cost_weight}
 use Rattle.assign.specs.Pairs.{AreCheapest}
@@ -14,5 +14,5 @@ invariant-loop-l g l =
     record {
       cheapest : AreCheapest l.l n (holds l.rows) (cost_weight kind n l.costs)
           (record { priced = l.priced; row = l.row }) (weight_at kind l.right);
-      bound : Bounded kind COST_LIMIT n l.right;
+      bound : AreValuesWithin kind COST_LIMIT n l.right;
     }

@@ -4,7 +4,7 @@ use Rattle.std.proofs.Common.{◌≡◌, ℕ, ◌<◌, true, ltb, length, replic
 use Rattle.std.proofs.Common.{arith}
 use Rattle.std.proofs.lemmas.Bool.{and_parts, ltb-true}
 use Rattle.cost.specs.declared.TheConstants.{COST_LIMIT, PRICE_LIMIT}
-use Rattle.cost.specs.Columns.{Within}
+use Rattle.cost.specs.Columns.{AreWithin}
 use Rattle.cost.proofs.Exact.{within_more}
 use Rattle.blockset.specs.Has.{has}
 use Rattle.pairing.specs.Rows.{holds}
@@ -53,7 +53,7 @@ price_rows-requires g c =
       lefts = omega (arith, c.grow.auto.dist, c.clear.auto.table, c.requires.lefts);
       rights = c.copy_from_slice.ensures.len ∙ c.requires.rights;
       pairs = λ l h. c.requires.paired.kept.pairs.standing l h refl;
-      far = λ k h. subst (λ z. Within DISTANCE_LIMIT (columns_at kind z k))
+      far = λ k h. subst (λ z. AreWithin DISTANCE_LIMIT (columns_at kind z k))
           (sym c.copy_from_slice.ensures.after) (c.grow.ensures.bound k (taken k h));
     }
 
@@ -76,7 +76,7 @@ returns g c =
       lefts = λ k h. within_more LEFT_PRICE_LIMIT PRICE_LIMIT
           (columns_at kind c.price_rows.new.left k)
           (omega arith) (c.price_rows.ensures.bound k h);
-      rights = λ k h. subst (λ z. Within PRICE_LIMIT (columns_at kind z k))
+      rights = λ k h. subst (λ z. AreWithin PRICE_LIMIT (columns_at kind z k))
           (sym c.copy_from_slice.ensures.after)
           (within_more DISTANCE_LIMIT PRICE_LIMIT (columns_at kind c.grow.new.dist k) (omega arith)
           (c.grow.ensures.bound k (taken k h)));

@@ -49,7 +49,7 @@ loop-step-preserved g c =
           (subst (λ s. HasHadFirstTurn kind rows costs s now then) start.1
           (first_turn kind rows costs o.out now then l least
           (step.paired.kept.holding.all l (omega arith)
-           (omega (arith, o.invariant.inside l least.1, step.paired.kept.pairs.len))) _
+          (omega (arith, o.invariant.inside l least.1, step.paired.kept.pairs.len))) _
           c.reduce_row.result step.reduced)))
           (λ done. turn_stays kind rows costs first.out was now then done step.goes_on)
           o.invariant.begun);

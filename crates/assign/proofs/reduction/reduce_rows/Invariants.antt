@@ -3,7 +3,7 @@
 use Rattle.std.proofs.Common.{◌≡◌, ℕ, ◌+◌, ◌*◌, ◌<◌, ◌⊎◌, true, length}
 use Rattle.cost.specs.declared.TheConstants.{COST_LIMIT}
 use Rattle.blockset.specs.Has.{has, IsEmpty}
-use Rattle.tables.specs.Said.{Bounded}
+use Rattle.tables.specs.Said.{AreValuesWithin}
 use Rattle.assign.specs.Pairs.{so_far, IsPriced}
 use Rattle.assign.specs.Bids.{HasGoneOn, HasHadFirstTurn}
 use Rattle.assign.proofs.reduction.reduce_rows.Given as goal
@@ -17,7 +17,8 @@ invariant-loop-step g l =
     record {
       inside : (m : ℕ) → has l.out m ≡ true → m < length l.rows;
       paired : IsPriced kind l.rows l.costs now;
-      bound : Bounded kind (COST_LIMIT + l._step * (2 * COST_LIMIT)) (length l.rows) l.right;
+      bound : AreValuesWithin kind (COST_LIMIT + l._step * (2 * COST_LIMIT)) (length l.rows)
+          l.right;
       partnered : length l.partners ≡ length l.rows;
       rights : length l.right ≡ length l.rows;
       goes_on : HasGoneOn kind was now;

@@ -10,7 +10,7 @@ use Rattle.std.proofs.lemmas.Int.{ints}
 use Rattle.std.proofs.lemmas.Bool.{and_parts, and_from, or_right, or_cases, both_ways}
 use Rattle.cost.specs.declared.TheConstants.{RAIL, HALF_RAIL, COST_LIMIT}
 use Rattle.cost.specs.declared.Cost.{Ghosts}
-use Rattle.cost.specs.Columns.{Within}
+use Rattle.cost.specs.Columns.{AreWithin}
 use Rattle.cost.proofs.Exact.{within_more}
 use Rattle.cost.specs.Weights.{weight}
 use Rattle.blockset.specs.Has.{has}
@@ -174,18 +174,18 @@ module _ {K : Type 0} (kind : Ghosts K) (costs dist : List K) (n l a t : ℕ) (f
     (x y z : K)
     (x-is : x ≡ get_or dist a x)
     (y-is : y ≡ get_or (take (l * n + n - l * n) (drop (l * n) costs)) a y)
-    (modest : Within COST_LIMIT (columns_at kind costs (place_of n l a)))
-    (far : Within (far_at t) (columns_at kind dist a)) where
+    (modest : AreWithin COST_LIMIT (columns_at kind costs (place_of n l a)))
+    (far : AreWithin (far_at t) (columns_at kind dist a)) where
   a_in_row : a < length (take (l * n + n - l * n) (drop (l * n) costs))
   a_in_row = omega (arith, row_length costs n l hl square)
 
-  dist_within : (b : ℕ) → far_at t ≤ b → Within b (kind.meaning x)
+  dist_within : (b : ℕ) → far_at t ≤ b → AreWithin b (kind.meaning x)
   dist_within b le = read_within kind (far_at t) b dist a x (omega arith) x-is le far
 
-  cost_within : (b : ℕ) → COST_LIMIT ≤ b → Within b (kind.meaning y)
+  cost_within : (b : ℕ) → COST_LIMIT ≤ b → AreWithin b (kind.meaning y)
   cost_within b le = read_within kind COST_LIMIT b
       (take (l * n + n - l * n) (drop (l * n) costs)) a y a_in_row y-is le
-      (subst (Within COST_LIMIT) (sym (columns_at_lem kind costs n l hl square a ha))
+      (subst (AreWithin COST_LIMIT) (sym (columns_at_lem kind costs n l hl square a ha))
       modest)
 
   shift_weighs : weight (kind.meaning z) ≡ weight (kind.meaning x) -ℤ weight (kind.meaning y)
@@ -196,9 +196,9 @@ module _ {K : Type 0} (kind : Ghosts K) (costs dist : List K) (n l a t : ℕ) (f
       a_in_row y-is ∙ columns_at_lem kind costs n l hl square a ha) in
       omega (arith, ints)
 
-  shift_within : ((b b' : ℕ) → Within b (kind.meaning x) → Within b' (kind.meaning y)
+  shift_within : ((b b' : ℕ) → AreWithin b (kind.meaning x) → AreWithin b' (kind.meaning y)
       → b + b' ≤ RAIL
-      → Within (b + b') (kind.meaning z)) → Within (far_at t + COST_LIMIT) (kind.meaning z)
+      → AreWithin (b + b') (kind.meaning z)) → AreWithin (far_at t + COST_LIMIT) (kind.meaning z)
   shift_within bound = bound (far_at t) COST_LIMIT (dist_within (far_at t) (omega arith))
       (cost_within COST_LIMIT (omega arith)) (omega arith)
 
@@ -257,7 +257,7 @@ offer_and_choose-next-requires g c =
       modest = record {
         few = omega (arith, long, c.requires.lent.few);
         block = omega (arith, hl, c.requires.lent.few);
-        costs = λ j r. subst (Within COST_LIMIT)
+        costs = λ j r. subst (AreWithin COST_LIMIT)
             (sym (columns_at_lem kind c.args.costs.now n l hl c.requires.lent.square j
             (c.requires.lent.inside l j hl (stands j r))))
             (c.requires.lent.modest l j hl (stands j r));
@@ -364,6 +364,6 @@ loop-t-preserved g c =
           c.offer_and_choose-next.ensures.found,
     )
   where
-    still_near : (t : ℕ) (xs : List ℤ) → Within (far_at t) xs
-        → Within (far_at t + COST_LIMIT + COST_LIMIT) xs
+    still_near : (t : ℕ) (xs : List ℤ) → AreWithin (far_at t) xs
+        → AreWithin (far_at t + COST_LIMIT + COST_LIMIT) xs
     still_near t xs = within_more (far_at t) (far_at t + COST_LIMIT + COST_LIMIT) xs (omega arith)

@@ -3,7 +3,7 @@ use Rattle.std.proofs.Common.{◌≡◌, ℕ, ◌+◌, ◌-◌, ◌*◌, length,
 use Rattle.std.proofs.Common.{◌∙◌, subst, arith}
 use Rattle.std.proofs.lemmas.Bool.{both_ways}
 use Rattle.cost.specs.declared.TheConstants.{COST_LIMIT}
-use Rattle.cost.specs.Columns.{Within}
+use Rattle.cost.specs.Columns.{AreWithin}
 use Rattle.cost.proofs.Exact.{zeros_within}
 use Rattle.cost.specs.Weights.{weight}
 use Rattle.cost.proofs.Weights.{weight_zeros}
@@ -24,9 +24,9 @@ zero_weighs g x e = ap (λ z. weight (g.K.Cost.meaning z)) e
     ∙ ap weight g.met.K.Cost.laws.zero_columns ∙ weight_zeros g.K.Cost.columns
 
 zero-within : (g : given.Over) (b : ℕ) (x : g.row.K.Denot) → x ≡ g.K.Cost.zero
-    → Within b (g.K.Cost.meaning x)
+    → AreWithin b (g.K.Cost.meaning x)
 zero-within g b x e =
-    subst (Within b) (sym (ap g.K.Cost.meaning e ∙ g.met.K.Cost.laws.zero_columns))
+    subst (AreWithin b) (sym (ap g.K.Cost.meaning e ∙ g.met.K.Cost.laws.zero_columns))
     (zeros_within b g.K.Cost.columns)
 
 pub offer_all-requires : goal.offer_all-requires
@@ -39,7 +39,7 @@ offer_all-requires g c =
       modest = record {
         few = omega (arith, long, c.requires.lent.few);
         block = omega (arith, c.requires.room, c.requires.lent.few);
-        costs = λ j r. subst (Within COST_LIMIT)
+        costs = λ j r. subst (AreWithin COST_LIMIT)
             (sym (columns_at_lem kind c.args.costs.now n k c.requires.room c.requires.lent.square j
             (c.requires.lent.inside k j c.requires.room r)))
             (c.requires.lent.modest k j c.requires.room r);

@@ -6,7 +6,7 @@ use Rattle.std.proofs.lemmas.Int.{ints}
 use Rattle.std.proofs.lemmas.Bool.{cases_eq}
 use Rattle.cost.specs.declared.TheConstants.{COST_LIMIT, HALF_RAIL}
 use Rattle.cost.specs.declared.Cost.{Ghosts}
-use Rattle.cost.specs.Columns.{Within}
+use Rattle.cost.specs.Columns.{AreWithin}
 use Rattle.cost.proofs.Exact.{within_more}
 use Rattle.cost.specs.Weights.{weight}
 use Rattle.blockset.specs.Has.{has}
@@ -78,7 +78,7 @@ offer_one-far-requires g c =
       sized = c.loop-c.auto.dist ∙ c.requires.sized;
       inside = c.requires.inside i member;
       known = within_more DISTANCE_LIMIT HALF_RAIL (columns_at g.K.Cost c.loop-c.dist i)
-          (omega arith) (subst (Within DISTANCE_LIMIT) (sym waits) (c.requires.far i member));
+          (omega arith) (subst (AreWithin DISTANCE_LIMIT) (sym waits) (c.requires.far i member));
     }
 
 pub exact_difference-key-requires : goal.exact_difference-key-requires
@@ -90,11 +90,11 @@ exact_difference-key-requires g c =
     let inside = c.requires.inside c.in-Some.c member in
     let far = c.offer_one-far.ensures.bound SHIFT_LIMIT c.requires.modest.shift (omega arith)
     (within_more DISTANCE_LIMIT (SHIFT_LIMIT + COST_LIMIT) (columns_at kind c.loop-c.dist i)
-    (omega arith) (subst (Within DISTANCE_LIMIT) (sym waits) (c.requires.far i member))) in
+    (omega arith) (subst (AreWithin DISTANCE_LIMIT) (sym waits) (c.requires.far i member))) in
     record {
       first = within_more (SHIFT_LIMIT + COST_LIMIT) HALF_RAIL (kind.meaning c.offer_one-far.result)
           (omega arith)
-          (subst (Within (SHIFT_LIMIT + COST_LIMIT)) (sym c.offer_one-far.ensures.answer) far);
+          (subst (AreWithin (SHIFT_LIMIT + COST_LIMIT)) (sym c.offer_one-far.ensures.answer) far);
       second = read_within kind INNER_PRICE_LIMIT HALF_RAIL c.args.right.now i
           c.index-right-c.result (omega (arith, c.requires.rights)) c.index-right-c.is
           (omega arith) (c.requires.priced i inside);
@@ -110,7 +110,7 @@ is_less-requires g c =
     let one = c.offer_one-far.ensures in
     let far = one.bound SHIFT_LIMIT c.requires.modest.shift (omega arith)
     (within_more DISTANCE_LIMIT (SHIFT_LIMIT + COST_LIMIT) (columns_at kind c.loop-c.dist i)
-    (omega arith) (subst (Within DISTANCE_LIMIT) (sym waits) (c.requires.far i member))) in
+    (omega arith) (subst (AreWithin DISTANCE_LIMIT) (sym waits) (c.requires.far i member))) in
     let reach = key_reaches kind c.offer_one-far.new.dist c.args.right.now i c.offer_one-far.result
     c.index-right-c.result c.exact_difference-key.result (omega (arith, c.requires.rights))
     one.answer c.index-right-c.is c.exact_difference-key.ensures.bound in
@@ -135,7 +135,7 @@ loop-c-preserved-then-is_less g c =
     let one = c.offer_one-far.ensures in
     let far = one.bound SHIFT_LIMIT c.requires.modest.shift (omega arith)
     (within_more DISTANCE_LIMIT (SHIFT_LIMIT + COST_LIMIT) (columns_at kind c.loop-c.dist i)
-    (omega arith) (subst (Within DISTANCE_LIMIT) (sym waits) (c.requires.far i member))) in
+    (omega arith) (subst (AreWithin DISTANCE_LIMIT) (sym waits) (c.requires.far i member))) in
     let reach = key_reaches kind c.offer_one-far.new.dist c.args.right.now i c.offer_one-far.result
     c.index-right-c.result c.exact_difference-key.result in-right
     one.answer c.index-right-c.is c.exact_difference-key.ensures.bound in
@@ -214,7 +214,7 @@ loop-c-preserved g c =
           c.loop-c.block (weight (kind.meaning c.loop-c.lowest)) c.loop-c.invariant.3
           (λ j ne. ap weight (one.others j ne).0) (ap weight same) (omega (arith, ints)),
       c.loop-c.invariant.4,
-      λ x y far priced le. c.loop-c.invariant.5 x y (subst (Within x) same far) priced le,
+      λ x y far priced le. c.loop-c.invariant.5 x y (subst (AreWithin x) same far) priced le,
     )
 
 pub returns : goal.returns

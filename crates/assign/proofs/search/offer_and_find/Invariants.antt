@@ -1,6 +1,6 @@
 -- What is not left in the iterator was offered its way, and `block` is the nearest of it; each turn
 -- takes one right block out. No key is far.
-use Rattle.cost.specs.Columns.{Within}
+use Rattle.cost.specs.Columns.{AreWithin}
 use Rattle.cost.specs.Weights.{weight}
 use Rattle.blockset.specs.Has.{has}
 use Rattle.pairing.specs.Grid.{at}
@@ -22,5 +22,5 @@ invariant-loop-c g l =
     (columns_at kind l.dist) (at l.via)
     × Nearing (has l.fn.set) (weight_at kind l.right) (weight_at kind l.dist) (has l.c-iterator)
     l.block (weight (kind.meaning l.lowest))
-    × Within KEY_LIMIT (kind.meaning l.lowest)
+    × AreWithin KEY_LIMIT (kind.meaning l.lowest)
     × KeyReach kind l.right l.dist l.block l.lowest

@@ -4,7 +4,7 @@ use Rattle.std.proofs.lemmas.List.{get_or-set_same, get_or-set_other}
 use Rattle.std.proofs.lemmas.Int.{ints}
 use Rattle.std.proofs.lemmas.Bool.{both_ways}
 use Rattle.cost.specs.declared.TheConstants.{COST_LIMIT, HALF_RAIL}
-use Rattle.cost.specs.Columns.{Within}
+use Rattle.cost.specs.Columns.{AreWithin}
 use Rattle.cost.proofs.Exact.{within_more}
 use Rattle.cost.specs.Weights.{weight}
 use Rattle.blockset.specs.Has.{has}
@@ -25,7 +25,7 @@ is_less-requires-clause-first g c =
     within_more (SHIFT_LIMIT + COST_LIMIT) HALF_RAIL (kind.meaning c.exact_sum-way.result)
     (omega arith)
     (c.exact_sum-way.ensures.bound SHIFT_LIMIT COST_LIMIT c.requires.modest.shift
-    (subst (Within COST_LIMIT) (sym cost-is) (c.requires.modest.costs i member)) (omega arith))
+    (subst (AreWithin COST_LIMIT) (sym cost-is) (c.requires.modest.costs i member)) (omega arith))
 
 pub returns : goal.returns
 returns g c =
@@ -59,8 +59,8 @@ returns g c =
       );
       answer = sym here;
       nearer = inr (omega (arith, ints));
-      bound = λ b s le _. subst (Within (b + COST_LIMIT)) (sym here)
+      bound = λ b s le _. subst (AreWithin (b + COST_LIMIT)) (sym here)
           (c.exact_sum-way.ensures.bound b COST_LIMIT s
-          (subst (Within COST_LIMIT) (sym cost-is) (c.requires.modest.costs i member))
+          (subst (AreWithin COST_LIMIT) (sym cost-is) (c.requires.modest.costs i member))
           (omega arith));
     }

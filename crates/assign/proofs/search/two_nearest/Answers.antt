@@ -6,14 +6,14 @@ use Rattle.std.proofs.lemmas.Int.{ints}
 use Rattle.std.proofs.lemmas.Bool.{cases_eq, both_ways}
 use Rattle.cost.specs.declared.Cost.{Ghosts}
 use Rattle.cost.specs.declared.TheConstants.{HALF_RAIL}
-use Rattle.cost.specs.Columns.{Within}
+use Rattle.cost.specs.Columns.{AreWithin}
 use Rattle.cost.proofs.Exact.{within_more}
 use Rattle.cost.specs.Weights.{weight}
 use Rattle.blockset.specs.Has.{has}
 use Rattle.blockset.proofs.Removing.{still_in, gone}
 use Rattle.assign.specs.declared.limits.TheConstants.{DISTANCE_LIMIT, KEY_LIMIT, INNER_PRICE_LIMIT}
 use Rattle.assign.specs.declared.tree.Nearby.{Nearby}
-use Rattle.tables.specs.Said.{Bounded}
+use Rattle.tables.specs.Said.{AreValuesWithin}
 use Rattle.assign.specs.Weighed.{weight_at, BoundedOn}
 use Rattle.assign.specs.Offers.{KeyReach}
 use Rattle.assign.proofs.Seconding.{Seconding, seconding_first, seconding_second, seconding_keep}
@@ -24,14 +24,14 @@ use Rattle.assign.proofs.search.two_nearest.Goals as goal
 module _ {K : Type 0} (kind : Ghosts K) (set : ℕ → Bool) (dist right : List K)
     (inside : (c : ℕ) → set c ≡ true → c < length dist)
     (far : BoundedOn kind DISTANCE_LIMIT set dist)
-    (priced : Bounded kind INNER_PRICE_LIMIT (length dist) right) where
+    (priced : AreValuesWithin kind INNER_PRICE_LIMIT (length dist) right) where
   near_key : (i : ℕ) (key : K) → set i ≡ true → KeyReach kind right dist i key
-      → Within KEY_LIMIT (kind.meaning key)
+      → AreWithin KEY_LIMIT (kind.meaning key)
   near_key i key s reach = reach DISTANCE_LIMIT INNER_PRICE_LIMIT (far i s) (priced i (inside i s))
       (omega arith)
 
   half_key : (i : ℕ) (key : K) → set i ≡ true → KeyReach kind right dist i key
-      → Within HALF_RAIL (kind.meaning key)
+      → AreWithin HALF_RAIL (kind.meaning key)
   half_key i key s reach = within_more KEY_LIMIT HALF_RAIL (kind.meaning key) (omega arith)
       (near_key i key s reach)
 

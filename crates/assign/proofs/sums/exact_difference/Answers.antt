@@ -2,7 +2,7 @@
 -- the weights.
 use Rattle.std.proofs.Common.{◌+◌, List, ℤ, sym, ap, ◌∙◌, subst, arith}
 use Rattle.cost.specs.declared.TheConstants.{HALF_RAIL}
-use Rattle.cost.specs.Columns.{Within}
+use Rattle.cost.specs.Columns.{AreWithin}
 use Rattle.cost.proofs.Exact.{exact, minus-within}
 use Rattle.cost.specs.Weights.{weight}
 use Rattle.cost.proofs.Weights.{weight_minus}
@@ -20,6 +20,6 @@ returns g c =
           c.requires.second).1
           ∙ weight_minus a b (g.met.K.Cost.laws.column_count c.args.a
           ∙ sym (g.met.K.Cost.laws.column_count c.args.b));
-      bound = λ x y h k l. subst (λ (z : List ℤ). Within (x + y) z)
+      bound = λ x y h k l. subst (λ (z : List ℤ). AreWithin (x + y) z)
           (sym (e ∙ (exact x y a b l h k).1)) (minus-within x y a b h k);
     }

@@ -5,7 +5,7 @@ use Rattle.std.proofs.lemmas.Result.{err_from_is_err_and}
 use Rattle.sheet.specs.Needs.{IsFirstUnmet}
 use Rattle.sheet.specs.Refusals.{fault}
 use Rattle.sheet.specs.declared.fault.Cause.TheVariants.{ShortBuffer}
-use Rattle.orderfile.specs.Loading.{grid_stated}
+use Rattle.orderfile.specs.Loading.{stated_grid}
 use Rattle.orderfile.proofs.Ends.{checked_err, checked_ok}
 use Rattle.chost.specs.Answers.{AnswersHost, call_needs}
 use Rattle.chost.specs.declared.answering.HostCall.{HostCall}
@@ -27,7 +27,7 @@ returns-then-out-size c =
     let out = c.args.out.now in
     answers_stated c.args.call c.args.file.now out c.check.ensures.verdict o.0 o.1
     (Err c.at.result) out (
-      subst (IsFirstUnmet (call_needs (grid_stated o.0) out c.args.call)) (sym c.at.ensures)
+      subst (IsFirstUnmet (call_needs (stated_grid o.0) out c.args.call)) (sym c.at.ensures)
           (short_buffer o.0 out (omega (arith, o.2, c.if-out-size.true)) c.args.call),
       refl,
     )

@@ -1,7 +1,7 @@
 -- The list is the front of the buffer, and so is the one that follows it afterwards. The walk has
 -- the size of the sheet that it was started from.
 use Rattle.std.proofs.Common.{◌≡◌, ◌<◌, length, take, sym, ap, ◌∙◌, subst}
-use Rattle.pairing.specs.Grid.{Optimum}
+use Rattle.pairing.specs.Grid.{IsOptimum}
 use Rattle.pairing.specs.Optima.{optima}
 use Rattle.matching.specs.Answers.{Follows}
 use Rattle.sheet.specs.Size.{Sheet, size_of}
@@ -38,7 +38,7 @@ returns g c =
     ∙ ap (λ k. take k out) c.in_ok-walk.ensures.optimum.perfect.len in
     let long = step.optimum.perfect.len in
     let wrote = c.write_blocks.ensures in (
-      subst (Optimum (grid g.K.Cost (t s))) list met.1.0.1,
+      subst (IsOptimum (grid g.K.Cost (t s))) list met.1.0.1,
       record {
         written = subst (λ p. Follows (optima (grid g.K.Cost (t s))) (take n out) p
             c.in_ok-step.step)

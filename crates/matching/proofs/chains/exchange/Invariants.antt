@@ -3,7 +3,7 @@ use Rattle.std.proofs.Common.{◌≡◌, ℕ, ◌≤◌, true, length}
 use Rattle.blockset.specs.declared.TheConstants.{SET_WIDTH}
 use Rattle.blockset.specs.Has.{has}
 use Rattle.pairing.specs.Grid.{at}
-use Rattle.matching.specs.Exchange.{Holding}
+use Rattle.matching.specs.Exchange.{AreHolders}
 use Rattle.matching.proofs.Exchanging.{Exchanging, Telling}
 use Rattle.matching.proofs.chains.exchange.Given as goal
 
@@ -12,7 +12,7 @@ invariant-chain l = record {
   way : Exchanging l.initial.p (has l.out) l.reach l.goal l.p l.block;
   same : l.holders.held ≡ l.initial.holders.held;
   sized : length l.holders.owner ≡ SET_WIDTH;
-  told : (k : ℕ) → Holding k l.initial.p (has l.out) l.fn.holders
+  told : (k : ℕ) → AreHolders k l.initial.p (has l.out) l.fn.holders
       → ((c : ℕ) → has l.reach.reached c ≡ true → k ≤ at l.reach.from c)
       → Telling l.initial.p (has l.out) l.reach k l.p l.holders l.block;
 }

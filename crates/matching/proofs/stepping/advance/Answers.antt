@@ -2,8 +2,8 @@
 -- the next pairing is made. Both tell the place in the list.
 use Rattle.std.proofs.Common.{◌≡◌, ◌+◌, ◌-◌, sym, refl, ◌∙◌, subst, arith}
 use Rattle.blockset.specs.Has.{has}
-use Rattle.pairing.specs.Optima.{Before}
-use Rattle.pairing.specs.Rows.{Pairs}
+use Rattle.pairing.specs.Optima.{IsBefore}
+use Rattle.pairing.specs.Rows.{IsPerfectOver}
 use Rattle.matching.specs.Improving.{HasWantedFrom}
 use Rattle.matching.proofs.Held.{held_start}
 use Rattle.matching.proofs.Order.{IsNext, IsExhausted, exhausted_start, exhausted_more, next_is}
@@ -25,7 +25,8 @@ returns-then-raise c =
     let i = c.loop-l.invariant in
     let l = c.loop-l.l - 1 in
     let up : c.loop-l.l ≡ l + 1 = omega arith in
-    let pairs : Pairs rows c.loop-l.p = subst (Pairs rows) (sym i.same) c.requires.pairs in
+    let pairs : IsPerfectOver rows c.loop-l.p = subst (IsPerfectOver rows) (sym i.same)
+    c.requires.pairs in
     let next : IsNext rows c.args.p.now c.make_first_from.new.p =
     subst (λ x. IsNext rows x c.make_first_from.new.p) i.same
     (next_is rows c.loop-l.p pairs l (omega arith)
@@ -40,7 +41,8 @@ loop-l-preserved c =
     let i = c.loop-l.invariant in
     let l = c.loop-l.l - 1 in
     let up : c.loop-l.l ≡ l + 1 = omega arith in
-    let pairs : Pairs rows c.loop-l.p = subst (Pairs rows) (sym i.same) c.requires.pairs in
+    let pairs : IsPerfectOver rows c.loop-l.p = subst (IsPerfectOver rows) (sym i.same)
+    c.requires.pairs in
     let stuck = c.if-raise.ensures.improved in
     record {
       same = stuck.same ∙ i.same;
@@ -62,6 +64,6 @@ returns c =
       w.0,
       w.1,
       last_place rows w.0 p w.1 (λ q g b. i.exhausted q g (λ _ h. absurd (omega arith))
-          (subst (λ x. Before x q) (sym i.same) b)),
+          (subst (λ x. IsBefore x q) (sym i.same) b)),
       i.same,
     )

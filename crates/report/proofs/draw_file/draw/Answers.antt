@@ -1,7 +1,7 @@
 -- What is told of a loaded sheet is told of the order that the file states, and a refusal of the
 -- file's first fault.
 use Rattle.std.proofs.Common.{ℕ, string_bytes, subst}
-use Rattle.orderfile.specs.Loading.{plain_grid, cost_stated, grid_stated}
+use Rattle.orderfile.specs.Loading.{plain_grid, stated_cost, stated_grid}
 use Rattle.refusal_words.specs.Words.{explanation}
 use Rattle.report.specs.Text.{cost_in}
 use Rattle.report.specs.Drawing.{IsMap}
@@ -15,7 +15,7 @@ returns-in-Ok c =
     let costs = sheet.costs.items in
     let standing = sheet.standing.items in
     let loaded = rw c.in-Ok.is at c.in_ok-loaded.ensures in
-    reports_loaded (λ order. IsMap (cost_stated order.pairs) (grid_stated order)) explanation
+    reports_loaded (λ order. IsMap (stated_cost order.pairs) (stated_grid order)) explanation
     c.args.file.now string_bytes c.draw_sheet.result sheet loaded
     (IsMap (cost_in sheet.sheet.size costs standing)
     (plain_grid sheet.sheet.size costs standing))
@@ -27,5 +27,5 @@ returns-in-Ok c =
 pub returns-in-Err : goal.returns-in-Err
 returns-in-Err c =
     let first = rw c.in-Err.is at c.in_ok-loaded.ensures in
-    reports_fault (λ order. IsMap (cost_stated order.pairs) (grid_stated order)) explanation
+    reports_fault (λ order. IsMap (stated_cost order.pairs) (stated_grid order)) explanation
     c.args.file.now string_bytes c.explain.result c.in-Err.fault first c.explain.ensures

@@ -6,8 +6,8 @@ use Rattle.cost.specs.declared.plain_kind.Plain.{Plain}
 use Rattle.sheet.specs.Size.{Sheet}
 use Rattle.sheet.specs.declared.fault.Fault.{Fault}
 use Rattle.tables.specs.PairTables.{HavePlaces}
-use Rattle.orderfile.specs.Format.{Order}
-use Rattle.orderfile.specs.Loading.{Accepted}
+use Rattle.orderfile.specs.Format.{StatedOrder}
+use Rattle.orderfile.specs.Loading.{LoadsOrder}
 use Rattle.orderfile.proofs.Ends.{checked_err}
 use Rattle.orderfile.proofs.LoadedGrid.{loaded_ok, loaded_err}
 use Rattle.report.proofs.fresh_tables.load_afresh.Goals as goal
@@ -16,10 +16,10 @@ pub returns-in-Err : goal.returns-in-Err
 returns-in-Err c = checked_err c.args.file.now c.in-Err.fault c.in-Err.ensures
 
 -- the tables are the whole of two others
-whole : (order : Order) (r : Result Sheet Fault) (costs more : List Plain)
+whole : (order : StatedOrder) (r : Result Sheet Fault) (costs more : List Plain)
     (standing others : List ℕ) (k m : ℕ) → length costs ≡ k → length standing ≡ m
-    → Accepted order r costs standing
-    → Accepted order r (take k (costs ++ more)) (take m (standing ++ others))
+    → LoadsOrder order r costs standing
+    → LoadsOrder order r (take k (costs ++ more)) (take m (standing ++ others))
 whole order r costs more standing others k m long as_long h =
     rw (take_at costs more k long, take_at standing others m as_long) h
 

@@ -1,7 +1,7 @@
 -- What is told of a loaded sheet is told of the order that the file states, and a refusal of the
 -- file's first fault.
 use Rattle.std.proofs.Common.{◌≡◌, string_bytes, ap, ◌∙◌}
-use Rattle.orderfile.specs.Loading.{plain_grid, grid_stated}
+use Rattle.orderfile.specs.Loading.{plain_grid, stated_grid}
 use Rattle.orderfile.proofs.LoadedGrid.{loaded_alike}
 use Rattle.report.specs.Listing.{cause_line, listing_text}
 use Rattle.report.proofs.Described.{reports_loaded, reports_fault}
@@ -15,17 +15,17 @@ returns-in-Ok c =
     let standing = sheet.standing.items in
     let loaded = rw c.in-Ok.is at c.in_ok-loaded.ensures in
     let order = loaded.order in
-    reports_loaded (λ order text. text ≡ listing_text (grid_stated order))
+    reports_loaded (λ order text. text ≡ listing_text (stated_grid order))
     (λ f. cause_line f.cause) c.args.file.now string_bytes c.list_sheet.result sheet loaded
     (λ text. text ≡ listing_text (plain_grid sheet.sheet.size costs standing))
     (λ text e. e ∙ ap (λ k. listing_text (plain_grid k costs standing)) loaded.size
-    ∙ listing_same (plain_grid order.size costs standing) (grid_stated order)
+    ∙ listing_same (plain_grid order.size costs standing) (stated_grid order)
     (loaded_alike order _ costs standing loaded.accepted))
     c.list_sheet.ensures
 
 pub returns-in-Err : goal.returns-in-Err
 returns-in-Err c =
     let first = rw c.in-Err.is at c.in_ok-loaded.ensures in
-    reports_fault (λ order text. text ≡ listing_text (grid_stated order))
+    reports_fault (λ order text. text ≡ listing_text (stated_grid order))
     (λ f. cause_line f.cause) c.args.file.now string_bytes c.cause_line.result c.in-Err.fault first
     c.cause_line.ensures

@@ -4,19 +4,20 @@ use Rattle.std.proofs.Common.{◌≡◌, ◌+◌, Ordering, Less, Equal, Greater
 use Rattle.std.proofs.Common.{ap, ◌∙◌, subst, arith}
 use Rattle.std.specs.Ordering.{ordering_reverse, is_lt, is_eq, is_gt}
 use Rattle.cost.specs.declared.TheConstants.{HALF_RAIL, PRICE_LIMIT}
-use Rattle.cost.specs.Columns.{Within, plus, sums, lex}
+use Rattle.cost.specs.Columns.{AreWithin, plus, sums, lex}
 use Rattle.cost.proofs.Exact.{exact, plus-within, within_more}
 use Rattle.cost.proofs.Order.{lex_mirror}
 use Rattle.tables.proofs.sound.compare_prices.Goals as goal
 
 -- the sum of two prices is exact, and near
-module _ (left right sum : List ℤ) (l : Within PRICE_LIMIT left) (r : Within PRICE_LIMIT right)
+module _ (left right sum : List ℤ) (l : AreWithin PRICE_LIMIT left) (r : AreWithin PRICE_LIMIT
+    right)
     (is : sum ≡ sums left right) where
   sum_exact : sum ≡ plus left right
   sum_exact = is ∙ (exact PRICE_LIMIT PRICE_LIMIT left right (omega arith) l r).0
 
-  sum_near : Within HALF_RAIL sum
-  sum_near = subst (Within HALF_RAIL) (sym sum_exact)
+  sum_near : AreWithin HALF_RAIL sum
+  sum_near = subst (AreWithin HALF_RAIL) (sym sum_exact)
       (within_more (PRICE_LIMIT + PRICE_LIMIT) HALF_RAIL (plus left right) (omega arith)
       (plus-within PRICE_LIMIT PRICE_LIMIT left right l r))
 

@@ -4,7 +4,7 @@ use Rattle.std.proofs.Common.{◌≡◌, ◌<◌, ◌+◌, length, slice_index_o
 use Rattle.std.proofs.Common.{◌∙◌, subst, arith}
 use Rattle.std.proofs.lemmas.Bool.{false≢true}
 use Rattle.cost.specs.declared.TheConstants.{PRICE_LIMIT}
-use Rattle.cost.specs.Columns.{Within}
+use Rattle.cost.specs.Columns.{AreWithin}
 use Rattle.tables.specs.Lent.{lent, ArePriced}
 use Rattle.tables.specs.Sound.{IsSound}
 use Rattle.tables.proofs.Filling.{value_at}
@@ -17,7 +17,7 @@ sound_row-requires-clause-left_near g c =
     let l = c.loop-l.l in
     let priced = subst (ArePriced g.K.Cost) (sym c.tables.view_is) c.requires.priced in
     let inside : l < t.size = omega (arith, ap (λ u. u.size) c.tables.view_is) in
-    subst (Within PRICE_LIMIT) (sym (value_at g.K.Cost t.left.now l
+    subst (AreWithin PRICE_LIMIT) (sym (value_at g.K.Cost t.left.now l
     (slice_index_or t.left.now l c.index-tables-l.result) (omega (arith, priced.room.left_long))
     (ap (slice_index_or t.left.now l) c.index-tables-l.is))) (priced.left_near l inside)
 

@@ -3,9 +3,9 @@
 use Rattle.std.proofs.Common.{List, ℕ, ◌+◌, sym, refl, ap, ◌∙◌, subst}
 use Rattle.std.proofs.lemmas.Bool.{false≢true}
 use Rattle.std.proofs.lemmas.Bool.Decides.{not_from_Decides}
-use Rattle.pairing.specs.Grid.{Grid, Optimum}
+use Rattle.pairing.specs.Grid.{Grid, IsOptimum}
 use Rattle.pairing.specs.Optima.{optima}
-use Rattle.pairing.specs.Rows.{Pairs, pairings}
+use Rattle.pairing.specs.Rows.{IsPerfectOver, pairings}
 use Rattle.matching.specs.Answers.{Follows}
 use Rattle.matching.specs.declared.stepping.Step.{Step}
 use Rattle.matching.specs.declared.stepping.Step.TheVariants.{Next, End}
@@ -16,9 +16,9 @@ use Rattle.walk.proofs.fitting.step_fitting.Goals as goal
 
 -- what a step leaves in its list is an optimum pairing
 step_optimum : (g : Grid) (before after : List ℕ) (s : Step)
-    → Follows (optima g) before after s → Optimum g after
+    → Follows (optima g) before after s → IsOptimum g after
 step_optimum g before after Next h = nth_optimum g (h.0 + 1) after h.2
-step_optimum g before after End h = subst (Optimum g) (sym h.3) (nth_optimum g h.0 before h.1)
+step_optimum g before after End h = subst (IsOptimum g) (sym h.3) (nth_optimum g h.0 before h.1)
 
 pub returns-then-not-pairs_each_row-clause-accepted :
     goal.returns-then-not-pairs_each_row-clause-accepted
@@ -26,7 +26,8 @@ returns-then-not-pairs_each_row-clause-accepted g c =
     let walk = c.args.walk.now in (
       λ e. absurd (false≢true e),
       λ h. absurd (not_from_Decides c.pairs_each_row.result c.pairs_each_row.ensures
-          c.if-not-pairs_each_row.true (subst (λ rs. Pairs rs walk) (sym c.as_slice.ensures.rows)
+          c.if-not-pairs_each_row.true (subst (λ rs. IsPerfectOver rs walk) (sym
+          c.as_slice.ensures.rows)
           ((optimum_over g.K.Cost c.args.tables.now c.in-Some.rows c.in-Some.ensures.certified
           walk).1 h.1))),
     )
@@ -38,7 +39,7 @@ returns-clause-accepted g c =
       λ _. (
         known.together,
         (optimum_over g.K.Cost c.args.tables.now c.in-Some.rows known walk).0
-            (subst (λ rs. Pairs rs walk) c.as_slice.ensures.rows
+            (subst (λ rs. IsPerfectOver rs walk) c.as_slice.ensures.rows
             (c.pairs_each_row.ensures.0 c.if-not-pairs_each_row.false)),
       ),
       λ _. refl,

@@ -1,7 +1,7 @@
 -- A turn adds the cost of one pair more.
 use Rattle.std.proofs.Common.{get_or, sym, ap, ◌∙◌, subst, arith}
 use Rattle.tables.specs.Lent.{lent}
-use Rattle.tables.specs.Together.{Together}
+use Rattle.tables.specs.Together.{HoldTogether}
 use Rattle.sheet.proofs.Totals.{sum_of_more}
 use Rattle.sheet.proofs.state.SettledSheet.total.Goals as goal
 
@@ -9,7 +9,7 @@ pub loop-l-preserved : goal.loop-l-preserved
 loop-l-preserved g c =
     let t = lent c.size-n.result c.args.costs.now c.args.standing.now c.args.partners.now
     c.args.left.now c.args.right.now in
-    let together = subst (Together g.K.Cost) (c.lend.ensures
+    let together = subst (HoldTogether g.K.Cost) (c.lend.ensures
     ∙ ap (λ n. lent n c.args.costs.now c.args.standing.now c.args.partners.now c.args.left.now
     c.args.right.now) (sym c.size-n.ensures.value)) c.in_ok-check.ensures.0.1.0 in
     let x = c.index-costs-place.result in
