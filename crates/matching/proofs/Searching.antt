@@ -114,6 +114,14 @@ module _ {rows : List BlockSet} {b : Bounds} {h : Holders} {x : Reach} {pending 
     old : (j : ℕ) → has reached j ≡ true → (j ≡ c → ⊥) → has x.reached j ≡ true
     old = old_from (has x.reached) (has reached) c r.is
 
+    -- what holds of the new right block, and of the old ones, holds of all
+    each : (P : ℕ → Type 0) → P c → ((j : ℕ) → has x.reached j ≡ true → P j) → (j : ℕ)
+        → has reached j ≡ true → P j
+    each P here there j t = elim (cases_eq j c) [
+      | inl e ↦ subst P (sym e) here
+      | inr ne ↦ there j (old j t ne)
+    ]
+
     apart : (j : ℕ) → has x.reached j ≡ true → j ≡ c → ⊥
     apart j t e = both_ways (has x.reached j) (ap (has x.reached) e ∙ r.new) t
 
@@ -125,20 +133,21 @@ module _ {rows : List BlockSet} {b : Bounds} {h : Holders} {x : Reach} {pending 
     from_here : at next.from c ≡ l
     from_here = get_or-set_same x.from c l 0 (omega (arith, s.sized_from, r.inside, r.few))
 
-    from_old : (j : ℕ) → (j ≡ c → ⊥) → at next.from j ≡ at x.from j
-    from_old j ne = get_or-set_other x.from c j l 0 ne
+    from_old : (j : ℕ) → has x.reached j ≡ true → at next.from j ≡ at x.from j
+    from_old j t = get_or-set_other x.from c j l 0 (apart j t)
 
     rank_here : at next.rank c ≡ members SET_WIDTH (has x.reached)
     rank_here = get_or-set_same x.rank c (members SET_WIDTH (has x.reached)) 0
         (omega (arith, s.sized_rank, r.inside, r.few))
 
-    rank_old : (j : ℕ) → (j ≡ c → ⊥) → at next.rank j ≡ at x.rank j
-    rank_old j ne = get_or-set_other x.rank c j (members SET_WIDTH (has x.reached)) 0 ne
+    rank_old : (j : ℕ) → has x.reached j ≡ true → at next.rank j ≡ at x.rank j
+    rank_old j t =
+        get_or-set_other x.rank c j (members SET_WIDTH (has x.reached)) 0 (apart j t)
 
     -- one that was reached before has a lesser rank
     rank_less : (j : ℕ) → has x.reached j ≡ true
         → at next.rank j < members SET_WIDTH (has x.reached)
-    rank_less j t = omega (arith, rank_old j (apart j t), s.ways.ranked j t)
+    rank_less j t = omega (arith, rank_old j t, s.ways.ranked j t)
 
     Back : ℕ → ℕ → Type 0
     Back m k = (has b.roots m ≡ true)
@@ -157,33 +166,23 @@ module _ {rows : List BlockSet} {b : Bounds} {h : Holders} {x : Reach} {pending 
     back_old j t = elim (s.ways.back j t) [
       | inl f ↦ inl f
       | inr w ↦
-          inr (w.0, more w.0 w.1, w.2, w.3, rw (rank_old w.0 (apart w.0 w.1)) w.4)
+          inr (w.0, more w.0 w.1, w.2, w.3, rw (rank_old w.0 w.1) w.4)
     ]
 
-    -- what holds of the new right block and its left block, and of the old ones, holds of all
     pub search_ways : (goal : Option ℕ) → IsReach rows b h (record next { goal = goal })
     unfolding Back
     search_ways goal = record {
-      high = λ j t. elim (cases_eq j c) [
-        | inl e ↦ rw (e, from_here) (s.inside l r.waits)
-        | inr ne ↦ rw (from_old j ne) (s.ways.high j (old j t ne))
-      ];
-      small = λ j t. elim (cases_eq j c) [
-        | inl e ↦ rw e r.inside
-        | inr ne ↦ s.ways.small j (old j t ne)
-      ];
-      by = λ j t. elim (cases_eq j c) [
-        | inl e ↦ rw (e, from_here) r.leads
-        | inr ne ↦ rw (from_old j ne) (s.ways.by j (old j t ne))
-      ];
-      back = λ j t. elim (cases_eq j c) [
-        | inl e ↦ rw (e, from_here, rank_here) back_here
-        | inr ne ↦ rw (from_old j ne, rank_old j ne) (back_old j (old j t ne))
-      ];
-      ranked = λ j t. elim (cases_eq j c) [
-        | inl e ↦ rw (e, rank_here) (omega (arith, search_grown))
-        | inr ne ↦ omega (arith, search_grown, rank_less j (old j t ne))
-      ];
+      high = each (λ j. at next.from j < length rows) (rw from_here (s.inside l r.waits))
+          (λ j t. rw (from_old j t) (s.ways.high j t));
+      small = each (λ j. j < length rows) r.inside s.ways.small;
+      by = each (λ j. is_along rows b (at next.from j) j ≡ true) (rw from_here r.leads)
+          (λ j t. rw (from_old j t) (s.ways.by j t));
+      back = each (λ j. Back (at next.from j) (at next.rank j))
+          (rw (from_here, rank_here) back_here)
+          (λ j t. rw (from_old j t, rank_old j t) (back_old j t));
+      ranked = each (λ j. at next.rank j < members SET_WIDTH (has reached))
+          (omega (arith, rank_here, search_grown))
+          (λ j t. omega (arith, search_grown, rank_less j t));
       once = λ j k t u e. elim (cases_eq j c) [
         | inl a ↦ elim (cases_eq k c) [
           | inl d ↦ a ∙ sym d
@@ -193,7 +192,8 @@ module _ {rows : List BlockSet} {b : Bounds} {h : Holders} {x : Reach} {pending 
         | inr a ↦ elim (cases_eq k c) [
           | inl d ↦ absurd (omega
               (arith, rank_less j (old j t a), e, ap (at next.rank) d ∙ rank_here))
-          | inr d ↦ s.ways.once j k (old j t a) (old k u d) (sym (rank_old j a) ∙ e ∙ rank_old k d)
+          | inr d ↦ s.ways.once j k (old j t a) (old k u d)
+              (sym (rank_old j (old j t a)) ∙ e ∙ rank_old k (old k u d))
         ]
       ];
     }
@@ -224,15 +224,11 @@ module _ {rows : List BlockSet} {b : Bounds} {h : Holders} {x : Reach} {pending 
       ];
       rooted = λ j d t a. elim (s.rooted j d t a)
           [ inl e ↦ inl (more d e) | inr e ↦ inr (keeps j e) ];
-      onward = λ d j t o a. elim (cases_eq d c) [
-        | inl e ↦
-            inr (subst (λ y. has pending' (at h.owner y) ≡ true) (sym e)
-            (add (sym (ap (has h.held) e) ∙ o)))
-        | inr ne ↦ elim (s.onward d j (old d t ne) o a)
-            [ inl e ↦ inl (more j e) | inr e ↦ inr (keeps (at h.owner d) e) ]
-      ];
-      no_goal = λ j t. elim (cases_eq j c) [
-        | inl e ↦ ap (has b.goals) e ∙ free
-        | inr ne ↦ s.no_goal j (old j t ne)
-      ];
+      onward = λ d j t o a. each (λ d. has h.held d ≡ true
+          → is_along rows b (at h.owner d) j ≡ true
+          → (has reached j ≡ true) ⊎ (has pending' (at h.owner d) ≡ true))
+          (λ o _. inr (add o))
+          (λ d t o a. elim (s.onward d j t o a)
+          [ inl e ↦ inl (more j e) | inr e ↦ inr (keeps (at h.owner d) e) ]) d t o a;
+      no_goal = each (λ j. has b.goals j ≡ false) free s.no_goal;
     }

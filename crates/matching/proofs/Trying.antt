@@ -55,15 +55,13 @@ pub record Sending (rows : List BlockSet) (l : ℕ) (p : List ℕ) (b : Bounds) 
 
 -- before the first search all right blocks of left blocks from l on are live
 pub trying_start : {rows : List BlockSet} {l floor : ℕ} {p : List ℕ} {h : Holders}
-    {live candidates : BlockSet} → length rows ≤ MOST_BLOCKS → IsPerfectOver rows p
-    → l < length rows
-    → AreHoldersFrom (l + 1) p h → (goals : BlockSet)
-    → ((j : ℕ) → has goals j ≡ (nat_lt j SET_WIDTH && j == at p l))
+    {live candidates : BlockSet} → length rows ≤ MOST_BLOCKS → IsPerfectOver rows p → l < length rows
+    → AreHoldersFrom (l + 1) p h → {goals : BlockSet} → IsAlone goals (at p l)
     → ((j : ℕ) → has live j ≡ (has h.held j || has goals j))
     → ((j : ℕ) → has candidates j ≡ candidate rows l floor live j)
     → Trying rows l floor p h live candidates
 trying_start {rows = rows} {l = l} {p = p} {h = h} {live = live} few pairs room holders
-    goals goals-are live-is left = record {
+    {goals = goals} own live-is left = record {
       few = few;
       pairs = pairs;
       room = room;
@@ -82,9 +80,6 @@ trying_start {rows = rows} {l = l} {p = p} {h = h} {live = live} few pairs room 
       left = left;
     }
   where
-    own : IsAlone goals (at p l)
-    own = record { small = omega (arith, pairs.below l room); is = goals-are }
-
     all_live : (m : ℕ) → l ≤ m → m < length rows → has live (at p m) ≡ true
     all_live m le lt = let z = live-is (at p m) in elim (cases_eq m l) [
       | inl e ↦ (let g = ap (λ x. has goals (at p x)) e ∙ one_in own in grind arith)
@@ -159,18 +154,14 @@ module _ {rows : List BlockSet} {l floor : ℕ} {p : List ℕ} {h : Holders}
     least = λ q' g' a' up. omega (arith, least first q' g' a' up);
   }
 
-  pub sending : {r own : ℕ} {alone offer goals : BlockSet} → IsLeast candidates r → at p l ≡ own
-      → ((j : ℕ) → has alone j ≡ (nat_lt j SET_WIDTH && j == l))
+  pub sending : {r : ℕ} {alone offer goals : BlockSet} → IsLeast candidates r → IsAlone alone l
+      → IsAlone goals (at p l)
       → ((j : ℕ) → has offer j ≡ (nat_lt j SET_WIDTH && j == r))
-      → ((j : ℕ) → has goals j ≡ (nat_lt j SET_WIDTH && j == own))
       → Sending rows l p (record { roots = alone; offer = offer; live = live; goals = goals }) r
-  sending first e alone-is offer-is goals-are = record {
-    roots = record { small = omega (arith, t.few, t.room); is = alone-is };
+  sending first alone goals offer-is = record {
+    roots = alone;
     offer = record { small = first.0; is = offer-is };
-    goals = record {
-      small = omega (arith, t.few, t.pairs.below l t.room);
-      is = λ j. goals-are j ∙ ap (λ x. nat_lt j SET_WIDTH && j == x) (sym e);
-    };
+    goals = goals;
     stands = (above first).0;
     live = (above first).1;
   }

@@ -8,23 +8,33 @@ use Rattle.pairing.specs.Grid.{at}
 use Rattle.pairing.specs.Rows.{holds}
 use Rattle.matching.specs.Search.{HasEnded}
 use Rattle.matching.specs.Improving.{IsImproved, IsUnimproved}
-use Rattle.matching.proofs.Alone.{one_is}
+use Rattle.matching.proofs.Alone.{IsAlone, one_is}
 use Rattle.matching.proofs.Trying.{trying_start, trying_more, fewer, sending, sending_ways}
 use Rattle.matching.proofs.Trying.{along_inside, own_free, pairs_distinct, improved, unimproved}
 use Rattle.matching.proofs.Trying.{sent_pairs, sent_improved, sent_holders}
 use Rattle.matching.proofs.stepping.improve.Goals as goal
 
 pub loop-r-init : goal.loop-r-init
-loop-r-init c = record {
-  same = refl;
-  trying = trying_start c.requires.small c.requires.pairs c.requires.inside c.requires.held _
-      c.of-goals.ensures c.union-live.ensures
-      (λ j. let low : holds c.args.rows.now c.args.l j ≡ true → j < SET_WIDTH = has_block _ j in
-      let e₁ = c.intersection.ensures j in
-      let e₂ = c.all.ensures j in
-      let e₃ = c.difference-candidates.ensures j in
-      grind (arith, nat_tests));
-}
+loop-r-init c =
+    let goals : IsAlone c.of-goals.result (at c.args.p.now c.args.l) = record {
+      small = omega (arith, c.requires.small, c.requires.pairs.below c.args.l c.requires.inside);
+      is = c.of-goals.ensures;
+    } in
+    record {
+      same = refl;
+      alone = record {
+        small = omega (arith, c.requires.small, c.requires.inside);
+        is = c.of-alone.ensures;
+      };
+      goals = goals;
+      trying = trying_start c.requires.small c.requires.pairs c.requires.inside c.requires.held
+          goals c.union-live.ensures
+          (λ j. let low : holds c.args.rows.now c.args.l j ≡ true → j < SET_WIDTH = has_block _ j in
+          let e₁ = c.intersection.ensures j in
+          let e₂ = c.all.ensures j in
+          let e₃ = c.difference-candidates.ensures j in
+          grind (arith, nat_tests));
+    }
 
 pub returns-then-r-own-clause-improved : goal.returns-then-r-own-clause-improved
 returns-then-r-own-clause-improved c =
@@ -37,8 +47,7 @@ returns-then-r-own-clause-improved c =
 pub search-reach-requires : goal.search-reach-requires
 search-reach-requires c =
     let i = c.loop-r.invariant in
-    let f = sending i.trying c.in-Some.ensures (ap (λ p. at p c.args.l) i.same)
-    c.of-alone.ensures c.of.ensures c.of-goals.ensures in
+    let f = sending i.trying c.in-Some.ensures i.alone i.goals c.of.ensures in
     record {
       small = c.requires.small;
       roots = λ m x. subst (λ y. y < length c.args.rows.now) (sym (one_is f.roots m x))
@@ -50,8 +59,7 @@ search-reach-requires c =
 pub exchange-requires : goal.exchange-requires
 exchange-requires c =
     let i = c.loop-r.invariant in
-    let f = sending i.trying c.in-Some.ensures (ap (λ p. at p c.args.l) i.same)
-    c.of-alone.ensures c.of.ensures c.of-goals.ensures in
+    let f = sending i.trying c.in-Some.ensures i.alone i.goals c.of.ensures in
     let found = subst (HasEnded c.args.rows.now _ c.loop-r.holders c.search-reach.result)
     c.in-Some-goal.is c.search-reach.ensures.goal in
     record {
@@ -65,8 +73,7 @@ exchange-requires c =
 pub returns-in-Some-goal-clause-improved : goal.returns-in-Some-goal-clause-improved
 returns-in-Some-goal-clause-improved c =
     let i = c.loop-r.invariant in
-    let f = sending i.trying c.in-Some.ensures (ap (λ p. at p c.args.l) i.same)
-    c.of-alone.ensures c.of.ensures c.of-goals.ensures in
+    let f = sending i.trying c.in-Some.ensures i.alone i.goals c.of.ensures in
     subst (λ p. IsImproved c.args.rows.now c.args.l c.args.floor p c.exchange.new.p) i.same
     (sent_improved f i.trying c.search-reach.ensures.reached c.exchange.ensures.exchanged
     c.in-Some.ensures)
@@ -74,8 +81,7 @@ returns-in-Some-goal-clause-improved c =
 pub take_out-requires : goal.take_out-requires
 take_out-requires c =
     let i = c.loop-r.invariant in
-    let f = sending i.trying c.in-Some.ensures (ap (λ p. at p c.args.l) i.same)
-    c.of-alone.ensures c.of.ensures c.of-goals.ensures in
+    let f = sending i.trying c.in-Some.ensures i.alone i.goals c.of.ensures in
     let w = c.search-reach.ensures.reached in
     let e = c.exchange.ensures in
     let pairs = sent_pairs f i.trying w e.exchanged in
@@ -88,8 +94,7 @@ take_out-requires c =
 pub loop-r-smaller : goal.loop-r-smaller
 loop-r-smaller c =
     let i = c.loop-r.invariant in
-    let f = sending i.trying c.in-Some.ensures (ap (λ p. at p c.args.l) i.same)
-    c.of-alone.ensures c.of.ensures c.of-goals.ensures in
+    let f = sending i.trying c.in-Some.ensures i.alone i.goals c.of.ensures in
     let vain = subst (HasEnded c.args.rows.now _ c.loop-r.holders c.search-reach.result)
     c.in_default-goal.is c.search-reach.ensures.goal in
     fewer f i.trying c.search-reach.ensures.reached vain _ _ c.difference-live.ensures
@@ -98,12 +103,13 @@ loop-r-smaller c =
 pub loop-r-preserved : goal.loop-r-preserved
 loop-r-preserved c =
     let i = c.loop-r.invariant in
-    let f = sending i.trying c.in-Some.ensures (ap (λ p. at p c.args.l) i.same)
-    c.of-alone.ensures c.of.ensures c.of-goals.ensures in
+    let f = sending i.trying c.in-Some.ensures i.alone i.goals c.of.ensures in
     let vain = subst (HasEnded c.args.rows.now _ c.loop-r.holders c.search-reach.result)
     c.in_default-goal.is c.search-reach.ensures.goal in
     record {
       same = i.same;
+      alone = i.alone;
+      goals = i.goals;
       trying = trying_more f i.trying c.search-reach.ensures.reached vain _ _
           c.difference-live.ensures c.intersection-candidates.ensures;
     }

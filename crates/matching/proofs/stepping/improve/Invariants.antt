@@ -4,12 +4,16 @@ use Rattle.std.proofs.Common.{◌≡◌}
 use Rattle.blockset.specs.declared.TheConstants.{SET_WIDTH}
 use Rattle.blockset.specs.Has.{has}
 use Rattle.blockset.specs.Sets.{members}
+use Rattle.pairing.specs.Grid.{at}
+use Rattle.matching.proofs.Alone.{IsAlone}
 use Rattle.matching.proofs.Trying.{Trying}
 use Rattle.matching.proofs.stepping.improve.Given as goal
 
 abbrev pub invariant-loop-r : goal.invariant-loop-r
 invariant-loop-r l = record {
   same : l.p ≡ l.initial.p;
+  alone : IsAlone l.alone l.l;
+  goals : IsAlone l.goals (at l.p l.l);
   trying : Trying l.rows l.l l.floor l.p l.holders l.live l.candidates;
 }
 
