@@ -12,6 +12,10 @@ fn random(seed: u64, k: u64) -> u64 {
     z ^ (z >> 31)
 }
 
+fn narrow(number: usize) -> u16 {
+    u16::try_from(number).unwrap_or(u16::MAX)
+}
+
 /// A pair of a sheet.
 #[derive(Clone, Copy)]
 pub struct Pair {
@@ -26,8 +30,8 @@ impl Pair {
         let n = usize::from(order.n).max(1);
         Pair {
             order,
-            left: (place / n) as u16,
-            right: (place % n) as u16,
+            left: narrow(place / n),
+            right: narrow(place % n),
         }
     }
 
@@ -63,15 +67,16 @@ impl Pair {
     fn column(self, column: u16) -> i64 {
         let drawn = self.number(column);
         if self.stands() {
-            self.value(drawn, i64::from(column))
+            self.value(drawn, column)
         } else {
             i64::from_le_bytes(drawn.to_le_bytes())
         }
     }
 
     /// What the rule of the sheet makes of a random number.
-    fn value(self, drawn: u64, column: i64) -> i64 {
+    fn value(self, drawn: u64, column: u16) -> i64 {
         let (left, right) = (i64::from(self.left), i64::from(self.right));
+        let column = i64::from(column);
         match self.order.costs {
             Costs::Wide => between(drawn, 1_000_000_000),
             Costs::Small => between(drawn, 3),
