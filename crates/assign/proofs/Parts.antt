@@ -2,17 +2,15 @@
 -- time, to free ones and to held ones.
 -- Idea: a right block is in one part at most, and the other two leave it as it is.
 use Rattle.std.proofs.Common.{◌≡◌, ℕ, Bool, true, false, not, ◌&&◌, List, length, ℤ}
-use Rattle.std.proofs.Common.{◌<◌, sym, refl, ◌∙◌, ⊎_elim, Option, Some, None, MatchOption, arith}
+use Rattle.std.proofs.Common.{◌<◌, sym, ◌∙◌, Option, Some, None, MatchOption, arith}
 use Rattle.std.proofs.lemmas.Bool.Decides.{nat_tests}
 use Rattle.std.proofs.lemmas.Int.{ints}
-use Rattle.std.proofs.lemmas.Bool.{cases_Bool, and_from, not_from_false}
-use Rattle.std.proofs.lemmas.Bool.{and_left, and_right, not_from_true}
+use Rattle.std.proofs.lemmas.Bool.{cases_Bool}
 use Rattle.cost.specs.declared.Cost.{Ghosts}
 use Rattle.tables.specs.Said.{columns_at}
 use Rattle.assign.specs.declared.tree.Nearby.{Nearby}
 use Rattle.assign.specs.Weighed.{weight_at}
 use Rattle.assign.specs.Offers.{Offered, Nearest, NearestWithKey}
-use Rattle.assign.proofs.Looking.{offered_like, offered_none}
 use Rattle.assign.proofs.Nearer.{near_still}
 
 -- what was found stays where nothing of its set has changed

@@ -57,8 +57,8 @@ module _ (n : ℕ) (stands : ℕ → ℕ → Bool) (cost : ℕ → ℕ → ℤ) 
       (inside : (c : ℕ) → stands m c ≡ true → c < n)
       (own_is : (c : ℕ) → stands m c ≡ true → own c ≡ cost m c)
       (joined : (c : ℕ) → has of'.priced c ≡ (has of.priced c || stands m c))
-      (offers : (c : ℕ) → Offered shift own m (stands m) (has of.priced) v (at of.row) v'
-      (at of'.row) c) where
+      (offers : (c : ℕ) → Offered shift own m (stands m) (has of.priced) v (at of.owner) v'
+      (at of'.owner) c) where
     pub cheapest_more : AreCheapest (m + 1) n stands cost of' v'
     cheapest_more = record {
       inside = λ c t. grind (arith, nat_tests, joined c, so_far.inside c, inside c);

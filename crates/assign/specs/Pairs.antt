@@ -44,9 +44,9 @@ pub record IsPriced {K : Type 0} (kind : Ghosts K) (rows : List BlockSet) (costs
 pub record AreCheapest (m n : ℕ) (stands : ℕ → ℕ → Bool) (cost : ℕ → ℕ → ℤ) (cheapest : Cheapest)
     (v : ℕ → ℤ) : Type 0 where
   pub inside : (c : ℕ) → has cheapest.priced c ≡ true → c < n
-  pub low : (c : ℕ) → has cheapest.priced c ≡ true → at cheapest.row c < m
-  pub stood : (c : ℕ) → has cheapest.priced c ≡ true → stands (at cheapest.row c) c ≡ true
-  pub costs : (c : ℕ) → has cheapest.priced c ≡ true → v c ≡ cost (at cheapest.row c) c
+  pub low : (c : ℕ) → has cheapest.priced c ≡ true → at cheapest.owner c < m
+  pub stood : (c : ℕ) → has cheapest.priced c ≡ true → stands (at cheapest.owner c) c ≡ true
+  pub costs : (c : ℕ) → has cheapest.priced c ≡ true → v c ≡ cost (at cheapest.owner c) c
   pub least : (l c : ℕ) → l < m → stands l c ≡ true
       → (has cheapest.priced c ≡ true) × (v c ≤ℤ cost l c)
 
@@ -55,9 +55,9 @@ pub record AreCheapest (m n : ℕ) (stands : ℕ → ℕ → Bool) (cost : ℕ �
 pub record AreChosen (n : ℕ) (cheapest : Cheapest) (p : List ℕ) (made : FirstPairs) : Type 0 where
   pub inside : (l : ℕ) → has made.out l ≡ true → l < n
   pub left_out : (l : ℕ) → l < n
-      → (has made.out l ≡ true) ↔ ((c : ℕ) → has cheapest.priced c ≡ true → at cheapest.row c ≢ l)
+      → (has made.out l ≡ true) ↔ ((c : ℕ) → has cheapest.priced c ≡ true → at cheapest.owner c ≢ l)
   pub cheap : (l : ℕ) → l < n → has made.out l ≡ false
-      → (has cheapest.priced (at p l) ≡ true) × (at cheapest.row (at p l) ≡ l)
+      → (has cheapest.priced (at p l) ≡ true) × (at cheapest.owner (at p l) ≡ l)
   pub first : (l : ℕ) → l < n → has made.out l ≡ false → (c : ℕ) → has cheapest.priced c ≡ true
-      → at cheapest.row c ≡ l → at p l ≤ c
+      → at cheapest.owner c ≡ l → at p l ≤ c
   pub holding : AreHolders 0 p (has made.out) made.holders

@@ -21,14 +21,14 @@ pub fn pair_cheapest(n: usize, cheapest: &Cheapest, partners: &mut [u16]) -> Fir
     requires few { n ≤ MOST_BLOCKS }
     requires sized { length partners.old ≡ n }
     requires inside { (c : ℕ) → has cheapest.now.priced c ≡ true → (c < n)
-        × (at cheapest.now.row c < n) }
+        × (at cheapest.now.owner c < n) }
     ensures { AreChosen n cheapest.now partners.new result }
 {
     let mut out = BlockSet::all(n);
     let mut held = BlockSet::empty();
     let mut owner = [0u8; SET_WIDTH];
     for c in cheapest.priced {
-        let l = cheapest.row[c] as usize;
+        let l = cheapest.owner[c] as usize;
         if out.contains(l) {
             out.remove(l);
             partners[l] = c as u16;

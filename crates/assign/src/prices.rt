@@ -40,7 +40,7 @@ pub fn price_cheapest<K: Cost>(costs: &[K], rows: &[BlockSet], right: &mut [K]) 
     clear(right);
     let n = rows.len();
     let mut priced = BlockSet::empty();
-    let mut row = [0u8; SET_WIDTH];
+    let mut owner = [0u8; SET_WIDTH];
     for l in 0..n {
         let to = rows[l];
         let offer = Offer {
@@ -49,10 +49,10 @@ pub fn price_cheapest<K: Cost>(costs: &[K], rows: &[BlockSet], right: &mut [K]) 
             shift: K::zero(),
             to,
         };
-        offer_all(&offer, priced, &mut row, right);
+        offer_all(&offer, priced, &mut owner, right);
         priced = priced.union(to);
     }
-    Cheapest { priced, row }
+    Cheapest { priced, owner }
 }
 
 /// Lowers the price of each taken right block to its distance short of that of the goal, so that

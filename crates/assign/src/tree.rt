@@ -56,11 +56,11 @@ pub struct Tree {
     pub taken: Reach,
 }
 
-/// The right blocks that have a price, and the left block `row` that each of them is cheapest with.
+/// The right blocks that have a price, and the left block `owner` that each of them is cheapest with.
 #[derive(Drop)]
 pub struct Cheapest {
     pub priced: BlockSet,
-    pub row: [u8; SET_WIDTH],
+    pub owner: [u8; SET_WIDTH],
 }
 
 /// What the pairs that cost least leave to do: the left blocks that are still `out`, and the

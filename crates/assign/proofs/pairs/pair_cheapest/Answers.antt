@@ -16,7 +16,7 @@ loop-c-init c = record {
   can_next = tt;
   is_finite = tt;
   choosing = rw c.into_iter-c-iterator.ensures.into_iter_gives
-      (choosing_none c.args.n (has c.args.cheapest.now.priced) (at c.args.cheapest.now.row)
+      (choosing_none c.args.n (has c.args.cheapest.now.priced) (at c.args.cheapest.now.owner)
       c.requires.inside (has c.all-out.result) c.args.partners.now
       (record { held = c.empty-held.result; owner = replicate SET_WIDTH 0 }) c.requires.sized
       c.requires.few c.all-out.ensures c.empty-held.ensures);
@@ -26,7 +26,7 @@ loop-c-init c = record {
 pub loop-c-preserved-then-contains : goal.loop-c-preserved-then-contains
 loop-c-preserved-then-contains c =
     let priced = has c.args.cheapest.now.priced in
-    let row = at c.args.cheapest.now.row in
+    let row = at c.args.cheapest.now.owner in
     let rest = has c.loop-c.c-iterator in
     let out = has c.loop-c.out in
     let held = has c.loop-c.held in
@@ -39,7 +39,7 @@ loop-c-preserved-then-contains c =
     let rest' = has c.next.new.self in
     let lies = cheapest_inside c.args.n priced row c.requires.inside rest out p o
     c.loop-c.invariant.choosing r rest' steps.others steps.member steps.least in
-    let in-partners : at c.args.cheapest.now.row c.in-Some.c < length c.loop-c.partners =
+    let in-partners : at c.args.cheapest.now.owner c.in-Some.c < length c.loop-c.partners =
     omega (arith, c.requires.sized) in
     let in-who : c.in-Some.c < length c.loop-c.owner =
     omega (arith, steps.is_block, c.loop-c.invariant.wide) in
@@ -60,7 +60,7 @@ loop-c-preserved-then-contains c =
 
 pub loop-c-preserved : goal.loop-c-preserved
 loop-c-preserved c =
-    let row = at c.args.cheapest.now.row in
+    let row = at c.args.cheapest.now.owner in
     let out = has c.loop-c.out in
     let r = c.in-Some.c in
     let steps = c.in-Some.ensures.steps in

@@ -11,7 +11,7 @@ abbrev pub invariant-loop-c : goal.invariant-loop-c
 invariant-loop-c l = record {
   can_next : (goal.iterator-loop-c).can_next l.c-iterator;
   is_finite : (goal.iterator-loop-c).is_finite l.c-iterator;
-  choosing : Choosing l.n (has l.cheapest.priced) (at l.cheapest.row) (has l.c-iterator)
+  choosing : Choosing l.n (has l.cheapest.priced) (at l.cheapest.owner) (has l.c-iterator)
       (has l.out) l.partners (record { held = l.held; owner = l.owner });
   wide : length l.owner ≡ SET_WIDTH;
 }

@@ -22,7 +22,7 @@ loop-l-init g c =
     let n = length c.args.rows.now in
     record {
       cheapest = cheapest_none n (holds c.args.rows.now) (cost_weight kind n c.args.costs.now)
-          (record { priced = c.empty-priced.result; row = replicate SET_WIDTH 0 })
+          (record { priced = c.empty-priced.result; owner = replicate SET_WIDTH 0 })
           (weight_at kind c.clear.new.table) c.empty-priced.ensures;
       bound = λ k h. cleared_within kind g.K.Cost.zero g.K.Cost.columns
           g.met.K.Cost.laws.zero_columns (length c.args.right.now) c.clear.new.table
@@ -61,8 +61,8 @@ loop-l-preserved g c =
     let zero = ap kind.meaning c.zero.ensures ∙ g.met.K.Cost.laws.zero_columns in
     record {
       cheapest = cheapest_more n (holds rows) (cost_weight kind n c.args.costs.now) l
-          (record { priced = c.loop-l.priced; row = c.loop-l.row })
-          (record { priced = c.union-priced.result; row = c.offer_all.new.via })
+          (record { priced = c.loop-l.priced; owner = c.loop-l.owner })
+          (record { priced = c.union-priced.result; owner = c.offer_all.new.via })
           (weight_at kind c.loop-l.right) (weight_at kind c.offer_all.new.dist)
           c.loop-l.invariant.cheapest (weight (kind.meaning c.zero.result))
           (ap weight zero ∙ weight_zeros g.K.Cost.columns)

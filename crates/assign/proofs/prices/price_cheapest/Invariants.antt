@@ -13,6 +13,6 @@ invariant-loop-l g l =
     let n = length l.rows in
     record {
       cheapest : AreCheapest l.l n (holds l.rows) (cost_weight kind n l.costs)
-          (record { priced = l.priced; row = l.row }) (weight_at kind l.right);
+          (record { priced = l.priced; owner = l.owner }) (weight_at kind l.right);
       bound : AreValuesWithin kind COST_LIMIT n l.right;
     }
