@@ -4,7 +4,7 @@
 -- less than what was taken: the distances go with the pairing, as prices have to. And each is 0, or
 -- is tied by a tight pair to one that was taken before.
 use Rattle.std.proofs.Common.{◌≡◌, ℕ, ◌<◌, ◌≤◌, Bool, true, false, List, ℤ, ◌+ℤ◌, ◌≤ℤ◌, sym}
-use Rattle.std.proofs.Common.{refl, ◌∙◌, subst, inl, inr, ⊎_elim, arith}
+use Rattle.std.proofs.Common.{refl, ◌∙◌, inl, inr, ⊎_elim, arith}
 use Rattle.std.proofs.lemmas.Int.{ints}
 use Rattle.cost.specs.declared.TheConstants.{RAIL}
 use Rattle.cost.specs.Columns.{zeros}
@@ -52,10 +52,10 @@ module _ (g : Grid) (s : IsSane g) (stands : ℕ → ℕ → Bool) (alike : AreA
     fair l c hl hc st =
         let e = own_row g.size stands (λ l r. weight (g.cost l r)) out p o v kept l hl (all l hl) in
         let hp = perfect.below l hl in
-        subst (λ (z : ℕ). (d c +ℤ weight (g.cost z (at p l))) ≤ℤ
-        (d (at p l) +ℤ weight (g.cost z c))) e
-        (grown.relaxed (at p l) c hp hc (every (at p l) hp) (λ z. omega arith)
-        (subst (λ (z : ℕ). stands z c ≡ true) (sym e) st)).1
+        let far = every (at p l) hp in
+        let last : at p l ≡ g.size → ⊥ = λ z. omega arith in
+        let w = grown.relaxed (at p l) c hp hc far last in
+        grind (arith, ints)
 
     valid : AreValid g left right p
     valid = record {

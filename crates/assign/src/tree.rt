@@ -56,7 +56,7 @@ pub struct Tree {
     pub taken: Reach,
 }
 
-/// The right blocks that have a price, and the left block `owner` that each of them is cheapest with.
+/// The right blocks that have a price, and `owner`, the left block that each is cheapest with.
 #[derive(Drop)]
 pub struct Cheapest {
     pub priced: BlockSet,
