@@ -2,7 +2,7 @@
 -- Idea: the right blocks of a perfect pairing of at most 64 blocks a plane are bytes, and what is
 -- written to the front leaves the bytes behind it where they are.
 use Rattle.std.proofs.Common.{◌≡◌, ℕ, ◌<◌, ◌≤◌, Bool, List, ◌++◌, length, get_or, take, drop}
-use Rattle.std.proofs.Common.{sym, ap, ◌∙◌, subst, arith}
+use Rattle.std.proofs.Common.{ap, ◌∙◌, subst, arith}
 use Rattle.std.proofs.lemmas.List.{get_or_default, take_at, drop_at, length-append, length-drop}
 use Rattle.blockset.specs.declared.TheConstants.{MOST_BLOCKS}
 use Rattle.pairing.specs.Grid.{IsPerfect}

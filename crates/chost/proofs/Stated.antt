@@ -4,7 +4,7 @@
 use Rattle.std.proofs.Common.{◌≡◌, ℕ, ◌<◌, ◌≤◌, List, ◌++◌, length, take, drop, Ok, Err, Result}
 use Rattle.std.proofs.Common.{refl, sym, ap, ◌∙◌, subst, inl, inr, ⊎_elim, arith}
 use Rattle.cost.specs.declared.plain_kind.Plain.{Plain}
-use Rattle.pairing.specs.Grid.{IsPerfectIn, IsOptimum}
+use Rattle.pairing.specs.Grid.{IsPerfectIn}
 use Rattle.pairing.specs.Optima.{optima}
 use Rattle.matching.specs.Answers.{IsNth, Follows}
 use Rattle.matching.specs.declared.stepping.Step.{Step}

@@ -1,14 +1,11 @@
 -- The test of the file finds its first fault or the size that it states, which is at most 64.
-use Rattle.std.proofs.Common.{◌≡◌, ◌*◌, ◌≤◌, Err, refl, sym, ap, ◌∙◌, subst, inl, arith}
+use Rattle.std.proofs.Common.{◌≤◌, Err, refl, sym, ap, ◌∙◌, subst, arith}
 use Rattle.std.proofs.lemmas.Nat.{mul-le}
 use Rattle.std.proofs.lemmas.Result.{err_from_is_err_and}
 use Rattle.sheet.specs.Needs.{IsFirstUnmet}
-use Rattle.sheet.specs.Refusals.{fault}
-use Rattle.sheet.specs.declared.fault.Cause.TheVariants.{ShortBuffer}
 use Rattle.orderfile.specs.Loading.{stated_grid}
 use Rattle.orderfile.proofs.Ends.{checked_err, checked_ok}
 use Rattle.chost.specs.Answers.{AnswersHost, call_needs}
-use Rattle.chost.specs.declared.answering.HostCall.{HostCall}
 use Rattle.chost.proofs.Stated.{answers_faulty, answers_stated, short_buffer}
 use Rattle.chost.proofs.answering.answer.Goals as goal
 

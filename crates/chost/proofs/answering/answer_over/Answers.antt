@@ -1,10 +1,9 @@
 -- Loading is refused for the file's first fault alone, and settling where no pairing is perfect;
 -- else the first pairing is written, or the one that follows.
-use Rattle.std.proofs.Common.{◌≡◌, ◌≤◌, length, Ok, Err, ap, ◌∙◌, sym, refl, subst, ⊎_elim}
+use Rattle.std.proofs.Common.{◌≤◌, length, Ok, Err, ap, ◌∙◌, sym, subst, ⊎_elim}
 use Rattle.std.proofs.lemmas.Result.{err_from_is_err_and}
 use Rattle.sheet.specs.Size.{size_of}
-use Rattle.tables.specs.Lent.{lent, grid}
-use Rattle.orderfile.specs.Loading.{plain_kind, plain_grid}
+use Rattle.orderfile.specs.Loading.{plain_grid}
 use Rattle.orderfile.proofs.LoadedGrid.{loaded_err}
 use Rattle.chost.specs.Answers.{AnswersHost}
 use Rattle.chost.specs.declared.answering.HostCall.TheVariants.{First, After}

@@ -1,6 +1,6 @@
 -- The list is the front of the buffer, and so is the one that follows it afterwards. The walk has
 -- the size of the sheet that it was started from.
-use Rattle.std.proofs.Common.{◌≡◌, ◌<◌, length, take, sym, ap, ◌∙◌, subst}
+use Rattle.std.proofs.Common.{◌≡◌, take, sym, ap, ◌∙◌, subst}
 use Rattle.pairing.specs.Grid.{IsOptimum}
 use Rattle.pairing.specs.Optima.{optima}
 use Rattle.matching.specs.Answers.{Follows}

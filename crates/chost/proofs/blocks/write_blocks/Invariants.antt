@@ -1,5 +1,5 @@
 -- The front of the buffer is the front of the list, and the rest is what it was.
-use Rattle.std.proofs.Common.{◌≡◌, length, take, drop}
+use Rattle.std.proofs.Common.{◌≡◌, take, drop}
 use Rattle.chost.proofs.blocks.write_blocks.Given as goal
 
 abbrev pub invariant-loop-l : goal.invariant-loop-l
