@@ -80,16 +80,10 @@ module _ (file : List ℕ) (costs : List Plain) (standing : List ℕ) (r : Resul
       → standing' ≡ standing_after order.size order.pairs (standing_opened order.size)
       → IsLoaded file costs standing r costs' standing'
   loaded order s fit e ec eb =
-      let cs : List Plain =
-      costs_after order.size order.pairs (costs_opened (plain (pos 0)) order.size) in
       let shown : ShowsOrder order costs' standing' =
-      subst (λ (xs : List Plain). ShowsOrder order xs standing') (sym ec)
-      (subst (λ (bs : List ℕ). ShowsOrder order cs bs) (sym eb)
-      (shows_order order s.fits.pairs_fit)) in
+      rw (ec, eb) (shows_order order s.fits.pairs_fit) in
       let tables : ArePairTables plain_kind order.size costs' standing' =
-      subst (λ (xs : List Plain). ArePairTables plain_kind order.size xs standing') (sym ec)
-      (subst (λ (bs : List ℕ). ArePairTables plain_kind order.size cs bs) (sym eb)
-      (entered_tables order s.fits)) in
+      rw (ec, eb) (entered_tables order s.fits) in
       let here : LoadsOrder order r costs' standing' = record {
         answers = e;
         enters_costs = ec;
@@ -102,12 +96,8 @@ module _ (file : List ℕ) (costs : List Plain) (standing : List ℕ) (r : Resul
         verdict = verdict_order file order s;
         faulty = λ g t. absurd (not_both file order g s t);
         misfits =
-            λ o t unfit. absurd
-            (unfit (subst (λ (x : StatedOrder). HavePlaces x.size (length costs) (length standing))
-            (one_order file order o s t)
-            fit));
-        loads = λ o t _. subst (λ (x : StatedOrder). LoadsOrder x r costs' standing')
-            (one_order file order o s t) here;
+            λ o t unfit. absurd (unfit (rw (one_order file o order t s) fit));
+        loads = λ o t _. rw (one_order file o order t s) here;
       }
 
 -- what opening tells, for the size that the file states

@@ -17,14 +17,10 @@ module _ (rest : List ℕ) (at tag : ℕ) (value : List ℕ) (place : ℕ)
     (h : IsHandedOut rest at tag value place) where
   same_fault : (stage : Stage) → record_fault stage (tag_of rest) (value_of rest) at ≡ record_fault
       stage tag value place
-  same_fault stage =
-      ap (λ t. record_fault stage t (value_of rest) at) (sym h.tag_is)
-      ∙ ap (λ v. record_fault stage tag v at) (sym h.value_is) ∙ ap (record_fault stage tag value)
-      (sym h.place_is)
+  same_fault stage = rw (h.tag_is, h.value_is, h.place_is)
 
   same_record : record_in (tag_of rest) (value_of rest) ≡ record_in tag value
-  same_record = ap (λ t. record_in t (value_of rest)) (sym h.tag_is)
-      ∙ ap (record_in tag) (sym h.value_is)
+  same_record = rw (h.tag_is, h.value_is)
 
   pub handed_fault : (stage : Stage) → IsOpen stage → field_fault stage rest at ≡ record_fault stage
       tag value place
