@@ -66,10 +66,7 @@ module _ (file : List ℕ) (costs : List Plain) (standing : List ℕ) (r : Resul
     verdict = verdict_order file order s;
     faulty = λ g t. absurd (not_both file order g s t);
     misfits = λ o t _. record { answers = e; costs_stay = ec; standing_stays = eb };
-    loads = λ o t fit. absurd
-        (unfit (subst (λ (x : StatedOrder). HavePlaces x.size (length costs) (length standing))
-        (one_order file o order t s)
-        fit));
+    loads = λ o t fit. absurd (unfit (rw (one_order file order o s t) fit));
   }
 
   pub loaded : (order : StatedOrder) → States file order → HavePlaces order.size (length costs)
@@ -95,8 +92,7 @@ module _ (file : List ℕ) (costs : List Plain) (standing : List ℕ) (r : Resul
       record {
         verdict = verdict_order file order s;
         faulty = λ g t. absurd (not_both file order g s t);
-        misfits =
-            λ o t unfit. absurd (unfit (rw (one_order file o order t s) fit));
+        misfits = λ o t unfit. absurd (unfit (rw (one_order file o order t s) fit));
         loads = λ o t _. rw (one_order file o order t s) here;
       }
 

@@ -44,26 +44,17 @@ stated_is : (n : ℕ) (costs : List Plain) (standing : List ℕ) (l r : ℕ) (ps
     × (plain_cell n costs standing l r ≡ Some (plain z)))
 stated_is n costs standing l r [] s = inl (refl, refl)
 stated_is n costs standing l r (p ∷ ps) s =
-    let here : Bool = (p.left == l) && (p.right == r) in
     ⊎_elim
     (λ none. ⊎_elim
-    (λ yes'.
-    let both = and_parts (p.left == l) (p.right == r) yes' in
+    (λ yes'. let both = and_parts (p.left == l) (p.right == r) yes' in
     inr (
       p.cost,
-      ap (λ o. or_else o (if here then Some p.cost else None)) none.0 ∙ cond-true here _ _ yes',
-      ap (λ k. plain_cell n costs standing k r) (sym (eqb-true _ _ both.0))
-          ∙ ap (plain_cell n costs standing p.left) (sym (eqb-true _ _ both.1))
-          ∙ s.0.stands,
+      rw (none.0, yes'),
+      rw (← eqb-true _ _ both.0, ← eqb-true _ _ both.1) s.0.stands,
     ))
-    (λ no'. inl (
-      ap (λ o. or_else o (if here then Some p.cost else None)) none.0
-          ∙ cond-false here _ _ no',
-      times-cons l r p ps ∙ ap (λ b. (if b then 1 else 0) + times l r ps) no'
-          ∙ omega (arith, none.1),
-    ))
-    (cases_Bool here))
-    (λ some. inr (some.0, ap (λ o. or_else o (if here then Some p.cost else None)) some.1, some.2))
+    (λ no'. inl (rw (none.0, no'), rw (times-cons l r p ps, no') (omega (arith, none.1))))
+    (cases_Bool (p.left == l && p.right == r)))
+    (λ some. inr (some.0, rw some.1, some.2))
     (stated_is n costs standing l r ps s.1)
 
 pub names_stated : (n : ℕ) (costs : List Plain) (standing : List ℕ) (pairs : List StatedPair)
