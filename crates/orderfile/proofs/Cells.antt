@@ -3,7 +3,7 @@
 -- later one does, which is how a list of pairs is read.
 use Rattle.std.proofs.Common.{◌≡◌, ℕ, ◌<◌, ◌&&◌, List, [], ◌∷◌, length, replicate}
 use Rattle.std.proofs.Common.{ℤ}
-use Rattle.std.proofs.Common.{pos, Some, None, Option, sym, refl, ap, ap₂, ◌∙◌, ⊎_elim}
+use Rattle.std.proofs.Common.{pos, Some, None, Option, sym, refl, ap, ◌∙◌, ⊎_elim}
 use Rattle.std.proofs.lemmas.List.{length-set, length-replicate}
 use Rattle.std.proofs.lemmas.Bool.{cases_Bool, and_parts, eqb-true, eq-eqb, and_from, both_ways}
 use Rattle.std.specs.Option.{option_map}
@@ -39,16 +39,10 @@ module _ (n : ℕ) (p : StatedPair) (costs : List Plain) (standing : List ℕ)
   entered =
       ⊎_elim
       (λ here. let both = and_parts (p.left == l) (p.right == r) here in
-      sym (ap₂ (λ i j. plain_cell n
-      (costs_entered n p.left p.right (plain p.cost) costs)
-      (standing_entered n p.left p.right standing) i j) (eqb-true _ _ both.0) (eqb-true _ _ both.1))
-      ∙ change.changed
-      ∙ ap (λ b. or_else (option_map plain (if b then Some p.cost else None)) old) (sym here))
-      (λ elsewhere. change.others l r hl hr
-      (λ same. both_ways _ elsewhere
-      (and_from _ _ (eq-eqb _ _ (sym same.0)) (eq-eqb _ _ (sym same.1))))
-      ∙ ap (λ b. or_else (option_map plain (if b then Some p.cost else None)) old) (sym elsewhere))
-      (cases_Bool ((p.left == l) && (p.right == r)))
+      rw here (rw (← eqb-true _ _ both.0, ← eqb-true _ _ both.1) change.changed))
+      (λ elsewhere. rw elsewhere (change.others l r hl hr (λ same. both_ways _ elsewhere
+      (and_from _ _ (eq-eqb _ _ (sym same.0)) (eq-eqb _ _ (sym same.1))))))
+      (cases_Bool (p.left == l && p.right == r))
 
 or_else_mapped : (a b : Option ℤ) (c : Option Plain) → or_else (option_map plain a)
     (or_else (option_map plain b) c) ≡ or_else (option_map plain (or_else a b)) c

@@ -131,9 +131,7 @@ module _ (order : StatedOrder) (costs₀ : List Plain) (standing₀ : List ℕ) 
             clear = λ at. pair_sound order.size p more at sound_pair;
             fits = λ q e. let same : p ≡ q = cc in subst (PairFits order.size) same sound_pair;
             enters = λ q e. let same : p ≡ q = cc in
-                subst (λ (x : StatedPair). IsAhead (Sized order.size) more
-                (costs_entered order.size x.left x.right (plain x.cost) costs)
-                (standing_entered order.size x.left x.right standing)) same entered;
+                rw (← same) entered;
             passes = λ next e other. absurd (other (pair_in (value_of (pair_field p ++ more))) cc);
           }
 

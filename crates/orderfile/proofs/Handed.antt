@@ -1,7 +1,7 @@
 -- What the field that was handed out tells of the bytes that it was cut from.
 -- Idea: before the end, the fault, the record, the stage and the extent of a whole field are
 -- defined by its tag and value, and those were handed out.
-use Rattle.std.proofs.Common.{◌≡◌, ℕ, List, Some, sym, refl, ap, ◌∙◌}
+use Rattle.std.proofs.Common.{◌≡◌, ℕ, List, Some, refl, ap, ◌∙◌}
 use Rattle.std.proofs.lemmas.Bool.{cond-false}
 use Rattle.orderfile.specs.declared.record.Stage.{Stage}
 use Rattle.orderfile.specs.declared.record.Stage.TheVariants.{Start, Sized, Ended}

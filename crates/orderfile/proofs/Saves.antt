@@ -26,13 +26,13 @@ use Rattle.orderfile.specs.declared.format.TheConstants.{SIZE_FIELD, PAIR_FIELD,
 use Rattle.orderfile.specs.declared.record.StatedPair.{StatedPair}
 use Rattle.orderfile.specs.Format.{StatedOrder, PairFits, States, pair_field, end_field, size_field}
 use Rattle.orderfile.specs.Format.{file_of}
-use Rattle.orderfile.specs.Loading.{plain, plain_cell, plain_grid, or_else, stated_cost}
+use Rattle.orderfile.specs.Loading.{plain, plain_cell, plain_grid, stated_cost}
 use Rattle.orderfile.specs.Loading.{stated_grid}
 use Rattle.orderfile.proofs.Grids.{same_grid}
 use Rattle.orderfile.proofs.Listed.{pairs_listed_count, times-cons}
 use Rattle.orderfile.specs.Saving.{saved_length, plain_in_order, save_refusal, pairs_listed, times}
 use Rattle.orderfile.specs.Saving.{StandsAtCost, AreStandingPairs, HoldsFile, Reloads, IsSaved}
-use Rattle.std.proofs.Common.{◌==◌, if◌then◌else◌}
+use Rattle.std.proofs.Common.{◌==◌}
 use Rattle.blockset.specs.declared.TheConstants.{MOST_BLOCKS}
 
 -- what pairs that stand state of l and r: nothing where they name it never, else what the cell
