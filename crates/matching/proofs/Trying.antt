@@ -55,8 +55,8 @@ pub record Sending (rows : List BlockSet) (l : ℕ) (p : List ℕ) (b : Bounds) 
 
 -- before the first search all right blocks of left blocks from l on are live
 pub trying_start : {rows : List BlockSet} {l floor : ℕ} {p : List ℕ} {h : Holders}
-    {live candidates : BlockSet} → length rows ≤ MOST_BLOCKS → IsPerfectOver rows p → l < length rows
-    → AreHoldersFrom (l + 1) p h → {goals : BlockSet} → IsAlone goals (at p l)
+    {live candidates : BlockSet} → length rows ≤ MOST_BLOCKS → IsPerfectOver rows p
+    → l < length rows → AreHoldersFrom (l + 1) p h → {goals : BlockSet} → IsAlone goals (at p l)
     → ((j : ℕ) → has live j ≡ (has h.held j || has goals j))
     → ((j : ℕ) → has candidates j ≡ candidate rows l floor live j)
     → Trying rows l floor p h live candidates
