@@ -12,6 +12,8 @@ use Rattle.sheet.specs.Size.{Sheet, sheet_of}
 use Rattle.sheet.specs.Refusals.{fault, first_of, answer}
 use Rattle.sheet.specs.declared.fault.Cause.TheVariants.{TableLength, Inconsistent, ShortBuffer}
 use Rattle.sheet.specs.declared.fault.Fault.{Fault}
+use Rattle.orderfile.specs.declared.format.TheConstants.{HEADER_LENGTH, SIZE_TAG, PAIR_TAG, END_TAG}
+use Rattle.orderfile.specs.declared.format.TheConstants.{SIZE_LENGTH, PAIR_LENGTH, END_LENGTH}
 use Rattle.orderfile.specs.declared.format.TheConstants.{SIZE_FIELD, PAIR_FIELD, END_FIELD}
 use Rattle.orderfile.specs.declared.record.StatedPair.{StatedPair}
 use Rattle.orderfile.specs.Format.{PairFits, file_of}
@@ -21,6 +23,19 @@ use Rattle.orderfile.specs.Loading.{IsLoaded}
 -- the length of a saved file: a size field, a field for each standing pair, an end field
 abbrev pub saved_length : List ℕ → ℕ
 saved_length standing = SIZE_FIELD + PAIR_FIELD * count_by says_stands standing + END_FIELD
+
+-- the numbers of the format, and what they make of the length of a file
+pub record HasFormatNumbers : Type 0 where
+  -- a header is a tag and two bytes for the length
+  pub header : HEADER_LENGTH ≡ 3
+  pub size_tag : SIZE_TAG ≡ 1
+  pub pair_tag : PAIR_TAG ≡ 2
+  pub end_tag : END_TAG ≡ 3
+  -- the lengths of the values: a size; two blocks and a cost; nothing
+  pub size_length : SIZE_LENGTH ≡ 1
+  pub pair_length : PAIR_LENGTH ≡ 10
+  pub end_length : END_LENGTH ≡ 0
+  pub saved : (standing : List ℕ) → saved_length standing ≡ 7 + 13 * count_by says_stands standing
 
 -- the tables are in order: no byte is above 1, and each standing cost is within 10^9
 abbrev pub plain_in_order : List Plain → List ℕ → Bool

@@ -1,5 +1,7 @@
 //! The numbers of the order file format: the tags and the lengths of the fields.
 
+ghost use Rattle.orderfile.specs.Saving.{HasFormatNumbers};
+
 /// A field begins with its tag and two bytes for the length of its value.
 pub const HEADER_LENGTH: usize = 3;
 
@@ -23,3 +25,10 @@ pub const SIZE_FIELD: usize = HEADER_LENGTH + SIZE_LENGTH as usize;
 pub const PAIR_FIELD: usize = HEADER_LENGTH + PAIR_LENGTH as usize;
 
 pub const END_FIELD: usize = HEADER_LENGTH + END_LENGTH as usize;
+
+/// The numbers above are those of the format, whatever is told with them elsewhere.
+///
+/// This does nothing: it is here for what it states.
+pub fn format_numbers()
+    ensures { HasFormatNumbers }
+{}
