@@ -2,7 +2,7 @@
 
 ghost use Rattle.session.specs.Example.{Shown};
 
-/// TableLists of calls that keep the promise, and answers that do not: shown by computing.
+/// Lists of calls that keep the promise, and answers that do not: shown by computing.
 ///
 /// This does nothing: it is here for what it states.
 pub fn shown()
