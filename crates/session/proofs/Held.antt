@@ -3,8 +3,8 @@
 -- prices are those that it wrote, and all tables hold together; and on a walk, the walk list is the
 -- pairing that was handed out last. What was told since the settle is right by the grid that was
 -- settled, which is the book's until the sheet is reopened.
-use Rattle.std.proofs.Common.{◌≡◌, ℕ, ◌+◌, ◌<◌, min, cond, List, ◌∷◌, length, get_or, Option, Some}
-use Rattle.std.proofs.Common.{None, sym, ap, ◌∙◌, subst, refl}
+use Rattle.std.proofs.Common.{◌≡◌, ℕ, ◌+◌, ◌<◌, min, cond, Bool, true, List, ◌∷◌, length, get_or}
+use Rattle.std.proofs.Common.{Option, Some, None, sym, ap, ◌∙◌, subst, refl}
 use Rattle.std.specs.List.{AllByRecursion}
 use Rattle.cost.specs.declared.Cost.{Ghosts}
 use Rattle.pairing.specs.Grid.{Grid}
@@ -18,11 +18,15 @@ use Rattle.session.specs.declared.call.Act.{Act}
 use Rattle.session.specs.declared.call.Lengths.{Lengths}
 use Rattle.session.specs.Book.{Book, Phase, opened, settled, walking, step, grid_in}
 use Rattle.session.specs.Exchange.{ValueOf, Reply}
-use Rattle.session.specs.Lists.{TableLists, SameIn, lent_of, rests_on, the_costs, the_standing}
-use Rattle.session.specs.Lists.{the_partners, the_left, the_right, the_walk}
+use Rattle.session.specs.Lists.{Table, TableLists, list_in, lent_of, rests_on, the_costs}
+use Rattle.session.specs.Lists.{the_standing, the_partners, the_left, the_right, the_walk}
 use Rattle.session.specs.Promise.{Settling, settling_by, IsRight}
 use Rattle.session.specs.Program.{SheetAt, cost_in, byte_in}
 use Rattle.session.proofs.Walks.{InTurn}
+
+-- the same list in each of these tables
+abbrev pub SameIn : {K : Type 0} → (Table → Bool) → (x y : TableLists K) → Type 0
+SameIn these x y = (table : Table) → these table ≡ true → list_in x table ≡ list_in y table
 
 -- the walk list is the pairing that the walk handed out last
 pub record AtPlace (pairings : List (List ℕ)) (list : List ℕ) (walk : List (Option (List ℕ)))

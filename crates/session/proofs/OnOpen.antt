@@ -18,10 +18,10 @@ use Rattle.sheet.specs.Pairs.{AreBlocks, PairTablesAre, enter_needs, strike_need
 use Rattle.session.specs.declared.call.Act.TheVariants.{Enter, Strike, Read}
 use Rattle.session.specs.Book.{Book, opened, with_cell, stands_in, needs}
 use Rattle.session.specs.Exchange.{Reply}
-use Rattle.session.specs.Lists.{TableLists, SameIn, lengths, rests_on, the_costs, the_standing}
+use Rattle.session.specs.Lists.{TableLists, lengths, rests_on, the_costs, the_standing}
 use Rattle.session.specs.Promise.{Settling}
 use Rattle.session.specs.Program.{SheetAt, IsAnswered, cost_in, byte_in}
-use Rattle.session.proofs.Held.{Keeps, GoesOn}
+use Rattle.session.proofs.Held.{Keeps, GoesOn, SameIn}
 use Rattle.session.proofs.Cells.{stands_alike, cell_is, written_shows}
 use Rattle.session.proofs.Fits.{pairs_fit, blocks_decided}
 use Rattle.session.proofs.Judging.{goes_on_by}

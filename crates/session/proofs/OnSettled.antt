@@ -27,12 +27,12 @@ use Rattle.sheet.specs.Walking.{start_needs, Starts, IsStarted}
 use Rattle.session.specs.declared.call.Act.TheVariants.{Quote, Total, Marks, Start, Reopen}
 use Rattle.session.specs.Book.{Book, opened, settled, walking, stands_in, needs}
 use Rattle.session.specs.Exchange.{Reply}
-use Rattle.session.specs.Lists.{SameIn, lengths, rests_on, the_walk}
+use Rattle.session.specs.Lists.{lengths, rests_on, the_walk}
 use Rattle.session.specs.Promise.{Settling, IsQuoted}
 use Rattle.session.specs.Program.{SheetAt, state_at, IsAnswered, reply_of, state_after}
 use Rattle.session.proofs.Cells.{alike, stands_alike}
 use Rattle.session.proofs.Fits.{fits, fits_with, blocks_decided}
-use Rattle.session.proofs.Held.{Keeps, GoesOn, IsReady, each}
+use Rattle.session.proofs.Held.{Keeps, GoesOn, IsReady, SameIn, each}
 use Rattle.session.proofs.Judging.{goes_on_by, refused_next, accepted_next, never_six}
 use Rattle.session.proofs.Needs.{Mirror, refuses, passes}
 use Rattle.session.proofs.Resting.{OneCall, n, here, book, lent_to, allowed, still, marks_alone}

@@ -18,11 +18,11 @@ use Rattle.sheet.specs.Walking.{next_needs, IsStep}
 use Rattle.session.specs.declared.call.Act.TheVariants.{Next, Close}
 use Rattle.session.specs.Book.{Book, settled, walking}
 use Rattle.session.specs.Exchange.{Reply}
-use Rattle.session.specs.Lists.{SameIn, lengths, rests_on, the_walk}
+use Rattle.session.specs.Lists.{lengths, rests_on, the_walk}
 use Rattle.session.specs.Promise.{Settling}
 use Rattle.session.specs.Program.{SheetAt, state_at, IsAnswered, pairing_by}
 use Rattle.session.proofs.Fits.{fits_with}
-use Rattle.session.proofs.Held.{AtPlace, HasWalksInTurn, IsReady, Keeps, GoesOn}
+use Rattle.session.proofs.Held.{AtPlace, HasWalksInTurn, IsReady, Keeps, GoesOn, SameIn}
 use Rattle.session.proofs.Judging.{goes_on_by, accepted_next}
 use Rattle.session.proofs.Resting.{OneCall, n, here, book, lent_to, allowed, is_own, still, stay}
 use Rattle.session.proofs.Resting.{on_walk, walk_alone}

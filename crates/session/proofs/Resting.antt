@@ -13,13 +13,13 @@ use Rattle.tables.specs.Together.{HoldTogether}
 use Rattle.sheet.specs.Size.{Sheet, size_of}
 use Rattle.session.specs.declared.call.Act.{Act}
 use Rattle.session.specs.Book.{Book, Phase, settled, walking, allows, grid_in}
-use Rattle.session.specs.Lists.{Table, TableLists, list_in, SameIn, lent_of, places_in, rests_on}
+use Rattle.session.specs.Lists.{Table, TableLists, list_in, lent_of, places_in, rests_on}
 use Rattle.session.specs.Lists.{the_costs, the_standing, the_partners, the_left, the_right}
 use Rattle.session.specs.Lists.{the_walk, the_marks}
 use Rattle.session.specs.Promise.{Settling}
 use Rattle.session.specs.Program.{SheetAt, state_at, HandsAll}
 use Rattle.session.proofs.Cells.{alike}
-use Rattle.session.proofs.Held.{Shows, IsReady, Keeps, keeps_same, lent_is, shows_same}
+use Rattle.session.proofs.Held.{SameIn, Shows, IsReady, Keeps, keeps_same, lent_is, shows_same}
 
 -- a call on a sheet that keeps the book: the sheet's own tables before it, what it is handed and
 -- what it leaves there, and the sheet's own tables after it

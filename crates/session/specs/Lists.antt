@@ -40,10 +40,6 @@ list_in x the_right = x.right
 list_in x the_walk = x.walk
 list_in x the_marks = x.marks
 
--- the same list in each of these tables
-abbrev pub SameIn : {K : Type 0} → (Table → Bool) → (x y : TableLists K) → Type 0
-SameIn these x y = (table : Table) → these table ≡ true → list_in x table ≡ list_in y table
-
 -- the tables that most calls on a sheet of n blocks a plane are handed, as one value
 abbrev pub lent_of : {K : Type 0} → ℕ → TableLists K → Lent K
 lent_of n x = as_one n x.costs x.standing x.partners x.left x.right
