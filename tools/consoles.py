@@ -15,11 +15,6 @@ import sys
 
 from reports import WORDS, crowd_lines, perfect_pairings
 
-MEANINGS = dict(WORDS)
-MEANINGS[2] = ("a table has the wrong length",
-               "Lend pair tables with n * n places and lists with n places.")
-MEANINGS[5] = ("the pair is absent", "Enter the pair with a cost first.")
-
 # the white space of docs/console.md, which is less than Python's own: that has U+001C to U+001F too
 BLANKS = ("\t\n\v\f\r \x85\xa0\u1680\u2028\u2029\u202f\u205f\u3000"
           + "".join(map(chr, range(0x2000, 0x200b))))
@@ -136,7 +131,7 @@ class Session:
             return getattr(self, word)(pair, cost)
         except Refusal as refusal:
             number = refusal.args[0]
-            meaning, remedy = MEANINGS[number]
+            meaning, remedy = WORDS[number]
             return ["refused %d: %s" % (number, meaning), *refusal.args[1:], remedy]
 
     def shown(self, cost):
@@ -220,7 +215,7 @@ class Session:
             if not re.fullmatch(r"\+?[0-9]+", size):
                 raise Complaint("`%s` is not a whole number from 0" % size)
             if not 1 <= int(size) <= 64:
-                raise Complaint("`%s`: %s. %s" % (size, *MEANINGS[1]))
+                raise Complaint("`%s`: %s. %s" % (size, *WORDS[1]))
             self.ended(words, "size N")
             self.n = int(size)
             return ["sheet of %d left and %d right blocks; %s"

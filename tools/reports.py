@@ -12,19 +12,15 @@ from order_files import END, LIMIT, first_fault, pair, size
 # a listing has at most so many pairings
 MOST = 1000
 
-WORDS = {
-    1: ("the size is 0 or above 64", "State a size from 1 to 64."),
-    3: ("a block number is not below the size", "Number the blocks of each plane from 0."),
-    4: ("a cost is not within 10^9", "Scale the costs down, all by the same factor."),
-    6: ("the standing pairs hold no perfect pairing",
-        "Enter more pairs: some left blocks stand with too few right blocks."),
-    8: ("a field runs past the end of the file",
-        "Look whether the file is cut short, or the length of this field wrong."),
-    9: ("the tag of a field is unknown or out of order",
-        "Write one size, then the pairs, then one end, and nothing behind it."),
-    10: ("the length of a field is not the one of its tag",
-         "Give a size 1 byte, a pair 10 bytes and the end none."),
-}
+
+def causes():
+    """What docs/refusals.md tells of each cause: whether a refusal for it has a place in a file, what
+    it means, and what to do."""
+    rows = [line.strip("| \n").split(" | ") for line in open("docs/refusals.md")]
+    return {int(row[0]): (row[4] != "0", row[5], row[6]) for row in rows if row[0].isdigit()}
+
+
+WORDS = {number: (meaning, remedy) for number, (_, meaning, remedy) in causes().items()}
 
 
 def perfect_pairings(n, cells):
@@ -108,6 +104,12 @@ def explained(number, place, between=()):
     return "\n".join(lines) + "\n"
 
 
+def refusals():
+    """Every cause in words, each at a place of its own."""
+    return "".join(explained(number, number + 99 if placed else None)
+                   for number, (placed, _, _) in sorted(causes().items()))
+
+
 def told(data):
     """The listing of a file, and its map."""
     verdict = first_fault(data)
@@ -186,7 +188,9 @@ def random_sheets(count):
 
 
 def runs():
-    """Runs of `listing` and of `inspect map`: the words, the input, and what has to be printed."""
+    """Runs of `listing` and of `inspect map`, and the refusals: the words, the input, and what has to
+    be printed."""
+    yield "refusals", b"", refusals()
     crowded = open("samples/crowded.order", "rb").read()
     for data in [crowded, *sheets(), *refused(), *random_sheets(300)]:
         lines, table = told(data)

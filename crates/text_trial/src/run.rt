@@ -3,7 +3,9 @@
 use anyhow::Context;
 use command::Streams;
 use console_words::talk;
+use refusal_words::explain;
 use report::{inspect, listing};
+use sheet::Cause;
 use std::alloc::{AllocError, Global};
 use std::io::{BufRead, Read};
 use std::process::ExitCode;
@@ -16,7 +18,24 @@ enum Program {
     Inspect,
     Listing,
     Console,
+    /// No program, but every refusal in words.
+    Refusals,
 }
+
+/// All causes, in the order of their numbers.
+const CAUSES: [Cause; 11] = [
+    Cause::Size,
+    Cause::TableLength,
+    Cause::Block,
+    Cause::CostRange,
+    Cause::Absent,
+    Cause::NoPerfectPairing,
+    Cause::Inconsistent,
+    Cause::Overrun,
+    Cause::Tag,
+    Cause::FieldLength,
+    Cause::ShortBuffer,
+];
 
 #[derive(Debug, Drop, Error)]
 #[error("there is no such program")]
@@ -30,6 +49,7 @@ impl FromStr for Program {
             "inspect" => Ok(Program::Inspect),
             "listing" => Ok(Program::Listing),
             "console" => Ok(Program::Console),
+            "refusals" => Ok(Program::Refusals),
             _ => Err(NoProgram),
         }
     }
@@ -51,6 +71,15 @@ fn words_of(heap: Global, text: &str) -> Result<Vec<String>, AllocError> {
         words.push(String::from_str(heap, word)?)?;
     }
     Ok(words)
+}
+
+/// Writes what each cause is explained by, at a place of its own.
+fn explain_all(heap: Global, output: &mut Vec<u8>) -> Result<ExitCode, AllocError> {
+    for (k, cause) in CAUSES.iter().enumerate() {
+        let text = explain(heap, cause.at(k + 100))?;
+        output.extend_from_slice(text.as_bytes())?;
+    }
+    Ok(ExitCode::SUCCESS)
 }
 
 impl Run {
@@ -85,6 +114,7 @@ impl Run {
             Program::Inspect => inspect(heap, &words, input, to)?,
             Program::Listing => listing(heap, &words, input, to)?,
             Program::Console => talk(heap, &words, input, to)?,
+            Program::Refusals => explain_all(heap, &mut to.output)?,
         })
     }
 }
