@@ -14,8 +14,8 @@ MOST = 1000
 
 
 def causes():
-    """What docs/refusals.md tells of each cause: whether a refusal for it has a place in a file, what
-    it means, and what to do."""
+    """What docs/refusals.md tells of each cause: whether a refusal for it has a place in a file,
+    what it means, and what to do."""
     rows = [line.strip("| \n").split(" | ") for line in open("docs/refusals.md")]
     return {int(row[0]): (row[4] != "0", row[5], row[6]) for row in rows if row[0].isdigit()}
 
@@ -188,8 +188,8 @@ def random_sheets(count):
 
 
 def runs():
-    """Runs of `listing` and of `inspect map`, and the refusals: the words, the input, and what has to
-    be printed."""
+    """Runs of `listing` and of `inspect map`, and the refusals: the words, the input, and what has
+    to be printed."""
     yield "refusals", b"", refusals()
     crowded = open("samples/crowded.order", "rb").read()
     for data in [crowded, *sheets(), *refused(), *random_sheets(300)]:

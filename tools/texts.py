@@ -1,6 +1,6 @@
 #!/usr/bin/env python3
-"""Makes the files of crates/text_trial: runs of `inspect`, `listing` and `console`, and the refusals
-in words, and what each has to print.
+"""Makes the files of crates/text_trial: runs of `inspect`, `listing` and `console`, the refusals in
+words, and what each has to print.
 
 Run in the repository's root. Answers come from order_files.py, reports.py and consoles.py. Only the
 usage texts are taken from the programs: they are no answers.

@@ -1,7 +1,7 @@
 //! Runs the programs that print texts, each time with words and an input of their own, and prints
 //! what they write and how they end; and every refusal in words. Standard input has one run after
-//! the other; the runs and what has to be printed are made by tools/texts.py, which knows nothing of
-//! the core.
+//! the other; the runs and what has to be printed are made by tools/texts.py, which knows nothing
+//! of the core.
 #![tactic(auto)]
 
 mod run;
