@@ -21,8 +21,8 @@ use Rattle.bench_calls.specs.Codes.{outcome_code, fault_number}
 
 module _ {K : Type 0} (kind : Ghosts K) where
   -- settling: the number stands for what `settle` answers
-  abbrev pub Settles : (old new : Lent K) → ℕ → Type 0
-  Settles old new number = (r : Result Outcome Flaw) × (number ≡ outcome_code r)
+  abbrev pub SettlesTables : (old new : Lent K) → ℕ → Type 0
+  SettlesTables old new number = (r : Result Outcome Flaw) × (number ≡ outcome_code r)
       × Answers kind old new (Settled kind new) r
 
   -- a step of the walk: its number, or 1 where the tables do not hold together or the list is no

@@ -3,7 +3,7 @@
 
 ghost use Rattle.std.specs.Prelude.{◌≡◌, length, Result};
 ghost use Rattle.tables.specs.Lent.{lent};
-ghost use Rattle.bench_calls.specs.Calls.{Settles, Steps, Marks};
+ghost use Rattle.bench_calls.specs.Calls.{SettlesTables, Steps, Marks};
 ghost use Rattle.bench_calls.specs.Codes.{outcome_code, fault_number};
 
 use assign::{Outcome, settle};
@@ -43,7 +43,7 @@ pub fn settle_number<K: Cost>(
     ensures { let n = length partners.old in
         let old = lent n costs.now standing.now partners.old left.old right.old in
         let new = lent n costs.now standing.now partners.new left.new right.new in
-        Settles K.Cost old new result }
+        SettlesTables K.Cost old new result }
 {
     if partners.len() > MOST_BLOCKS as usize {
         return 1;

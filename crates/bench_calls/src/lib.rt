@@ -18,9 +18,9 @@ ghost use Rattle.assign.specs.Answer.{Answers, Solved};
 ghost use Rattle.sheet.specs.Opening.{OpensSheet};
 ghost use Rattle.sheet.specs.Size.{Sheet};
 ghost use Rattle.sheet.specs.declared.fault.Fault.{Fault};
-ghost use Rattle.orderfile.specs.Loading.{IsLoaded};
+ghost use Rattle.orderfile.specs.Loading.{Loads};
 ghost use Rattle.bench_calls.specs.Codes.{outcome_code, fault_number};
-ghost use Rattle.bench_calls.specs.Calls.{Settles, Steps, Marks, Saves};
+ghost use Rattle.bench_calls.specs.Calls.{SettlesTables, Steps, Marks, Saves};
 
 mod calls;
 mod two;
@@ -99,7 +99,7 @@ pub extern "C" fn bench_settle(
     ensures { let n = length partners.old in
         let old = lent n costs.now standing.now partners.old left.old right.old in
         let new = lent n costs.now standing.now partners.new left.new right.new in
-        Settles ⟦<Plain as Cost>⟧ old new result }
+        SettlesTables ⟦<Plain as Cost>⟧ old new result }
 {
     settle_number::<Plain>(costs, standing, partners, left, right)
 }
@@ -152,7 +152,7 @@ pub extern "C" fn bench_two_settle(
     ensures { let n = length partners.old in
         let old = lent n costs.now standing.now partners.old left.old right.old in
         let new = lent n costs.now standing.now partners.new left.new right.new in
-        Settles ⟦<Two as Cost>⟧ old new result }
+        SettlesTables ⟦<Two as Cost>⟧ old new result }
 {
     settle_number::<Two>(costs, standing, partners, left, right)
 }
@@ -196,7 +196,7 @@ pub extern "C" fn bench_two_marks(
 #[unsafe(no_mangle)]
 pub extern "C" fn bench_load(file: &[u8], costs: &mut [Plain], standing: &mut [u8]) -> u32
     ensures { (r : Result Sheet Fault) × (result ≡ fault_number r)
-        × IsLoaded file.now costs.old standing.old r costs.new standing.new }
+        × Loads file.now costs.old standing.old r costs.new standing.new }
 {
     fault_number(load(file, costs, standing))
 }

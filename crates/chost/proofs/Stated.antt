@@ -17,7 +17,7 @@ use Rattle.sheet.specs.declared.fault.Fault.{Fault}
 use Rattle.orderfile.specs.Faults.{FirstFault}
 use Rattle.orderfile.specs.Format.{StatedOrder, States}
 use Rattle.orderfile.specs.Loading.{HasOneVerdict, stated_grid, plain_kind, plain_grid}
-use Rattle.orderfile.specs.Loading.{LoadsOrder, IsLoaded}
+use Rattle.orderfile.specs.Loading.{LoadsOrder, Loads}
 use Rattle.orderfile.proofs.LoadedGrid.{loaded_ok, loaded_alike, loaded_optima, loaded_perfect}
 use Rattle.tables.specs.PairTables.{HavePlaces}
 use Rattle.tables.specs.Lent.{lent}
@@ -137,7 +137,7 @@ module _ (o : StatedOrder) (r : Result Sheet Fault) (costs : List Plain) (standi
 -- ---- In tables with room for the sheet that the file states
 
 module _ {file : List ℕ} {costs₀ costs : List Plain} {standing₀ standing : List ℕ} {sheet : Sheet}
-    (loaded : IsLoaded file costs₀ standing₀ (Ok sheet) costs standing) (call : HostCall)
+    (loaded : Loads file costs₀ standing₀ (Ok sheet) costs standing) (call : HostCall)
     (out partners list : List ℕ) (left right : List Plain)
     (rooms : (o : StatedOrder) → States file o
     → HasRoomFor o.size (length costs₀) (length standing₀)

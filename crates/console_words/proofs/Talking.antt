@@ -15,7 +15,7 @@ use Rattle.console_words.specs.declared.turn.Turn.{Turn}
 use Rattle.console_words.specs.declared.turn.Turn.TheVariants.{Over}
 use Rattle.console_words.specs.Conversing.{Talk, TakesLine, Converses}
 use Rattle.console_words.specs.Conversing.Talk.{ends, is_over, goes_on}
-use Rattle.console_words.specs.Moving.{Prints}
+use Rattle.console_words.specs.Moving.{IsPrinted}
 
 -- the talk over these bytes has come to the line of a number, before which the rest is left
 pub record HasLedTo (bytes : List ℕ) (left before after : Option (List ℕ)) (number : ℕ)
@@ -68,7 +68,7 @@ taken_line {X = X} {E = E} bytes byte left left' item line shown ten is same yie
 pub leads_on : (known left left' before after after' : Option (List ℕ)) (number next : ℕ)
     (console console' : Console) (turn : Turn) (line said : List ℕ) → next ≡ number + 1
     → HasLed known left before after number console → IsTaken left left' line
-    → TakesLine number line console console' turn → Prints said turn → Appends after after' said
+    → TakesLine number line console console' turn → IsPrinted said turn → Appends after after' said
     → HasLed known left' before after' next console'
 leads_on known left left' before after after' number next console console' turn line said e led
     taken takes prints appends = IfSome_then known led (λ bytes l.

@@ -26,7 +26,7 @@ use Rattle.console_words.specs.declared.turn.Turn.{Turn}
 use Rattle.console_words.specs.declared.turn.Turn.TheVariants.{Over}
 use Rattle.console_words.specs.Complaining.{complained_line}
 use Rattle.console_words.specs.Lines.{AsksOpening, IsWrongOpening}
-use Rattle.console_words.specs.Moving.{Prints, IsBlank, Moves}
+use Rattle.console_words.specs.Moving.{IsPrinted, IsBlank, Moves}
 use Rattle.console_words.specs.Naming.{columns_words}
 use Rattle.console_words.specs.Words.{words_of, IsSkipped}
 
@@ -74,12 +74,12 @@ opened_line n columns = codes "sheet of " ++ (decimal n ++ (codes " left and " +
 -- what comes of what a line asks for before a sheet is open
 abbrev pub Opens : ColumnCount → Opening → Console → Turn → Type 0
 Opens columns (SetsColumns c) console turn =
-    (console ≡ Unopened c) × Prints (columns_words c ++ codes "\n") turn
+    (console ≡ Unopened c) × IsPrinted (columns_words c ++ codes "\n") turn
 Opens One (SetsSize size) (OfPlain desk) turn =
-    IsBlank one_column size.blocks desk × Prints (opened_line size.blocks One) turn
+    IsBlank one_column size.blocks desk × IsPrinted (opened_line size.blocks One) turn
 Opens Two (SetsSize size) (OfTwoStep desk) turn =
-    IsBlank two_columns size.blocks desk × Prints (opened_line size.blocks Two) turn
-Opens columns AsksHelp console turn = (console ≡ Unopened columns) × Prints HELP.now turn
+    IsBlank two_columns size.blocks desk × IsPrinted (opened_line size.blocks Two) turn
+Opens columns AsksHelp console turn = (console ≡ Unopened columns) × IsPrinted HELP.now turn
 Opens columns AsksEnd console turn = (console ≡ Unopened columns) × (turn ≡ Over)
 Opens _ _ _ turn = ⊥
 
@@ -91,7 +91,7 @@ module _ (number : ℕ) where
   Turns words (Unopened columns) console turn =
       ((opening : Opening) × AsksOpening words opening × Opens columns opening console turn)
       ⊎ ((complaint : Complaint) × IsWrongOpening words complaint
-      × (console ≡ Unopened columns) × Prints (complained_line number complaint) turn)
+      × (console ≡ Unopened columns) × IsPrinted (complained_line number complaint) turn)
   Turns words (OfPlain desk) (OfPlain desk') turn =
       Moves one_column one_written one_number one_entering number words desk desk' turn
   Turns words (OfTwoStep desk) (OfTwoStep desk') turn =
@@ -103,8 +103,8 @@ module _ (number : ℕ) where
   -- text. Neither changes anything.
   abbrev pub TakesLine : List ℕ → Console → Console → Turn → Type 0
   TakesLine line console console' turn =
-      (¬ IsUtf8 line × (console' ≡ console) × Prints (complained_line number NotText) turn)
-      ⊎ (IsUtf8 line × IsSkipped (words_of line) × (console' ≡ console) × Prints [] turn)
+      (¬ IsUtf8 line × (console' ≡ console) × IsPrinted (complained_line number NotText) turn)
+      ⊎ (IsUtf8 line × IsSkipped (words_of line) × (console' ≡ console) × IsPrinted [] turn)
       ⊎ (IsUtf8 line × ¬ IsSkipped (words_of line) × Turns (words_of line) console console' turn)
 
 -- A talk, from a console on and before the line of this number: the text that the lines among the
@@ -117,7 +117,7 @@ pub data Talk : ℕ → Console → (bytes text : List ℕ) → Type 0 where
       → Talk number console bytes []
   goes_on : (number : ℕ) (console console' : Console) (turn : Turn) (bytes said more : List ℕ)
       → 0 < length bytes → TakesLine number (first_piece 10 bytes) console console' turn
-      → Prints said turn → Talk (number + 1) console' (drop_through 10 bytes) more
+      → IsPrinted said turn → Talk (number + 1) console' (drop_through 10 bytes) more
       → Talk number console bytes (said ++ more)
 
 -- what is written of a talk over all these bytes, where it is known what was written before

@@ -22,9 +22,9 @@ use Rattle.console_words.specs.Handing.{call_on}
 use Rattle.console_words.specs.Lines.{Asks, IsWrong}
 
 -- this is the text to print
-abbrev pub Prints : List ℕ → Turn → Type 0
-Prints words (Said text) = string_bytes text ≡ words
-Prints words Over = ⊥
+abbrev pub IsPrinted : List ℕ → Turn → Type 0
+IsPrinted words (Said text) = string_bytes text ≡ words
+IsPrinted words Over = ⊥
 
 module _ {K : Type 0} (kind : Ghosts K) where
   -- a sheet of n blocks a plane that was just opened: every pair is absent
@@ -44,8 +44,8 @@ module _ {K : Type 0} (kind : Ghosts K) where
     abbrev pub Serves : Desk K → Request K → Desk K → Turn → Type 0
     Serves desk (Make act short) desk' turn = (answer : Answer K)
         × Performs desk act short answer desk'
-        × Prints (answer_words written act desk'.state answer) turn
-    Serves desk Help desk' turn = (desk' ≡ desk) × Prints HELP.now turn
+        × IsPrinted (answer_words written act desk'.state answer) turn
+    Serves desk Help desk' turn = (desk' ≡ desk) × IsPrinted HELP.now turn
     Serves desk Quit desk' turn = (desk' ≡ desk) × (turn ≡ Over)
 
     -- what the line of this number and these words does: what it asks for; or if it asks for
@@ -56,4 +56,4 @@ module _ {K : Type 0} (kind : Ghosts K) where
           ((request : Request K) × Asks kind numbers words request
           × Serves desk request desk' turn)
           ⊎ ((complaint : Complaint) × IsWrong kind entering words complaint
-          × (desk' ≡ desk) × Prints (complained_line number complaint) turn)
+          × (desk' ≡ desk) × IsPrinted (complained_line number complaint) turn)

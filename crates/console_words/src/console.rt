@@ -6,7 +6,7 @@ ghost use Rattle.console_words.specs.declared.opening.ColumnCount.TheVariants.{O
 ghost use Rattle.console_words.specs.declared.opening.Opening.TheVariants.{Size};
 ghost use Rattle.console_words.specs.Complaining.{complained_line};
 ghost use Rattle.console_words.specs.Conversing.{Opens, Turns, TakesLine, Converses, opened_line};
-ghost use Rattle.console_words.specs.Moving.{Prints, Moves};
+ghost use Rattle.console_words.specs.Moving.{IsPrinted, Moves};
 ghost use Rattle.console_words.specs.Words.{words_of, IsSkipped};
 
 use crate::complaint::Complaint;
@@ -35,7 +35,7 @@ pub enum Console {
 
 // The text of a complaint about a line.
 fn complaint_turn(heap: Global, number: usize, complaint: Complaint<'_>) -> Result<Turn, AllocError>
-    ensures { IfOk result (Prints (complained_line number complaint.entry)) }
+    ensures { IfOk result (IsPrinted (complained_line number complaint.entry)) }
 {
     Ok(Turn::Said(format!(in heap; "line {number}: {complaint}\n")?))
 }

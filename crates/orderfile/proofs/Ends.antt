@@ -18,7 +18,7 @@ use Rattle.sheet.proofs.Needs.{met_or_not}
 use Rattle.orderfile.specs.Format.{StatedOrder, FitsSheet, States}
 use Rattle.orderfile.specs.Faults.{FirstFault}
 use Rattle.orderfile.specs.Loading.{plain, plain_kind, costs_after, standing_after, ShowsOrder}
-use Rattle.orderfile.specs.Loading.{IsChecked, LoadsOrder, IsLoaded}
+use Rattle.orderfile.specs.Loading.{IsChecked, LoadsOrder, Loads}
 use Rattle.orderfile.proofs.Cells.{shows_order}
 use Rattle.orderfile.proofs.Grids.{same_grid, entered_tables}
 use Rattle.orderfile.proofs.Verdicts.{one_order, one_fault, not_both, verdict_order, verdict_fault}
@@ -45,7 +45,7 @@ checked_ok file n h =
 module _ (file : List ℕ) (costs : List Plain) (standing : List ℕ) (r : Result Sheet Fault)
     (costs' : List Plain) (standing' : List ℕ) where
   pub loaded_faulty : (f : Fault) → FirstFault file f → r ≡ Err f → costs' ≡ costs
-      → standing' ≡ standing → IsLoaded file costs standing r costs' standing'
+      → standing' ≡ standing → Loads file costs standing r costs' standing'
   loaded_faulty f s e ec eb = record {
     verdict = verdict_fault file f s;
     faulty = λ g t. record {
@@ -61,7 +61,7 @@ module _ (file : List ℕ) (costs : List Plain) (standing : List ℕ) (r : Resul
   pub loaded_misfit : (order : StatedOrder) → States file order
       → (HavePlaces order.size (length costs) (length standing) → ⊥)
       → r ≡ Err (fault TableLength 0) → costs' ≡ costs → standing' ≡ standing
-      → IsLoaded file costs standing r costs' standing'
+      → Loads file costs standing r costs' standing'
   loaded_misfit order s unfit e ec eb = record {
     verdict = verdict_order file order s;
     faulty = λ g t. absurd (not_both file order g s t);
@@ -75,7 +75,7 @@ module _ (file : List ℕ) (costs : List Plain) (standing : List ℕ) (r : Resul
       → costs' ≡ costs_after order.size order.pairs
       (costs_opened (plain (pos 0)) order.size)
       → standing' ≡ standing_after order.size order.pairs (standing_opened order.size)
-      → IsLoaded file costs standing r costs' standing'
+      → Loads file costs standing r costs' standing'
   loaded order s fit e ec eb =
       let shown : ShowsOrder order costs' standing' =
       rw (ec, eb) (shows_order order s.fits.pairs_fit) in

@@ -23,7 +23,7 @@ use Rattle.sheet.specs.declared.fault.Cause.TheVariants.{TableLength}
 use Rattle.sheet.specs.declared.fault.Fault.{Fault}
 use Rattle.orderfile.specs.Format.{StatedOrder, States}
 use Rattle.orderfile.specs.Faults.{FirstFault}
-use Rattle.orderfile.specs.Loading.{plain_grid, stated_grid, LoadsOrder, IsLoaded}
+use Rattle.orderfile.specs.Loading.{plain_grid, stated_grid, LoadsOrder, Loads}
 use Rattle.std.proofs.Common.{unsigned_abs}
 use Rattle.cost.specs.declared.TheConstants.{COST_LIMIT}
 
@@ -40,7 +40,7 @@ module _ (file : List ℕ) (costs : List Plain) (standing : List ℕ) (costs' : 
       (cases_Bool (have_places n (length costs) (length standing)))
 
   -- it answered a sheet
-  pub loaded_ok : (sheet : Sheet) → IsLoaded file costs standing (Ok sheet) costs' standing'
+  pub loaded_ok : (sheet : Sheet) → Loads file costs standing (Ok sheet) costs' standing'
       → (order : StatedOrder) × States file order
       × HavePlaces order.size (length costs) (length standing)
       × (sheet.size ≡ order.size) × LoadsOrder order (Ok sheet) costs' standing'
@@ -54,7 +54,7 @@ module _ (file : List ℕ) (costs : List Plain) (standing : List ℕ) (costs' : 
       h.verdict.some
 
   -- it refused
-  pub loaded_err : (f : Fault) → IsLoaded file costs standing (Err f) costs' standing'
+  pub loaded_err : (f : Fault) → Loads file costs standing (Err f) costs' standing'
       → (FirstFault file f ⊎ ((order : StatedOrder) × States file order
       × (HavePlaces order.size (length costs) (length standing) → ⊥) × (f ≡ fault TableLength 0)))
       × (costs' ≡ costs) × (standing' ≡ standing)

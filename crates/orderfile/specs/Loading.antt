@@ -116,7 +116,7 @@ pub record LoadsOrder (order : StatedOrder) (r : Result Sheet Fault) (costs' : L
 
 -- loading: the first fault of the file, else tables of the wrong length, else the sheet that the
 -- file states
-pub record IsLoaded (file : List ℕ) (costs : List Plain) (standing : List ℕ) (r : Result Sheet
+pub record Loads (file : List ℕ) (costs : List Plain) (standing : List ℕ) (r : Result Sheet
     Fault)
     (costs' : List Plain) (standing' : List ℕ) : Type 0 where
   pub verdict : HasOneVerdict file

@@ -18,7 +18,7 @@ use Rattle.orderfile.specs.declared.format.TheConstants.{SIZE_FIELD, PAIR_FIELD,
 use Rattle.orderfile.specs.declared.record.StatedPair.{StatedPair}
 use Rattle.orderfile.specs.Format.{PairFits, file_of}
 use Rattle.orderfile.specs.Loading.{plain, plain_kind, plain_cell, plain_grid, names_blocks}
-use Rattle.orderfile.specs.Loading.{IsLoaded}
+use Rattle.orderfile.specs.Loading.{Loads}
 
 -- the length of a saved file: a size field, a field for each standing pair, an end field
 abbrev pub saved_length : List ℕ → ℕ
@@ -79,7 +79,7 @@ Reloads n costs standing file =
     (costs₀ : List Plain) (standing₀ : List ℕ) (r : Result Sheet Fault) (costs' : List Plain)
     (standing' : List ℕ)
     → HavePlaces n (length costs₀) (length standing₀)
-    → IsLoaded file costs₀ standing₀ r costs' standing'
+    → Loads file costs₀ standing₀ r costs' standing'
     → (r ≡ Ok (sheet_of n))
     × ((l r : ℕ) → l < n → r < n
     → plain_cell n costs' standing' l r ≡ plain_cell n costs standing l r)

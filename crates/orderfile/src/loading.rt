@@ -3,7 +3,7 @@
 ghost use Rattle.std.specs.Prelude.{◌≡◌, length};
 ghost use Rattle.tables.specs.PairTables.{HavePlaces};
 ghost use Rattle.orderfile.specs.Format.{StatedOrder, States};
-ghost use Rattle.orderfile.specs.Loading.{IsChecked, costs_after, standing_after, IsLoaded};
+ghost use Rattle.orderfile.specs.Loading.{IsChecked, costs_after, standing_after, Loads};
 
 use crate::record::Record;
 use crate::record_reader::RecordReader;
@@ -30,7 +30,7 @@ pub fn check(file: &[u8]) -> Result<u16, Fault>
 /// The whole file is read before anything is written. Refused: the first fault of the file, and
 /// then tables that do not have n * n places, for the size n that the file states.
 pub fn load(file: &[u8], costs: &mut [Plain], standing: &mut [u8]) -> Result<OpenSheet, Fault>
-    ensures { IsLoaded file.now costs.old standing.old result costs.new standing.new }
+    ensures { Loads file.now costs.old standing.old result costs.new standing.new }
 {
     let n = check(file)?;
     let sheet = open(n, costs, standing)?;

@@ -95,7 +95,7 @@ is_among ps l r = list_any (λ p. at p 0 == l && at p 1 == r) ps
 
 -- These are the optimum pairings; each costs the total, and the prices are the greatest for each:
 -- `AllByRecursion` is the `All` that computes.
-pub record ArePriced (g : Grid) (pairings : List (List ℕ)) (sum : ℤ) (left right : List ℤ)
+pub record HasSolution (g : Grid) (pairings : List (List ℕ)) (sum : ℤ) (left right : List ℤ)
     : Type 0 where
   pub all : optima g ≡ pairings
   pub totals : AllByRecursion (λ p. total g p ≡ sum ∷ []) pairings
@@ -104,7 +104,7 @@ pub record ArePriced (g : Grid) (pairings : List (List ℕ)) (sum : ℤ) (left r
 -- the numbers are right for these grids, at the plain, the free and the two-step kind
 pub record Examples (plain : Ghosts Plain) (free : Ghosts Free)
     (two_step : Ghosts (TwoStep Plain Plain)) (w : Worked) : Type 0 where
-  pub s : ArePriced (s_grid plain) w.s_optima w.s_total w.s_left w.s_right
+  pub s : HasSolution (s_grid plain) w.s_optima w.s_total w.s_left w.s_right
   -- some optimum pairing has each standing pair but these
   pub s_marked : (l r : ℕ) → l < 3 → r < 3 → (s_grid plain).stands l r ≡ true
       → (IsTrue (not (is_among w.s_unmarked l r)) ↔ IsInOptimum (s_grid plain) l r)
@@ -115,13 +115,13 @@ pub record Examples (plain : Ghosts Plain) (free : Ghosts Free)
   pub crowded : HasNoPerfect (crowded_grid free).size (crowded_grid free).stands w.crowded_set
       w.crowded_short
   pub bare : HasNoPerfect (bare_grid free).size (bare_grid free).stands w.bare_set w.bare_short
-  pub corner : ArePriced (corner_grid plain) w.corner_optima (pos 0) w.corner_left w.corner_right
+  pub corner : HasSolution (corner_grid plain) w.corner_optima (pos 0) w.corner_left w.corner_right
   -- a standing pair that costs just its prices and is in no optimum pairing
   pub corner_stands : (corner_grid plain).stands w.corner_pair.left w.corner_pair.right ≡ true
   pub corner_tight : IsTight (corner_grid plain) (prices w.corner_left) (prices w.corner_right)
       w.corner_pair.left w.corner_pair.right
   pub corner_unmarked : IsInOptimum (corner_grid plain) w.corner_pair.left w.corner_pair.right → ⊥
-  pub cheap : ArePriced (cheap_grid plain) w.cheap_optima w.cheap_total w.cheap_left w.cheap_right
+  pub cheap : HasSolution (cheap_grid plain) w.cheap_optima w.cheap_total w.cheap_left w.cheap_right
   pub level_count : length (optima (level_grid plain)) ≡ w.level_count
   pub level_first : slice_index_or (optima (level_grid plain)) 0 [] ≡ w.level_first
   pub level_last : slice_index_or (optima (level_grid plain)) (w.level_count - 1) [] ≡ w.level_last

@@ -16,7 +16,7 @@ use Rattle.orderfile.proofs.Verdicts.{one_order, one_fault, not_both, verdict_or
 use Rattle.refusal_words.specs.Lines.{up_to}
 use Rattle.report.specs.Afresh.{IsLoaded}
 use Rattle.report.specs.Describing.{IsReport}
-use Rattle.report.specs.Text.{pair_line, cost_in, row_lines, all_lines, sheet_text, statement}
+use Rattle.report.specs.Text.{pair_line, pair_cost, row_lines, all_lines, sheet_text, statement}
 use Rattle.report.specs.declared.fresh_tables.LoadedSheet.{LoadedSheet}
 use Rattle.report.proofs.Lines.{up_same}
 
@@ -66,7 +66,7 @@ mapped_back None = refl
 -- the cost of a pair in tables that show an order is the stated one
 pub cost_shown : (order : StatedOrder) (costs : List Plain) (standing : List ℕ)
     → ShowsOrder order costs standing → (l r : ℕ) → l < order.size → r < order.size
-    → cost_in order.size costs standing l r ≡ stated_cost order.pairs l r
+    → pair_cost order.size costs standing l r ≡ stated_cost order.pairs l r
 cost_shown order costs standing shows l r i j =
     ap (option_map (λ p. p.0)) (shows l r i j) ∙ mapped_back (stated_cost order.pairs l r)
 
@@ -83,7 +83,7 @@ statement_loaded file sheet loaded =
     (λ l. up_to n (λ r. pair_line l r (stated_cost order.pairs l r))) =
     up_same n (λ l. row_lines n costs standing l n)
     (λ l. up_to n (λ r. pair_line l r (stated_cost order.pairs l r)))
-    (λ l i. up_same n (λ r. pair_line l r (cost_in n costs standing l r))
+    (λ l i. up_same n (λ r. pair_line l r (pair_cost n costs standing l r))
     (λ r. pair_line l r (stated_cost order.pairs l r))
     (λ r j. ap (pair_line l r) (cost_shown order costs standing loaded.accepted.shows l r i j))) in
     ap (λ k. sheet_text k costs standing) loaded.size

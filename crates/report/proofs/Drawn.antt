@@ -21,7 +21,7 @@ use Rattle.sheet.specs.declared.fault.Fault.{Fault}
 use Rattle.orderfile.specs.Format.{StatedOrder}
 use Rattle.orderfile.specs.Loading.{plain_kind, plain_grid, stated_cost, stated_grid, LoadsOrder}
 use Rattle.orderfile.proofs.LoadedGrid.{loaded_alike}
-use Rattle.report.specs.Text.{cost_in}
+use Rattle.report.specs.Text.{pair_cost}
 use Rattle.report.specs.Listing.{total_line}
 use Rattle.report.specs.Mapping.{SheetView, cell_text, cell_of, right_in, most, row_width}
 use Rattle.report.specs.Mapping.{column_width, head_line, table_row, table_rows, legend}
@@ -83,7 +83,7 @@ module _ (t : Lent Plain) (marks : List ℕ) where
   abbrev pub tables_view : SheetView
   tables_view = record {
     size = t.size;
-    cost = cost_in t.size t.costs t.standing;
+    cost = pair_cost t.size t.costs t.standing;
     first = λ l r. at t.partners l == r;
     occurs = λ l r. at marks (place_of t.size l r) == 1;
   }
@@ -99,10 +99,10 @@ module _ (t : Lent Plain) (marks : List ℕ) where
   pub drawn : AreMarks plain_kind t marks → (text : List ℕ)
       → IsNth (optima (grid plain_kind t)) 0 t.partners
       → text ≡ total_line (total (grid plain_kind t) t.partners) ++ map_text tables_view
-      → IsMap (cost_in t.size t.costs t.standing) (grid plain_kind t) text
+      → IsMap (pair_cost t.size t.costs t.standing) (grid plain_kind t) text
   drawn m text first e =
       let g = grid plain_kind t in
-      let cost = cost_in t.size t.costs t.standing in
+      let cost = pair_cost t.size t.costs t.standing in
       map_first cost g (optima g) t.partners text first
       (e ∙ ap (λ x. total_line (total g t.partners) ++ x)
       (lines_same t.size (cell_of tables_view) (cell_of (grid_view cost g t.partners))
@@ -114,11 +114,11 @@ module _ (t : Lent Plain) (marks : List ℕ) where
 module _ (order : StatedOrder) (r : Result Sheet Fault) (costs : List Plain) (standing : List ℕ)
     (accepted : LoadsOrder order r costs standing) where
   pub drawn_order : (text : List ℕ)
-      → IsMap (cost_in order.size costs standing) (plain_grid order.size costs standing) text
+      → IsMap (pair_cost order.size costs standing) (plain_grid order.size costs standing) text
       → IsMap (stated_cost order.pairs) (stated_grid order) text
   drawn_order text map =
       let n = order.size in
-      let cost = cost_in n costs standing in
+      let cost = pair_cost n costs standing in
       let stated = stated_cost order.pairs in
       let g = plain_grid n costs standing in
       let h = stated_grid order in

@@ -6,7 +6,7 @@ use Rattle.std.specs.Fmt.{signed_decimal}
 use Rattle.pairing.specs.Grid.{at}
 use Rattle.pairing.specs.Places.{place_of}
 use Rattle.refusal_words.specs.Lines.{up_to}
-use Rattle.report.specs.Text.{cost_in}
+use Rattle.report.specs.Text.{pair_cost}
 use Rattle.report.specs.declared.sheet_map.Drawing.{Drawing}
 
 -- what a map shows: the cost at which a pair stands, whether it is of the first optimum pairing,
@@ -21,7 +21,7 @@ pub record SheetView : Type 0 where
 abbrev pub view_of : Drawing → SheetView
 view_of d = record {
   size = d.size;
-  cost = cost_in d.size d.costs.now d.standing.now;
+  cost = pair_cost d.size d.costs.now d.standing.now;
   first = λ l r. at d.partners.now l == r;
   occurs = λ l r. at d.marks.now (place_of d.size l r) == 1;
 }

@@ -22,11 +22,11 @@ pair_lines n cost = up_to n (λ l. up_to n (λ r. pair_line l r (cost l r)))
 
 -- the same lines as the tables of a sheet of n blocks have them: a pair's cost there, the lines of
 -- left block l up to right block k, and the lines of all left blocks up to k
-abbrev pub cost_in : ℕ → List Plain → List ℕ → ℕ → ℕ → Option ℤ
-cost_in n costs standing l r = option_map (λ p. p.0) (plain_cell n costs standing l r)
+abbrev pub pair_cost : ℕ → List Plain → List ℕ → ℕ → ℕ → Option ℤ
+pair_cost n costs standing l r = option_map (λ p. p.0) (plain_cell n costs standing l r)
 
 abbrev pub row_lines : ℕ → List Plain → List ℕ → ℕ → ℕ → List ℕ
-row_lines n costs standing l k = up_to k (λ r. pair_line l r (cost_in n costs standing l r))
+row_lines n costs standing l k = up_to k (λ r. pair_line l r (pair_cost n costs standing l r))
 
 abbrev pub all_lines : ℕ → List Plain → List ℕ → ℕ → List ℕ
 all_lines n costs standing k = up_to k (λ l. row_lines n costs standing l n)

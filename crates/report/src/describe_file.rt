@@ -4,7 +4,8 @@ ghost use Rattle.std.specs.Prelude.{◌≡◌, ◌<◌, ◌++◌, length, IfOk, 
 ghost use Rattle.sheet.specs.Size.{size_of};
 ghost use Rattle.tables.specs.PairTables.{HavePlaces};
 ghost use Rattle.report.specs.Describing.{Describes};
-ghost use Rattle.report.specs.Text.{pair_line, cost_in, row_lines, all_lines, sheet_text, refusal};
+ghost use Rattle.report.specs.Text.{pair_line, pair_cost, row_lines, all_lines, sheet_text};
+ghost use Rattle.report.specs.Text.{refusal};
 
 use crate::fresh_tables::{LoadedSheet, load_afresh};
 use cost::Plain;
@@ -30,7 +31,7 @@ fn push_pair(
     requires places { HavePlaces (size_of sheet.now) (length costs.now) (length standing.now) }
     requires inside { (left < size_of sheet.now) × (right < size_of sheet.now) }
     ensures { OnOk result (string_bytes text.new ≡ string_bytes text.old ++ pair_line left right
-        (cost_in (size_of sheet.now) costs.now standing.now left right)) }
+        (pair_cost (size_of sheet.now) costs.now standing.now left right)) }
 {
     if let Ok(cost) = sheet.read(costs, standing, left, right) {
         let Plain(cost) = cost;

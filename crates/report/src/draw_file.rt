@@ -7,7 +7,7 @@ ghost use Rattle.tables.specs.Together.{HoldTogether, ArePairTables};
 ghost use Rattle.assign.specs.Answer.{Settled};
 ghost use Rattle.sheet.specs.Size.{size_of};
 ghost use Rattle.orderfile.specs.Loading.{plain_kind, plain_grid};
-ghost use Rattle.report.specs.Text.{cost_in};
+ghost use Rattle.report.specs.Text.{pair_cost};
 ghost use Rattle.report.specs.Drawing.{IsMap, Draws, no_map};
 
 use crate::fresh_tables::{LoadedSheet, load_afresh, settle_afresh};
@@ -29,7 +29,7 @@ fn draw_settled(
     requires together { HoldTogether plain_kind tables.now }
     requires settled { Settled plain_kind tables.now }
     ensures { let t = tables.now in IfOk result (λ text.
-        IsMap (cost_in t.size t.costs t.standing) (grid plain_kind t) (string_bytes text)) }
+        IsMap (pair_cost t.size t.costs t.standing) (grid plain_kind t) (string_bytes text)) }
 {
     let Tables {
         size,
@@ -74,7 +74,7 @@ fn draw_sheet(heap: Global, loaded: LoadedSheet) -> Result<String, AllocError>
     requires { ArePairTables plain_kind (size_of loaded.sheet) loaded.costs.items
         loaded.standing.items }
     ensures { let n = size_of loaded.sheet in IfOk result (λ text. IsMap
-        (cost_in n loaded.costs.items loaded.standing.items)
+        (pair_cost n loaded.costs.items loaded.standing.items)
         (plain_grid n loaded.costs.items loaded.standing.items) (string_bytes text)) }
 {
     let LoadedSheet {

@@ -3,7 +3,7 @@
 ghost use Rattle.std.specs.Prelude.{◌≡◌, IfOk, ◌↔◌, IsTrue, replicate};
 ghost use Rattle.session.specs.Runs.{tables_of, AreNoLonger};
 ghost use Rattle.session.specs.Lists.{lengths, right_lengths};
-ghost use Rattle.session.specs.Zeros.{zeros};
+ghost use Rattle.session.specs.Zeros.{zero_lists};
 
 use crate::call::Lengths;
 use cost::Cost;
@@ -27,7 +27,7 @@ impl<K: Cost> SheetTables<K> {
     /// Tables of the right lengths for n blocks a plane, with zero in every place.
     pub fn new(heap: Global, n: u16) -> Result<SheetTables<K>, AllocError>
         ensures lengths { IfOk result (λ made. lengths (tables_of made) ≡ right_lengths n) }
-        ensures zeros { IfOk result (λ made. tables_of made ≡ zeros K.zero n) }
+        ensures zero_lists { IfOk result (λ made. tables_of made ≡ zero_lists K.zero n) }
     {
         let blocks = n as usize;
         let pairs = places(n);

@@ -4,7 +4,7 @@ use Rattle.std.specs.Prelude.{vec_items}
 use Rattle.std.specs.Io.Iter.{split_byte, split_known_bytes}
 use Rattle.std.specs.Iterator.Adapters.{enumerate_source, enumerate_count}
 use Rattle.console_words.specs.Conversing.{TakesLine}
-use Rattle.console_words.specs.Moving.{Prints}
+use Rattle.console_words.specs.Moving.{IsPrinted}
 use Rattle.console_words.proofs.Talking.{begins, taken_line, leads_on, ends_at_end}
 use Rattle.console_words.proofs.Talking.{ends_when_asked}
 use Rattle.console_words.proofs.console.converse.Goals as goal
@@ -40,7 +40,7 @@ loop-k-preserved g c =
     c.as_slice.ensures.value step.0.2 in
     let takes = subst (λ n. TakesLine (n + 1) line c.loop-k.console c.in_ok-next.next
     c.in_ok-next.turn) step.1 c.in_ok-next.ensures in
-    let says = subst (λ t. Prints said t) (sym c.in-Said.is) (sym c.as_bytes.ensures.value) in (
+    let says = subst (λ t. IsPrinted said t) (sym c.in-Said.is) (sym c.as_bytes.ensures.value) in (
       step.0.1 ∙ c.loop-k.invariant.0,
       leads_on (g.R.Read.remaining c.args.input) left left'
           (g.W.Write.contents c.args.output.now) (g.W.Write.contents c.loop-k.output)

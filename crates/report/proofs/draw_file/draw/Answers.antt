@@ -3,7 +3,7 @@
 use Rattle.std.proofs.Common.{ℕ, string_bytes, subst}
 use Rattle.orderfile.specs.Loading.{plain_grid, stated_cost, stated_grid}
 use Rattle.refusal_words.specs.Words.{explanation}
-use Rattle.report.specs.Text.{cost_in}
+use Rattle.report.specs.Text.{pair_cost}
 use Rattle.report.specs.Drawing.{IsMap}
 use Rattle.report.proofs.Described.{reports_loaded, reports_fault}
 use Rattle.report.proofs.Drawn.{drawn_order}
@@ -17,10 +17,10 @@ returns-in-Ok c =
     let loaded = rw c.in-Ok.is at c.in_ok-loaded.ensures in
     reports_loaded (λ order. IsMap (stated_cost order.pairs) (stated_grid order)) explanation
     c.args.file.now string_bytes c.draw_sheet.result sheet loaded
-    (IsMap (cost_in sheet.sheet.size costs standing)
+    (IsMap (pair_cost sheet.sheet.size costs standing)
     (plain_grid sheet.sheet.size costs standing))
     (λ text map. drawn_order loaded.order _ costs standing loaded.accepted text
-    (subst (λ (k : ℕ). IsMap (cost_in k costs standing) (plain_grid k costs standing) text)
+    (subst (λ (k : ℕ). IsMap (pair_cost k costs standing) (plain_grid k costs standing) text)
     loaded.size map))
     c.draw_sheet.ensures
 
