@@ -75,6 +75,7 @@ pub fn try_below<K: Trial>(bench: &mut Bench<'_>, sheet: &Sheet<K>) -> anyhow::R
     match solve(bench.heap, sheet, bench.orders.of(sheet.n))? {
         Solution::Unmatched(shortfall) => try_unmatched(&mut lent, shortfall)?,
         Solution::Optimal(optimum) => {
+            try_optimum_listed(&lent, &optimum)?;
             try_settle(&mut lent, &optimum)?;
             bench.tally.count_walked(try_walk(&mut lent, &optimum)?);
         }
@@ -101,6 +102,24 @@ fn try_unsettled<K: Trial>(lent: &Lent<K>) -> anyhow::Result<()> {
     ensure!(tried.next().is_err(), "a step over unsettled tables");
     ensure!(tried.mark().is_err(), "marks of unsettled tables");
     ensure!(tried == *lent, "a call that was refused wrote");
+    Ok(())
+}
+
+/// Asks for the step behind the first optimum pairing, which only the tables can refuse.
+fn try_optimum_listed<K: Trial>(lent: &Lent<K>, optimum: &Optimum<K>) -> anyhow::Result<()> {
+    let mut listed = lent.clone()?;
+    if let Some(first) = optimum.pairings.first() {
+        listed.list = first.clone()?;
+    }
+    let mut tried = listed.clone()?;
+    ensure!(
+        tried.next().is_ok() == listed.hold_together(),
+        "a step from an optimum pairing over unsettled tables"
+    );
+    ensure!(
+        tried == listed || listed.hold_together(),
+        "a step that was refused wrote"
+    );
     Ok(())
 }
 

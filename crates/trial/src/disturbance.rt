@@ -12,9 +12,9 @@ pub enum Disturbance {
     Byte,
     /// A cost becomes too large by 1.
     Cost,
-    /// A price changes by a little, or by nothing.
-    LeftPrice,
-    RightPrice,
+    /// A price changes by a cost of this kind, so by a little or nothing, or by much.
+    LeftPrice(Costs),
+    RightPrice(Costs),
     /// All left prices go up and all right prices down by so much in each column.
     Shift(i64),
     /// A partner becomes another block, or stays.
@@ -44,11 +44,13 @@ pub enum Table {
 }
 
 /// All that is tried. A shift of 10^12 takes the left prices beyond their bound.
-pub const DISTURBANCES: [Disturbance; 24] = [
+pub const DISTURBANCES: [Disturbance; 26] = [
     Disturbance::Byte,
     Disturbance::Cost,
-    Disturbance::LeftPrice,
-    Disturbance::RightPrice,
+    Disturbance::LeftPrice(Costs::Tiny),
+    Disturbance::RightPrice(Costs::Tiny),
+    Disturbance::LeftPrice(Costs::Ends),
+    Disturbance::RightPrice(Costs::Ends),
     Disturbance::Shift(5),
     Disturbance::Shift(1_000_000_000_000),
     Disturbance::Partner,
@@ -77,8 +79,8 @@ impl Disturbance {
         match self {
             Disturbance::Byte => replace(&mut lent.standing, draw, 2),
             Disturbance::Cost => replace(&mut lent.costs, draw, K::made([1_000_000_001; 3])),
-            Disturbance::LeftPrice => change_price(&mut lent.left, draw),
-            Disturbance::RightPrice => change_price(&mut lent.right, draw),
+            Disturbance::LeftPrice(by) => change_price(&mut lent.left, draw, by),
+            Disturbance::RightPrice(by) => change_price(&mut lent.right, draw, by),
             Disturbance::Shift(most) => shift(lent, K::made([most; 3])),
             Disturbance::Partner => {
                 let block = draw.block(lent.n);
@@ -105,8 +107,8 @@ fn replace<T: Copy>(table: &mut [T], draw: &mut Draw, value: T) {
     }
 }
 
-fn change_price<K: Trial>(prices: &mut [K], draw: &mut Draw) {
-    let change = K::made(draw.columns(Costs::Tiny));
+fn change_price<K: Trial>(prices: &mut [K], draw: &mut Draw, by: Costs) {
+    let change = K::made(draw.columns(by));
     let place = draw.below(prices.len() as u64) as usize;
     if let Some(price) = prices.get_mut(place) {
         *price = price.add(change);

@@ -6,7 +6,7 @@ use crate::kinds::{Columns, Trial};
 const MOST: i64 = 1_000_000_000;
 
 /// What a column of a cost can be.
-#[derive(Clone, Copy)]
+#[derive(Clone, Copy, Debug)]
 pub enum Costs {
     /// From -1 to 1, so that many pairings cost the same.
     Tiny,
