@@ -18,22 +18,22 @@ use Rattle.tables.specs.Together.{HoldTogether}
 use Rattle.tables.specs.Sound.{IsSound}
 use Rattle.tables.proofs.Orderly.{sane_in_order}
 use Rattle.tables.proofs.Tightness.{pairs_optimum, pairings_are_optima}
-use Rattle.assign.specs.Answer.{HasGreatestPrices, Solved, Settled}
+use Rattle.assign.specs.Answer.{HasGreatestPrices, HasOptimum, HasFirstOptimum}
 use Rattle.assign.proofs.Solving.{written, usable_still}
 
 -- tables that are usable and solved
 pub record AreSolved {K : Type 0} (kind : Ghosts K) (t : Lent K) : Type 0 where
   pub usable : IsUsable kind t
-  pub solved : Solved kind t
+  pub solved : HasOptimum kind t
 
 pub solved_still : {K : Type 0} (kind : Ghosts K) (t : Lent K) (p : List ℕ) (l r : List K)
-    → IsUsable kind t × Solved kind (written t p l r) → length p ≡ length t.partners
+    → IsUsable kind t × HasOptimum kind (written t p l r) → length p ≡ length t.partners
     → length l ≡ length t.left → length r ≡ length t.right → AreSolved kind (written t p l r)
 solved_still kind t p l r w ep el er =
     record { usable = usable_still kind t p l r w.0 ep el er; solved = w.1 }
 
 -- valid prices that lie near make usable tables hold together
-together : {K : Type 0} (kind : Ghosts K) (t : Lent K) → IsUsable kind t → Settled kind t
+together : {K : Type 0} (kind : Ghosts K) (t : Lent K) → IsUsable kind t → HasFirstOptimum kind t
     → HoldTogether kind t
 together kind t usable s = record {
   pair_tables = record {
@@ -79,7 +79,8 @@ module _ {K : Type 0} {kind : Ghosts K} {t : Lent K} (given : AreSolved kind t) 
     pub paired : IsPerfectOver rows t.partners
     paired = (are t.partners).1 own
 
-    first : (q : List ℕ) → IsNth (pairings rows) 0 q → Settled kind (record t { partners = q })
+    first : (q : List ℕ) → IsNth (pairings rows) 0 q
+        → HasFirstOptimum kind (record t { partners = q })
     first q h =
         let o : IsOptimum (grid kind t) q =
         (are q).0 (((perfects_are (length rows) (holds rows)).list.are q).0
@@ -104,7 +105,8 @@ module _ {K : Type 0} {kind : Ghosts K} {t : Lent K} (given : AreSolved kind t) 
 
     -- with the first pairing over them the tables are settled, and hold together
     pub settled : (q : List ℕ) → length q ≡ length t.partners → IsNth (pairings rows) 0 q
-        → Settled kind (record t { partners = q }) × HoldTogether kind (record t { partners = q })
+        → HasFirstOptimum kind (record t { partners = q })
+        × HoldTogether kind (record t { partners = q })
     settled q same h = (
       first q h,
       together kind (record t { partners = q })

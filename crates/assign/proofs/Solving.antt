@@ -20,7 +20,7 @@ use Rattle.tables.proofs.Alike.{rows_alike, unpaired_rows}
 use Rattle.tables.proofs.Orderly.{near_value, sane_in_order}
 use Rattle.assign.specs.Weighed.{weight_at, cost_weight, SearchTables}
 use Rattle.assign.specs.Prices.{IsSolution}
-use Rattle.assign.specs.Answer.{Solved}
+use Rattle.assign.specs.Answer.{HasOptimum}
 use Rattle.assign.proofs.Ending.{perfect_of, greatest}
 
 -- tables whose partners and prices are written to
@@ -76,7 +76,7 @@ module _ {K : Type 0} {kind : Ghosts K} (t : Lent K) (rows : List BlockSet)
 
   module _ (wide : (x : K) → length (kind.meaning x) ≡ kind.columns) where
     solved : IsSolution kind rows t.costs t.partners t.left t.right
-        → Solved kind (record t { size = length rows })
+        → HasOptimum kind (record t { size = length rows })
     solved s =
         let n = length rows in
         let g = grid kind (record t { size = n }) in
@@ -123,6 +123,6 @@ module _ {K : Type 0} {kind : Ghosts K} {t : Lent K} {rows : List BlockSet}
 
   -- what the search leaves is told by the grid of the tables
   pub solved_of : ((x : K) → length (kind.meaning x) ≡ kind.columns)
-      → IsSolution kind rows t.costs t.partners t.left t.right → Solved kind t
-  solved_of wide s = subst (λ k. Solved kind (record t { size = k })) long
+      → IsSolution kind rows t.costs t.partners t.left t.right → HasOptimum kind t
+  solved_of wide s = subst (λ k. HasOptimum kind (record t { size = k })) long
       (solved t rows own wide s)

@@ -21,12 +21,12 @@ module _ {K : Type 0} (kind : Ghosts K) where
     pub right_near : AreValuesWithin kind PRICE_LIMIT t.size t.right
 
   -- an optimum pairing, and the greatest prices
-  pub record Solved (t : Lent K) : Type 0 where
+  pub record HasOptimum (t : Lent K) : Type 0 where
     pub optimum : IsOptimum (grid kind t) t.partners
     pub prices : HasGreatestPrices t
 
   -- the first of all optimum pairings, and the greatest prices
-  pub record Settled (t : Lent K) : Type 0 where
+  pub record HasFirstOptimum (t : Lent K) : Type 0 where
     pub first : IsNth (optima (grid kind t)) 0 t.partners
     pub prices : HasGreatestPrices t
 

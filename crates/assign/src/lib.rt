@@ -18,7 +18,7 @@ ghost use Rattle.pairing.specs.Rows.{holds};
 ghost use Rattle.tables.specs.Lent.{lent};
 ghost use Rattle.assign.specs.Weighed.{SearchTables};
 ghost use Rattle.assign.specs.Prices.{IsSolution};
-ghost use Rattle.assign.specs.Answer.{Answers, Solved};
+ghost use Rattle.assign.specs.Answer.{Answers, HasOptimum};
 
 mod limits;
 mod pairs;
@@ -64,7 +64,7 @@ pub fn optimum<K: Cost>(
 ) -> Result<Outcome, Flaw>
     ensures { let old = lent n costs.now standing.now partners.old left.old right.old in
         let new = lent n costs.now standing.now partners.new left.new right.new in
-        Answers K.Cost old new (Solved K.Cost new) result }
+        Answers K.Cost old new (HasOptimum K.Cost new) result }
 {
     check_usable(&Tables {
         size: n,

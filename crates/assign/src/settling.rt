@@ -2,7 +2,7 @@
 //! prove it, for every cost kind.
 ghost use Rattle.std.specs.Prelude.{◌≡◌, Ok};
 ghost use Rattle.tables.specs.Lent.{lent};
-ghost use Rattle.assign.specs.Answer.{Answers, Settled};
+ghost use Rattle.assign.specs.Answer.{Answers, HasFirstOptimum};
 ghost use Rattle.assign.specs.declared.Outcome.TheVariants.{Optimal};
 ghost use Rattle.tables.specs.Together.{HoldTogether};
 
@@ -26,7 +26,7 @@ pub fn settle<K: Cost>(
 ) -> Result<Outcome, Flaw>
     ensures answers { let old = lent n costs.now standing.now partners.old left.old right.old in
         let new = lent n costs.now standing.now partners.new left.new right.new in
-        Answers K.Cost old new (Settled K.Cost new) result }
+        Answers K.Cost old new (HasFirstOptimum K.Cost new) result }
 
     // So the walk, the marks and every other call on settled tables accept them.
     ensures together { result ≡ Ok Optimal → HoldTogether K.Cost

@@ -12,7 +12,7 @@ use Rattle.tables.specs.declared.flaw.Flaw.{Flaw}
 use Rattle.tables.specs.Lent.{Lent, grid}
 use Rattle.tables.specs.Together.{HoldTogether}
 use Rattle.assign.specs.declared.Outcome.{Outcome}
-use Rattle.assign.specs.Answer.{Answers, Settled}
+use Rattle.assign.specs.Answer.{Answers, HasFirstOptimum}
 use Rattle.sheet.specs.Numbers.{cause_number}
 use Rattle.sheet.specs.Size.{Sheet}
 use Rattle.sheet.specs.declared.fault.Fault.{Fault}
@@ -23,7 +23,7 @@ module _ {K : Type 0} (kind : Ghosts K) where
   -- settling: the number stands for what `settle` answers
   abbrev pub SettlesTables : (old new : Lent K) → ℕ → Type 0
   SettlesTables old new number = (r : Result Outcome Flaw) × (number ≡ outcome_code r)
-      × Answers kind old new (Settled kind new) r
+      × Answers kind old new (HasFirstOptimum kind new) r
 
   -- a step of the walk: its number, or 1 where the tables do not hold together or the list is no
   -- optimum pairing

@@ -14,7 +14,7 @@ ghost use Rattle.matching.specs.Numbers.{step_number};
 ghost use Rattle.tables.specs.declared.flaw.Flaw.{Flaw};
 ghost use Rattle.tables.specs.Lent.{lent};
 ghost use Rattle.assign.specs.declared.Outcome.{Outcome};
-ghost use Rattle.assign.specs.Answer.{Answers, Solved};
+ghost use Rattle.assign.specs.Answer.{Answers, HasOptimum};
 ghost use Rattle.sheet.specs.Opening.{OpensSheet};
 ghost use Rattle.sheet.specs.Size.{Sheet};
 ghost use Rattle.sheet.specs.declared.fault.Fault.{Fault};
@@ -77,7 +77,7 @@ pub extern "C" fn bench_optimum(
         let old = lent n costs.now standing.now partners.old left.old right.old in
         let new = lent n costs.now standing.now partners.new left.new right.new in
         (r : Result Outcome Flaw) × (result ≡ outcome_code r)
-        × Answers kind old new (Solved kind new) r }
+        × Answers kind old new (HasOptimum kind new) r }
 {
     if partners.len() > MOST_BLOCKS as usize {
         return 1;

@@ -6,7 +6,7 @@ use Rattle.pairing.specs.Optima.{optima}
 use Rattle.matching.specs.declared.augmenting.Shortfall.{Shortfall}
 use Rattle.tables.specs.Lent.{Lent, lent}
 use Rattle.tables.specs.Together.{HoldTogether}
-use Rattle.assign.specs.Answer.{Settled}
+use Rattle.assign.specs.Answer.{HasFirstOptimum}
 use Rattle.sheet.specs.Size.{size_of}
 use Rattle.orderfile.specs.Format.{StatedOrder, States}
 use Rattle.orderfile.specs.Loading.{plain_kind, plain_grid, LoadsOrder}
@@ -30,7 +30,7 @@ pub record IsSettledAfresh (n : ℕ) (costs : List Plain) (standing : List ℕ) 
     : Type 0 where
   pub size : s.sheet.size ≡ n
   pub together : HoldTogether plain_kind (settled_tables n costs standing s)
-  pub settled : Settled plain_kind (settled_tables n costs standing s)
+  pub settled : HasFirstOptimum plain_kind (settled_tables n costs standing s)
 
 -- there is no optimum pairing, and these are the crowd set and its shortage
 pub record HasNoPairing (n : ℕ) (costs : List Plain) (standing : List ℕ) (s : Shortfall) : Type 0

@@ -4,7 +4,7 @@
 ghost use Rattle.std.specs.Prelude.{◌≡◌, IfOk, string_bytes};
 ghost use Rattle.tables.specs.Lent.{grid};
 ghost use Rattle.tables.specs.Together.{HoldTogether, ArePairTables};
-ghost use Rattle.assign.specs.Answer.{Settled};
+ghost use Rattle.assign.specs.Answer.{HasFirstOptimum};
 ghost use Rattle.sheet.specs.Size.{size_of};
 ghost use Rattle.orderfile.specs.Loading.{plain_kind, plain_grid};
 ghost use Rattle.report.specs.Text.{pair_cost};
@@ -27,7 +27,7 @@ fn draw_settled(
 ) -> Result<String, AllocError>
     requires size { size_of sheet.now ≡ tables.now.size }
     requires together { HoldTogether plain_kind tables.now }
-    requires settled { Settled plain_kind tables.now }
+    requires settled { HasFirstOptimum plain_kind tables.now }
     ensures { let t = tables.now in IfOk result (λ text.
         IsMap (pair_cost t.size t.costs t.standing) (grid plain_kind t) (string_bytes text)) }
 {

@@ -6,7 +6,7 @@ ghost use Rattle.pairing.specs.Optima.{optima};
 ghost use Rattle.matching.specs.Answers.{IsNth, Follows};
 ghost use Rattle.tables.specs.Lent.{grid};
 ghost use Rattle.tables.specs.Together.{HoldTogether, ArePairTables};
-ghost use Rattle.assign.specs.Answer.{Settled};
+ghost use Rattle.assign.specs.Answer.{HasFirstOptimum};
 ghost use Rattle.sheet.specs.Size.{size_of};
 ghost use Rattle.orderfile.specs.Loading.{plain_kind, plain_grid};
 ghost use Rattle.report.specs.Listing.{listed, listing_text, Lists};
@@ -71,7 +71,7 @@ fn list_settled(
 ) -> Result<String, AllocError>
     requires size { size_of sheet ≡ tables.now.size }
     requires together { HoldTogether plain_kind tables.now }
-    requires settled { Settled plain_kind tables.now }
+    requires settled { HasFirstOptimum plain_kind tables.now }
     ensures { IfOk result
         (λ text. string_bytes text ≡ listing_text (grid plain_kind tables.now)) }
 {

@@ -6,7 +6,7 @@ use Rattle.pairing.specs.Largest.{HasNoPerfect}
 use Rattle.tables.specs.Lent.{Lent, grid, HasLengths, IsOrderly}
 use Rattle.tables.specs.Together.{HoldTogether}
 use Rattle.matching.specs.declared.augmenting.Shortfall.{Shortfall}
-use Rattle.assign.specs.Answer.{Settled}
+use Rattle.assign.specs.Answer.{HasFirstOptimum}
 use Rattle.sheet.specs.declared.fault.Cause.TheVariants.{TableLength, Inconsistent}
 use Rattle.sheet.specs.declared.fault.Cause.TheVariants.{NoPerfectPairing}
 use Rattle.sheet.specs.declared.fault.Fault.{Fault}
@@ -34,7 +34,7 @@ module _ {K : Type 0} (kind : Ghosts K) where
   pub record IsSettled (sheet settled : Sheet) (old new : Lent K) : Type 0 where
     pub same : settled ≡ sheet
     pub met : AreMet (settle_needs old)
-    pub tables : Settled kind new
+    pub tables : HasFirstOptimum kind new
     pub together : HoldTogether kind new
 
   -- the open sheet came back, and the tables are as they were

@@ -2,7 +2,7 @@
 -- of all.
 use Rattle.std.proofs.Common.{rules}
 use Rattle.tables.specs.Lent.{lent}
-use Rattle.assign.specs.Answer.{Settled}
+use Rattle.assign.specs.Answer.{HasFirstOptimum}
 use Rattle.assign.proofs.Firsts.{solved_still, priced, sound, paired, settled}
 use Rattle.assign.proofs.settling.settle.Goals as goal
 
@@ -35,6 +35,6 @@ returns-in-Optimal g c =
     c.optimum.auto.partners c.optimum.auto.left c.optimum.auto.right)
     g.met.K.Cost.laws.column_count rows.result rows.ensures c.make_first.new.p c.make_first.auto.p
     (rw c.as_slice.ensures.rows at c.make_first.ensures) in
-    let first : Settled g.K.Cost (lent c.args.n c.args.costs.now c.args.standing.now
+    let first : HasFirstOptimum g.K.Cost (lent c.args.n c.args.costs.now c.args.standing.now
     c.make_first.new.p new.left new.right) = done.0 in
     record { answers = search rules; together = λ _. done.1 }
