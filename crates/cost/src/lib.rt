@@ -10,8 +10,6 @@ ghost use Rattle.cost.specs.Kind.{KindLaws};
 mod free_kind;
 mod laws;
 mod plain_kind;
-#[cfg(test)]
-mod tests;
 mod two_step_kind;
 
 pub use free_kind::Free;

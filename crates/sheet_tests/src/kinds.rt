@@ -1,7 +1,7 @@
 //! Examples of the five answers and of the two comparisons with a near value, at the ends of the
 //! rail and beyond them.
 
-use crate::{Cost, Free, Plain, TwoStep};
+use cost::{Cost, Free, Plain, TwoStep};
 use std::cmp::Ordering;
 
 const END: i64 = 1_000_000_000_000_000;
