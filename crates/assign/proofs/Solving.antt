@@ -2,7 +2,6 @@
 -- Idea: the distances are the greatest prices, valid prices prove the pairing optimum, and values
 -- within PRICE_LIMIT lie on the rail.
 use Rattle.std.proofs.Common.{◌≡◌, ℕ, ◌<◌, true, false, ltb, List, length, sym, refl, ◌∙◌, subst}
-use Rattle.std.proofs.Common.{arith}
 use Rattle.std.proofs.lemmas.Nat.{mul-add-lt}
 use Rattle.std.proofs.lemmas.Bool.{and_parts, ltb-true}
 use Rattle.cost.specs.declared.Cost.{Ghosts}

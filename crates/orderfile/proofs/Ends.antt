@@ -3,7 +3,7 @@
 -- Idea: a file has one verdict, so what holds of the verdict that was found holds of every verdict
 -- that the promise asks about.
 use Rattle.std.proofs.Common.{◌≡◌, ℕ, List, length, replicate, pos, Ok, Err, Result}
-use Rattle.std.proofs.Common.{sym, ap, ◌∙◌, subst, ⊎_elim, arith}
+use Rattle.std.proofs.Common.{ap, ◌∙◌, subst, ⊎_elim, arith}
 use Rattle.std.proofs.lemmas.List.{length-replicate}
 use Rattle.cost.specs.declared.plain_kind.Plain.{Plain}
 use Rattle.sheet.specs.declared.fault.Cause.TheVariants.{TableLength}
@@ -22,7 +22,6 @@ use Rattle.orderfile.specs.Loading.{IsChecked, LoadsOrder, Loads}
 use Rattle.orderfile.proofs.Cells.{shows_order}
 use Rattle.orderfile.proofs.Grids.{same_grid, entered_tables}
 use Rattle.orderfile.proofs.Verdicts.{one_order, one_fault, not_both, verdict_order, verdict_fault}
-use Rattle.blockset.specs.declared.TheConstants.{MOST_BLOCKS}
 
 -- what an answer of `check` tells
 pub checked_err : (file : List ℕ) (f : Fault) → IsChecked file (Err f) → FirstFault file f

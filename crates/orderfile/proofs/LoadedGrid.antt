@@ -4,7 +4,7 @@
 -- the same inside, so each line on them is one of the theorem that nothing else of a grid matters.
 -- A total of at most 64 costs is far from the end of the rail, so a plain value that means it is
 -- the number itself.
-use Rattle.std.proofs.Common.{◌≡◌, ℕ, ◌*◌, ◌≤◌, true, ◌↔◌, ◌⊎◌, List, [], ◌∷◌}
+use Rattle.std.proofs.Common.{◌≡◌, ℕ, ◌*◌, ◌≤◌, ◌↔◌, ◌⊎◌, List, [], ◌∷◌}
 use Rattle.std.proofs.Common.{length, ℤ, pos, negsuc, Ok, Err, Result, sym, ap, ◌∙◌}
 use Rattle.std.proofs.Common.{subst, inl, inr, ⊎_elim, arith}
 use Rattle.std.proofs.lemmas.Bool.{cases_Bool}

@@ -2,7 +2,7 @@
 -- that some pairing is tight for they are the optimum ones.
 -- Idea: complementary slackness. Over rows of tight edges a perfect pairing has tight pairs only;
 -- under valid prices just the optimum pairings have.
-use Rattle.std.specs.Prelude.{◌≡◌, ℕ, ◌<◌, true, ◌↔◌, List, length}
+use Rattle.std.specs.Prelude.{◌≡◌, ℕ, ◌<◌, ◌↔◌, List, length}
 use Rattle.std.proofs.Common.{sym, subst}
 use Rattle.cost.specs.declared.Cost.{Ghosts}
 use Rattle.blockset.specs.declared.BlockSet.{BlockSet}
