@@ -1,6 +1,7 @@
 //! Answers to calls in plain words.
 
 ghost use Rattle.std.specs.Prelude.{◌≡◌, ◌++◌, OnOk, slice_get, string_bytes};
+ghost use Rattle.session.specs.declared.call.Act.TheVariants.{Enter};
 ghost use Rattle.console_words.specs.Answering.{cost_line, partners_line, prices_line, mark_row};
 ghost use Rattle.console_words.specs.Answering.{mark_rows, done_words, not_made_words};
 ghost use Rattle.console_words.specs.Answering.{answer_words, mark_word, settled_lines};
@@ -100,17 +101,28 @@ fn push_settled<K: TypedCost>(
     push_prices(text, "right", right)
 }
 
+// Appends what was done by a call that enters a pair.
+fn push_entered<K: TypedCost>(
+    text: &mut String,
+    left: u16,
+    right: u16,
+    cost: K,
+) -> Result<(), AllocError>
+    ensures { OnOk result (string_bytes text.new
+        ≡ string_bytes text.old ++ done_words K.written (Enter left right cost)) }
+{
+    write!(text, "entered {left} {right} at ")?;
+    cost.push_to(text)?;
+    text.push_str("\n")
+}
+
 // Appends what was done by a call that tells nothing.
 fn push_done<K: TypedCost>(text: &mut String, act: Act<K>) -> Result<(), AllocError>
     ensures { OnOk result (string_bytes text.new
         ≡ string_bytes text.old ++ done_words K.written act) }
 {
     match act {
-        Act::Enter { left, right, cost } => {
-            write!(text, "entered {left} {right} at ")?;
-            cost.push_to(text)?;
-            text.push_str("\n")
-        }
+        Act::Enter { left, right, cost } => push_entered(text, left, right, cost),
         Act::Strike { left, right } => write!(text, "struck {left} {right}\n"),
         Act::Close => text.push_str("closed: the sheet is settled\n"),
         Act::Reopen => text.push_str("reopened: the sheet is open\n"),

@@ -7,7 +7,7 @@ ghost use Rattle.console_words.specs.Naming.{lead_word};
 use crate::verb::Verb;
 
 /// What the first word of a line begins.
-#[derive(Clone, Copy, PartialEq, Eq, Debug)]
+#[derive(Clone, Copy)]
 pub enum Lead {
     Help,
     Quit,

@@ -14,7 +14,7 @@ use crate::sheet_size::SheetSize;
 use crate::words::Words;
 
 /// How many columns a cost has.
-#[derive(Clone, Copy, PartialEq, Eq, Debug)]
+#[derive(Clone, Copy)]
 pub enum ColumnCount {
     One,
     Two,
@@ -46,7 +46,7 @@ impl ColumnCount {
 }
 
 /// What a line asks for before a sheet is open.
-#[derive(Clone, Copy, Debug)]
+#[derive(Clone, Copy)]
 pub enum Opening {
     Columns(ColumnCount),
     Size(SheetSize),

@@ -1,8 +1,9 @@
 //! Lines on an open sheet.
 
-ghost use Rattle.std.specs.Prelude.{◌≡◌, ◌≢◌, List, [], ◌∷◌, pos, IfOk, IfErr};
+ghost use Rattle.std.specs.Prelude.{◌≡◌, ◌≢◌, ◌⊎◌, List, [], ◌∷◌, pos, IfOk, IfErr};
 ghost use Rattle.console_words.specs.declared.complaint.Complaint.{Complaint};
 ghost use Rattle.console_words.specs.declared.lead.Lead.TheVariants.{Short};
+ghost use Rattle.console_words.specs.declared.verb.Verb.TheVariants.{Enter, Strike, Read, Quote};
 ghost use Rattle.console_words.specs.Forms.{a_block, Takes, Fails, IsTooMany};
 ghost use Rattle.console_words.specs.Lines.{slots_of, numbers_of, Asks, IsWrong};
 ghost use Rattle.console_words.specs.Lines.{IsWrongAfter, IsWrongShort};
@@ -18,7 +19,7 @@ use crate::words::Words;
 use session::Act;
 
 /// What a line asks for on an open sheet.
-#[derive(Clone, Copy, Debug)]
+#[derive(Clone, Copy)]
 pub enum Request<K> {
     /// A call, which is handed this table one place short.
     Make {
@@ -114,22 +115,10 @@ fn typed_act<'a, K: TypedCost>(verb: Verb, words: &mut Words<'a>) -> Result<Act<
 {
     words.expect_form(verb.form::<K>());
     match verb {
-        Verb::Enter => {
+        Verb::Enter => typed_enter(words),
+        Verb::Strike | Verb::Read | Verb::Quote => {
             let (left, right) = typed_pair(words)?;
-            let cost = K::take_from(words)?;
-            Ok(Act::Enter { left, right, cost })
-        }
-        Verb::Strike => {
-            let (left, right) = typed_pair(words)?;
-            Ok(Act::Strike { left, right })
-        }
-        Verb::Read => {
-            let (left, right) = typed_pair(words)?;
-            Ok(Act::Read { left, right })
-        }
-        Verb::Quote => {
-            let (left, right) = typed_pair(words)?;
-            Ok(Act::Quote { left, right })
+            Ok(act_on_pair(verb, left, right))
         }
         Verb::Settle => Ok(Act::Settle),
         Verb::Total => Ok(Act::Total),
@@ -138,6 +127,33 @@ fn typed_act<'a, K: TypedCost>(verb: Verb, words: &mut Words<'a>) -> Result<Act<
         Verb::Next => Ok(Act::Next),
         Verb::Close => Ok(Act::Close),
         Verb::Reopen => Ok(Act::Reopen),
+    }
+}
+
+// The call that enters a pair, with the pair and the cost that the next words say.
+fn typed_enter<'a, K: TypedCost>(words: &mut Words<'a>) -> Result<Act<K>, Complaint<'a>>
+    ensures form { form_of words.new ≡ form_of words.old }
+    ensures verb { IfOk result (λ act. verb_of act ≡ Enter) }
+    ensures told { IfOk result (λ act. Takes (slots_of K.Cost Enter) (words_left words.old)
+        (words_left words.new) (numbers_of K.Cost K.numbers act)) }
+    ensures failed { IfErr result (Fails (form_of words.old) (slots_of K.Cost Enter)
+        (words_left words.old)) }
+{
+    let (left, right) = typed_pair(words)?;
+    let cost = K::take_from(words)?;
+    Ok(Act::Enter { left, right, cost })
+}
+
+// The call of this name on a pair.
+fn act_on_pair<K: TypedCost>(verb: Verb, left: u16, right: u16) -> Act<K>
+    requires { (verb ≡ Strike) ⊎ (verb ≡ Read) ⊎ (verb ≡ Quote) }
+    ensures verb { verb_of result ≡ verb }
+    ensures numbers { numbers_of K.Cost K.numbers result ≡ pos left ∷ (pos right ∷ []) }
+{
+    match verb {
+        Verb::Strike => Act::Strike { left, right },
+        Verb::Read => Act::Read { left, right },
+        _ => Act::Quote { left, right },
     }
 }
 

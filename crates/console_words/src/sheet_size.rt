@@ -8,7 +8,7 @@ use crate::words::is_overflow;
 use tables::MOST_BLOCKS;
 
 /// How many left blocks a sheet has, and as many right blocks: from 1 to 64.
-#[derive(Clone, Copy, PartialEq, Eq, Debug)]
+#[derive(Clone, Copy)]
 pub struct SheetSize {
     pub blocks: u16,
     ghost some: { 1 ≤ blocks },

@@ -8,7 +8,7 @@ ghost use Rattle.console_words.specs.Handing.{short_lengths, handed_lengths};
 use session::Lengths;
 
 /// Which table of a sheet a line names.
-#[derive(Clone, Copy, PartialEq, Eq, Debug)]
+#[derive(Clone, Copy)]
 pub enum TableName {
     Costs,
     Standing,

@@ -1,7 +1,7 @@
 //! What a line comes to.
 
 /// What the one who typed a line is to see of it.
-#[derive(Drop, Debug)]
+#[derive(Drop)]
 pub enum Turn {
     /// This text, whole lines or nothing.
     Said(String),

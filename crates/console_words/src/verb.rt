@@ -8,7 +8,7 @@ use crate::typed_cost::TypedCost;
 use session::Act;
 
 /// Which call a line asks for.
-#[derive(Clone, Copy, PartialEq, Eq, Debug)]
+#[derive(Clone, Copy)]
 pub enum Verb {
     Enter,
     Strike,
