@@ -18,7 +18,8 @@ pub struct Streams<W, E> {
 }
 
 impl<'a> Streams<Printer<'a, HostRuntime>, Stderr> {
-    /// Those of the process.
+    /// Those of the process. std promises nothing of a process's own streams, so the type alone
+    /// tells which is the output and which takes the errors.
     pub fn of(rt: &'a HostRuntime) -> Self {
         Streams {
             output: io::writer(rt),
