@@ -19,15 +19,15 @@ const HALF: i64 = crate::HALF_RAIL as i64;
 #[repr(C)]
 pub struct Plain(pub i64);
 
-// `x`, or the end of the rail that it lies beyond.
+/// `x`, or the end of the rail that it lies beyond.
 fn on_rail(x: i64) -> i64
     ensures { result ≡ rail_of x }
 {
     x.clamp(-RAIL, RAIL)
 }
 
-// Whether `x` is within half of the rail, as nearly all numbers are: then nothing has to be
-// stopped, which saves a good part of the time of a sum.
+/// Whether `x` is within half of the rail, as nearly all numbers are: then nothing has to be
+/// stopped, which saves a good part of the time of a sum.
 fn is_near(x: i64) -> bool
     ensures { IsTrue result ↔ (unsigned_abs x ≤ unsigned_abs HALF) }
 {

@@ -35,7 +35,7 @@ pub enum LineError {
     Block(u16),
 }
 
-// The next word as a number.
+/// The next word as a number.
 fn number<'a, T: FromStr>(words: &mut SplitWhitespace<'a>) -> Result<T, LineError>
 where
     LineError: From<T::Err>,
@@ -44,7 +44,7 @@ where
     Ok(word.parse::<T>()?)
 }
 
-// The next word as the number of a block.
+/// The next word as the number of a block.
 fn block(words: &mut SplitWhitespace<'_>) -> Result<u16, LineError>
     ensures { IfOk result (λ block. block < MOST_BLOCKS) }
 {

@@ -12,7 +12,7 @@ use plan::Plan;
 use std::alloc::Global;
 use std::io;
 
-// What was measured, a pair a line. Blank lines and those that begin with `#` are passed over.
+/// What was measured, a pair a line. Blank lines and those that begin with `#` are passed over.
 fn read(heap: Global, input: &str) -> anyhow::Result<Vec<Figures>> {
     let mut all = Vec::new(heap);
     for (k, line) in input.lines().enumerate() {

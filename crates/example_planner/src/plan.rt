@@ -33,7 +33,7 @@ pub struct Plan {
     tables: Tables,
 }
 
-// How many blocks a plane has: one more than the largest number that a pair names.
+/// How many blocks a plane has: one more than the largest number that a pair names.
 fn size(figures: &[Figures]) -> u16
     ensures room { All (λ pair. (pair.left < result) × (pair.right < result)) figures.now }
     ensures few { result ≤ MOST_BLOCKS }
@@ -45,7 +45,7 @@ fn size(figures: &[Figures]) -> u16
         .unwrap_or(0)
 }
 
-// A refusal in words.
+/// A refusal in words.
 fn in_words(fault: Fault) -> anyhow::Error {
     anyhow!("{}. {}", meaning(fault.cause), remedy(fault.cause))
 }
@@ -63,7 +63,7 @@ impl Tables {
     }
 }
 
-// Why no pairing is perfect: the left blocks that compete for too few right blocks.
+/// Why no pairing is perfect: the left blocks that compete for too few right blocks.
 fn shortage(heap: Global, shortfall: Shortfall) -> anyhow::Result<String> {
     let short = shortfall.short;
     let mut text = format!(in heap; "{short} too few right blocks for the left blocks")?;
@@ -73,7 +73,7 @@ fn shortage(heap: Global, shortfall: Shortfall) -> anyhow::Result<String> {
     Ok(text)
 }
 
-// Why a sheet cannot be settled, in words.
+/// Why a sheet cannot be settled, in words.
 fn unsettled(heap: Global, refusal: Refusal<OpenSheet>) -> anyhow::Result<SettledSheet> {
     let error = in_words(refusal.fault);
     match refusal.shortfall {
@@ -82,7 +82,7 @@ fn unsettled(heap: Global, refusal: Refusal<OpenSheet>) -> anyhow::Result<Settle
     }
 }
 
-// Enters what each pair costs.
+/// Enters what each pair costs.
 fn enter(sheet: &OpenSheet, tables: &mut Tables, figures: &[Figures]) -> anyhow::Result<()> {
     let (costs, standing) = (&mut tables.costs, &mut tables.standing);
     for pair in figures {
@@ -103,7 +103,7 @@ fn enter(sheet: &OpenSheet, tables: &mut Tables, figures: &[Figures]) -> anyhow:
     Ok(())
 }
 
-// Finds the prices and a pairing of least cost.
+/// Finds the prices and a pairing of least cost.
 fn settle(heap: Global, sheet: OpenSheet, tables: &mut Tables) -> anyhow::Result<SettledSheet> {
     let settled = sheet.settle(
         tables.costs.as_slice(),
@@ -118,7 +118,7 @@ fn settle(heap: Global, sheet: OpenSheet, tables: &mut Tables) -> anyhow::Result
     }
 }
 
-// Prints a pairing: each left block with its right block.
+/// Prints a pairing: each left block with its right block.
 fn print_pairing(rt: &impl Print, list: &[u16]) -> anyhow::Result<()> {
     print!(rt; "pairing")?;
     for (left, right) in list.iter().enumerate() {
@@ -158,7 +158,7 @@ impl Plan {
         Ok(())
     }
 
-    // The marks: 1 for each pair that occurs in a pairing of least cost.
+    /// The marks: 1 for each pair that occurs in a pairing of least cost.
     fn marks(&self, heap: Global) -> anyhow::Result<Vec<u8>> {
         let tables = &self.tables;
         let mut marks = vec![in heap; 0u8; tables.standing.len()]?;
@@ -175,7 +175,7 @@ impl Plan {
         Ok(marks)
     }
 
-    // What the map shows of a pair.
+    /// What the map shows of a pair.
     fn cell(&self, marks: &[u8], left: u16, right: u16) -> &'static str {
         let at = place(self.settled.size(), left, right);
         let byte = self.tables.standing.as_slice().get(at);
@@ -187,7 +187,7 @@ impl Plan {
         }
     }
 
-    // Prints a row of the map.
+    /// Prints a row of the map.
     fn print_row(&self, rt: &impl Print, marks: &[u8], left: u16) -> anyhow::Result<()> {
         print!(rt; "{left:>2}")?;
         for right in 0..self.settled.size() {
@@ -197,7 +197,7 @@ impl Plan {
         Ok(())
     }
 
-    // Prints the line above the rows: the right blocks.
+    /// Prints the line above the rows: the right blocks.
     fn print_heads(&self, rt: &impl Print) -> anyhow::Result<()> {
         print!(rt; "  ")?;
         for right in 0..self.settled.size() {

@@ -11,7 +11,7 @@ use blockset::{BlockSet, MOST_BLOCKS};
 use sheet::{Cause, Fault, Shortfall};
 use std::alloc::{AllocError, Global};
 
-// Appends the line that says what a cause means, behind its number.
+/// Appends the line that says what a cause means, behind its number.
 fn push_meaning(text: &mut String, cause: Cause) -> Result<(), AllocError>
     ensures { OnOk result (string_bytes text.new ≡ string_bytes text.old ++ meaning_line cause) }
 {
@@ -20,7 +20,7 @@ fn push_meaning(text: &mut String, cause: Cause) -> Result<(), AllocError>
     write!(text, "refused {number}: {meaning}\n")
 }
 
-// Appends the line that says what to do.
+/// Appends the line that says what to do.
 fn push_remedy(text: &mut String, cause: Cause) -> Result<(), AllocError>
     ensures { OnOk result (string_bytes text.new ≡ string_bytes text.old ++ remedy_line cause) }
 {
@@ -28,7 +28,7 @@ fn push_remedy(text: &mut String, cause: Cause) -> Result<(), AllocError>
     write!(text, "{remedy}\n")
 }
 
-// Appends the numbers of the left blocks of a crowd set.
+/// Appends the numbers of the left blocks of a crowd set.
 fn push_blocks(text: &mut String, crowd: u64) -> Result<(), AllocError>
     ensures { OnOk result (string_bytes text.new
         ≡ string_bytes text.old ++ up_to MOST_BLOCKS (block_word crowd)) }
@@ -42,7 +42,7 @@ fn push_blocks(text: &mut String, crowd: u64) -> Result<(), AllocError>
     Ok(())
 }
 
-// Appends the lines of a crowd set: its left blocks, and how many right blocks they are short of.
+/// Appends the lines of a crowd set: its left blocks, and how many right blocks they are short of.
 fn push_crowd(text: &mut String, shortfall: Shortfall) -> Result<(), AllocError>
     ensures { OnOk result (string_bytes text.new ≡ string_bytes text.old ++ crowd_lines shortfall) }
 {

@@ -4,8 +4,8 @@ use cost::Plain;
 use sheet::{Fault, open};
 use std::test::Fail;
 
-// The number of a refusal at place 0 in layer 3, which all calls on a sheet give; 0 where the call
-// was accepted.
+/// The number of a refusal at place 0 in layer 3, which all calls on a sheet give; 0 where the call
+/// was accepted.
 fn number<T: Drop>(answer: Result<T, Fault>) -> u8 {
     match answer {
         Ok(_) => 0,

@@ -32,9 +32,9 @@ fn settled(costs: &[Plain; 9]) -> Result<Case, Fail> {
     })
 }
 
-// Each pair costs 7, so every pairing costs 21. The first one, 0 1 2, uses (0, 0). Who raises that
-// cost and settles again comes to 1 0 2, at 21 too, and has lost 0 2 1, which uses (0, 0) as well
-// and is the next one.
+/// Each pair costs 7, so every pairing costs 21. The first one, 0 1 2, uses (0, 0). Who raises that
+/// cost and settles again comes to 1 0 2, at 21 too, and has lost 0 2 1, which uses (0, 0) as well
+/// and is the next one.
 #[test]
 fn raising_a_used_pair_loses_a_pairing(rt: HostRuntime) -> Result<(), Fail> {
     let mut costs = [Plain(7); 9];

@@ -12,8 +12,8 @@ fn call(act: Act<Plain>) -> Call<Plain> {
     }
 }
 
-// Calls in every state, one of them handed too little, and some that the state does not know. Both
-// blocks of each plane pair with both of the other: 3 and 4, 1 and 2.
+/// Calls in every state, one of them handed too little, and some that the state does not know. Both
+/// blocks of each plane pair with both of the other: 3 and 4, 1 and 2.
 fn calls_of_all_states() -> [Call<Plain>; 19] {
     let enter = |left, right, cost| {
         call(Act::Enter {

@@ -4,7 +4,7 @@ use cost::{Plain, TwoStep};
 use sheet::{Cause, OpenSheet, SettledSheet, Step, open};
 use std::test::Fail;
 
-// Both left blocks stand with right block 0 alone.
+/// Both left blocks stand with right block 0 alone.
 #[test]
 fn settling_tells_the_crowd(rt: HostRuntime) -> Result<(), Fail> {
     let (mut costs, mut standing) = ([Plain(0); 4], [1, 0, 1, 0]);
