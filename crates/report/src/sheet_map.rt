@@ -4,7 +4,7 @@
 ghost use Rattle.std.specs.Prelude.{◌≡◌, length};
 ghost use Rattle.pairing.specs.Places.{places_of};
 
-use crate::aligned::push_right;
+use crate::aligned::{push_number, push_right};
 use cost::Plain;
 use std::alloc::{AllocError, Global};
 use tables::{place, stands};
@@ -25,8 +25,9 @@ pub struct Drawing<'a> {
 }
 
 impl Drawing<'_> {
-    ghost use Rattle.std.specs.Prelude.{◌<◌, ◌++◌, IfOk, OnOk, decimal, string_bytes};
+    ghost use Rattle.std.specs.Prelude.{◌<◌, ◌++◌, IfOk, OnOk, codes, decimal, string_bytes};
     ghost use Rattle.report.specs.Mapping.{view_of, cell_of, mark_text, row_width, rows_width};
+    ghost use Rattle.report.specs.Mapping.{right_in};
     ghost use Rattle.report.specs.Mapping.{head_line, table_row, table_rows, map_text};
 
     // The mark of a pair.
@@ -91,11 +92,28 @@ impl Drawing<'_> {
     {
         text.push_str("  ")?;
         for right in 0..self.size {
-            let number = format!(in heap; "{right}")?;
             text.push_str(" ")?;
-            push_right(text, width, number.as_str())?;
+            push_number(text, heap, width, right)?;
         }
         text.push_str("\n")
+    }
+
+    // Appends the cell of a pair behind a blank.
+    fn push_cell(
+        &self,
+        text: &mut String,
+        heap: Global,
+        width: usize,
+        left: u16,
+        right: u16,
+    ) -> Result<(), AllocError>
+        requires inside { (left < self.now.size) × (right < self.now.size) }
+        ensures { OnOk result (string_bytes text.new ≡ string_bytes text.old
+            ++ (codes " " ++ right_in width (cell_of (view_of self.now) left right))) }
+    {
+        let cell = self.cell(heap, left, right)?;
+        text.push_str(" ")?;
+        push_right(text, width, cell.as_str())
     }
 
     // Appends a row: the number of its left block, and the cell of each right block.
@@ -110,12 +128,9 @@ impl Drawing<'_> {
         ensures { let v = view_of self.now in OnOk result (string_bytes text.new
             ≡ string_bytes text.old ++ table_row v.size (cell_of v) width left) }
     {
-        let number = format!(in heap; "{left}")?;
-        push_right(text, 2, number.as_str())?;
+        push_number(text, heap, 2, left)?;
         for right in 0..self.size {
-            let cell = self.cell(heap, left, right)?;
-            text.push_str(" ")?;
-            push_right(text, width, cell.as_str())?;
+            self.push_cell(text, heap, width, left, right)?;
         }
         text.push_str("\n")
     }

@@ -6,4 +6,4 @@ use Rattle.report.proofs.sheet_map.Drawing.push_heads.Given as goal
 
 abbrev pub invariant-loop-right : goal.invariant-loop-right
 invariant-loop-right l = string_bytes l.text ≡ string_bytes l.initial.text
-    ++ up_to l.right-counter (λ r. codes " " ++ right_in l.width (decimal r))
+    ++ up_to l.right (λ r. codes " " ++ right_in l.width (decimal r))
