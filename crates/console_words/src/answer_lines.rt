@@ -14,7 +14,7 @@ use session::{Act, Answer, State};
 use std::alloc::AllocError;
 use tables::place;
 
-// Appends the line of one cost behind a word.
+/// Appends the line of one cost behind a word.
 fn push_cost_line<K: TypedCost>(text: &mut String, word: &str, cost: K) -> Result<(), AllocError>
     ensures { OnOk result (string_bytes text.new
         ≡ string_bytes text.old ++ cost_line K.written word.now cost) }
@@ -25,7 +25,7 @@ fn push_cost_line<K: TypedCost>(text: &mut String, word: &str, cost: K) -> Resul
     text.push_str("\n")
 }
 
-// Appends the line of the right block of each left block.
+/// Appends the line of the right block of each left block.
 fn push_partners(text: &mut String, partners: &[u16]) -> Result<(), AllocError>
     ensures { OnOk result (string_bytes text.new
         ≡ string_bytes text.old ++ partners_line partners.now) }
@@ -33,7 +33,7 @@ fn push_partners(text: &mut String, partners: &[u16]) -> Result<(), AllocError>
     push_numbers_line(text, "partners", partners)
 }
 
-// Appends the line of the prices of one plane.
+/// Appends the line of the prices of one plane.
 fn push_prices<K: TypedCost>(text: &mut String, plane: &str, prices: &[K]) -> Result<(), AllocError>
     ensures { OnOk result (string_bytes text.new
         ≡ string_bytes text.old ++ prices_line K.written plane.now prices.now) }
@@ -46,7 +46,7 @@ fn push_prices<K: TypedCost>(text: &mut String, plane: &str, prices: &[K]) -> Re
     text.push_str("\n")
 }
 
-// Appends a mark, if there is one.
+/// Appends a mark, if there is one.
 fn push_mark(text: &mut String, mark: Option<u8>) -> Result<(), AllocError>
     ensures { OnOk result (string_bytes text.new ≡ string_bytes text.old ++ mark_word mark) }
 {
@@ -56,14 +56,14 @@ fn push_mark(text: &mut String, mark: Option<u8>) -> Result<(), AllocError>
     }
 }
 
-// The mark at a place, if there is one.
+/// The mark at a place, if there is one.
 fn mark_at(marks: &[u8], place: usize) -> Option<u8>
     ensures { result ≡ slice_get marks.now place }
 {
     marks.get(place).copied()
 }
 
-// Appends the marks of one of n left blocks.
+/// Appends the marks of one of n left blocks.
 fn push_mark_row(text: &mut String, n: u16, marks: &[u8], left: u16) -> Result<(), AllocError>
     ensures { OnOk result (string_bytes text.new
         ≡ string_bytes text.old ++ mark_row n marks.now left) }
@@ -74,7 +74,7 @@ fn push_mark_row(text: &mut String, n: u16, marks: &[u8], left: u16) -> Result<(
     text.push_str("\n")
 }
 
-// Appends a row of marks for each of n left blocks.
+/// Appends a row of marks for each of n left blocks.
 fn push_marks(text: &mut String, n: u16, marks: &[u8]) -> Result<(), AllocError>
     ensures { OnOk result (string_bytes text.new
         ≡ string_bytes text.old ++ mark_rows n marks.now) }
@@ -85,7 +85,7 @@ fn push_marks(text: &mut String, n: u16, marks: &[u8]) -> Result<(), AllocError>
     Ok(())
 }
 
-// Appends what a settle wrote.
+/// Appends what a settle wrote.
 fn push_settled<K: TypedCost>(
     text: &mut String,
     partners: &[u16],
@@ -101,7 +101,7 @@ fn push_settled<K: TypedCost>(
     push_prices(text, "right", right)
 }
 
-// Appends what was done by a call that enters a pair.
+/// Appends what was done by a call that enters a pair.
 fn push_entered<K: TypedCost>(
     text: &mut String,
     left: u16,
@@ -116,7 +116,7 @@ fn push_entered<K: TypedCost>(
     text.push_str("\n")
 }
 
-// Appends what was done by a call that tells nothing.
+/// Appends what was done by a call that tells nothing.
 fn push_done<K: TypedCost>(text: &mut String, act: Act<K>) -> Result<(), AllocError>
     ensures { OnOk result (string_bytes text.new
         ≡ string_bytes text.old ++ done_words K.written act) }
@@ -131,7 +131,7 @@ fn push_done<K: TypedCost>(text: &mut String, act: Act<K>) -> Result<(), AllocEr
     }
 }
 
-// What state a sheet is in.
+/// What state a sheet is in.
 fn state_words(state: &State) -> &'static str
     ensures { result.now ≡ state_words state.now }
 {
@@ -142,7 +142,7 @@ fn state_words(state: &State) -> &'static str
     }
 }
 
-// Which calls a state has.
+/// Which calls a state has.
 fn state_calls(state: &State) -> &'static str
     ensures { result.now ≡ state_calls state.now }
 {
@@ -153,7 +153,7 @@ fn state_calls(state: &State) -> &'static str
     }
 }
 
-// Appends that the sheet's state has no such call, and which calls it has.
+/// Appends that the sheet's state has no such call, and which calls it has.
 fn push_not_made(text: &mut String, state: &State, verb: Verb) -> Result<(), AllocError>
     ensures { OnOk result (string_bytes text.new
         ≡ string_bytes text.old ++ not_made_words state.now verb) }

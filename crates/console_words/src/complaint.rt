@@ -38,7 +38,7 @@ pub enum Complaint<'a> {
 }
 
 impl<'a> Complaint<'a> {
-    // What is said before the word or the form that is named, that itself, and what is said behind.
+    /// What is said before the word or the form that is named, that, and what is said behind it.
     fn parts(&self) -> (&'static str, &'a str, &'static str)
         ensures { complaint_text self.now ≡ result.0.now ++ (result.1.now ++ result.2.now) }
     {
@@ -56,7 +56,7 @@ impl<'a> Complaint<'a> {
                 "` is too large: a cost fits a signed number of 64 bits",
             ),
             Complaint::Columns(word) => ("a cost has 1 or 2 columns, not `", word, "`"),
-            // the meaning of the sheet's own cause, and its remedy
+            // the meaning of the sheet's own cause and its remedy, which the clause holds them to
             Complaint::Size(word) => (
                 "`",
                 word,

@@ -33,14 +33,14 @@ pub enum Console {
     TwoStep(Desk<TwoStep<Plain, Plain>>),
 }
 
-// The text of a complaint about a line.
+/// The text of a complaint about a line.
 fn complaint_turn(heap: Global, number: usize, complaint: Complaint<'_>) -> Result<Turn, AllocError>
     ensures { IfOk result (IsPrinted (complained_line number complaint.entry)) }
 {
     Ok(Turn::Said(format!(in heap; "line {number}: {complaint}\n")?))
 }
 
-// Whether a line is passed over, as blank or as a comment, which may stand behind white space.
+/// Whether a line is passed over, as blank or as a comment, which may stand behind white space.
 fn is_skipped(line: &str) -> bool
     ensures { IsTrue result ↔ IsSkipped (words_of line.now) }
 {
@@ -50,7 +50,7 @@ fn is_skipped(line: &str) -> bool
     }
 }
 
-// What is said of a sheet that was opened.
+/// What is said of a sheet that was opened.
 fn opened_text(heap: Global, blocks: u16, columns: ColumnCount) -> Result<String, AllocError>
     ensures { IfOk result (λ text. string_bytes text ≡ opened_line blocks columns) }
 {
@@ -58,7 +58,7 @@ fn opened_text(heap: Global, blocks: u16, columns: ColumnCount) -> Result<String
     format!(in heap; "sheet of {blocks} left and {blocks} right blocks; {costs}\n")
 }
 
-// Opens a sheet.
+/// Opens a sheet.
 fn open_console(
     heap: Global,
     size: SheetSize,
@@ -74,7 +74,7 @@ fn open_console(
     Ok((console, Turn::Said(text)))
 }
 
-// Takes a line before a sheet is open.
+/// Takes a line before a sheet is open.
 fn take_unopened(
     heap: Global,
     columns: ColumnCount,
@@ -107,7 +107,7 @@ fn take_unopened(
     }
 }
 
-// Takes a line on an open sheet.
+/// Takes a line on an open sheet.
 fn take_opened<K: TypedCost>(
     heap: Global,
     desk: Desk<K>,
@@ -131,7 +131,7 @@ impl Console {
         Console::Unopened(ColumnCount::One)
     }
 
-    // Takes a line that is no blank and no comment.
+    /// Takes a line that is no blank and no comment.
     fn take_words(
         self,
         heap: Global,

@@ -43,7 +43,7 @@ impl<K: TypedCost> Desk<K> {
         })
     }
 
-    // Performs a call, which is handed a table one place short, or all of them whole.
+    /// Performs a call, which is handed a table one place short, or all of them whole.
     fn perform(
         self,
         heap: Global,

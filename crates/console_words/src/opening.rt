@@ -71,7 +71,7 @@ impl Opening {
     }
 }
 
-// What a line asks for by its first word and those behind it.
+/// What a line asks for by its first word and those behind it.
 fn opening_after<'a>(
     lead: Lead,
     word: &'a str,

@@ -47,7 +47,7 @@ impl<K: TypedCost> Request<K> {
     }
 }
 
-// What a line asks for by its first word and those behind it.
+/// What a line asks for by its first word and those behind it.
 fn request_after<'a, K: TypedCost>(
     lead: Lead,
     word: &'a str,
@@ -79,7 +79,7 @@ fn request_after<'a, K: TypedCost>(
     }
 }
 
-// What is asked for by the words behind `short`: a table, and a call that it is short for.
+/// What is asked for by the words behind `short`: a table, and a call that it is short for.
 fn short_request<'a, K: TypedCost>(words: &mut Words<'a>) -> Result<Request<K>, Complaint<'a>>
     ensures whole { IfOk result (λ request. words_left words.new ≡ []
         → Asks K.Cost K.numbers (lead_word Short ∷ words_left words.old) request) }
@@ -104,7 +104,7 @@ fn short_request<'a, K: TypedCost>(words: &mut Words<'a>) -> Result<Request<K>, 
     })
 }
 
-// The call of this name, with what the words behind it say.
+/// The call of this name, with what the words behind it say.
 fn typed_act<'a, K: TypedCost>(verb: Verb, words: &mut Words<'a>) -> Result<Act<K>, Complaint<'a>>
     ensures form { form_of words.new ≡ form_words K.entering verb }
     ensures verb { IfOk result (λ act. verb_of act ≡ verb) }
@@ -130,7 +130,7 @@ fn typed_act<'a, K: TypedCost>(verb: Verb, words: &mut Words<'a>) -> Result<Act<
     }
 }
 
-// The call that enters a pair, with the pair and the cost that the next words say.
+/// The call that enters a pair, with the pair and the cost that the next words say.
 fn typed_enter<'a, K: TypedCost>(words: &mut Words<'a>) -> Result<Act<K>, Complaint<'a>>
     ensures form { form_of words.new ≡ form_of words.old }
     ensures verb { IfOk result (λ act. verb_of act ≡ Enter) }
@@ -144,7 +144,7 @@ fn typed_enter<'a, K: TypedCost>(words: &mut Words<'a>) -> Result<Act<K>, Compla
     Ok(Act::Enter { left, right, cost })
 }
 
-// The call of this name on a pair.
+/// The call of this name on a pair.
 fn act_on_pair<K: TypedCost>(verb: Verb, left: u16, right: u16) -> Act<K>
     requires { (verb ≡ Strike) ⊎ (verb ≡ Read) ⊎ (verb ≡ Quote) }
     ensures verb { verb_of result ≡ verb }
@@ -157,7 +157,7 @@ fn act_on_pair<K: TypedCost>(verb: Verb, left: u16, right: u16) -> Act<K>
     }
 }
 
-// The next two words as a left and a right block.
+/// The next two words as a left and a right block.
 fn typed_pair<'a>(words: &mut Words<'a>) -> Result<(u16, u16), Complaint<'a>>
     ensures form { form_of words.new ≡ form_of words.old }
     ensures told { IfOk result (λ told. Takes (a_block ∷ (a_block ∷ [])) (words_left words.old)

@@ -46,7 +46,7 @@ text { font: 13px sans-serif; fill: #24292f; text-anchor: middle }
 </style>
 ";
 
-// How wide the longest of some numbers is, of two digits at least.
+/// How wide the longest of some numbers is, of two digits at least.
 fn widest(heap: Global, numbers: &[Plain]) -> Result<u64, AllocError> {
     let mut longest = 2;
     for Plain(number) in numbers {
@@ -110,12 +110,12 @@ pub fn down(left: u16) -> u64
     HEAD + ROW * left as u64
 }
 
-// Whether the pairings of a picture are listed as numbers.
+/// Whether the pairings of a picture are listed as numbers.
 fn are_listed(solved: &Solved) -> bool {
     solved.size > MOST_IN_LADDERS
 }
 
-// How wide a picture is.
+/// How wide a picture is.
 fn width(measures: Measures, solved: &Solved) -> u64 {
     let ladders = if are_listed(solved) {
         0
@@ -126,7 +126,7 @@ fn width(measures: Measures, solved: &Solved) -> u64 {
     table.saturating_add(ladders).saturating_add(SIDE).max(560)
 }
 
-// Where the legend begins: below the table, and below the lists of pairings.
+/// Where the legend begins: below the table, and below the lists of pairings.
 fn bottom(solved: &Solved) -> u64 {
     let lists = if are_listed(solved) {
         lists_height(solved)
@@ -136,7 +136,7 @@ fn bottom(solved: &Solved) -> u64 {
     down(solved.size).saturating_add(lists)
 }
 
-// The words above the table.
+/// The words above the table.
 fn push_title(text: &mut String, solved: &Solved) -> Result<(), AllocError> {
     let Plain(total) = solved.total;
     let (shown, size) = (solved.pairings.len(), solved.size);
@@ -149,7 +149,7 @@ fn push_title(text: &mut String, solved: &Solved) -> Result<(), AllocError> {
     )
 }
 
-// What the colours mean.
+/// What the colours mean.
 fn push_legend(text: &mut String, top: u64) -> Result<(), AllocError> {
     let (square, y) = (top.saturating_add(17), top.saturating_add(30));
     let below = top.saturating_add(54);

@@ -8,12 +8,12 @@ use std::alloc::AllocError;
 // How far a ladder's two sides stand apart.
 const APART: u64 = 60;
 
-// The height at which a block's dot stands.
+/// The height at which a block's dot stands.
 fn level(block: u16) -> u64 {
     down(block) + ROW / 2
 }
 
-// Appends the line of a left block and its right block, and the dots at both ends.
+/// Appends the line of a left block and its right block, and the dots at both ends.
 fn push_way(text: &mut String, x: u64, left: u16, right: u16) -> Result<(), AllocError> {
     let (far, y, end) = (x.saturating_add(APART), level(left), level(right));
     write!(
@@ -24,7 +24,7 @@ fn push_way(text: &mut String, x: u64, left: u16, right: u16) -> Result<(), Allo
     )
 }
 
-// Appends the number of a pairing, and which side of its ladder is which.
+/// Appends the number of a pairing, and which side of its ladder is which.
 fn push_head(text: &mut String, x: u64, number: usize) -> Result<(), AllocError> {
     let (middle, far) = (x.saturating_add(APART / 2), x.saturating_add(APART));
     let (above, y) = (HEAD - 32, HEAD - 8);
@@ -36,7 +36,7 @@ fn push_head(text: &mut String, x: u64, number: usize) -> Result<(), AllocError>
     )
 }
 
-// Appends the ladder of a pairing.
+/// Appends the ladder of a pairing.
 fn push_ladder(
     text: &mut String,
     x: u64,

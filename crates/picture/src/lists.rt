@@ -20,7 +20,7 @@ pub fn lists_height(solved: &Solved) -> u64 {
         .saturating_add(GAP + REST)
 }
 
-// Appends the number of a block in the column of a left block.
+/// Appends the number of a block in the column of a left block.
 fn push_number(
     text: &mut String,
     style: &str,
@@ -35,7 +35,7 @@ fn push_number(
     )
 }
 
-// Appends what the lists tell, and the left blocks above them.
+/// Appends what the lists tell, and the left blocks above them.
 fn push_head(text: &mut String, y: u64, size: u16) -> Result<(), AllocError> {
     let below = y.saturating_add(ROW);
     write!(
@@ -49,7 +49,7 @@ fn push_head(text: &mut String, y: u64, size: u16) -> Result<(), AllocError> {
     Ok(())
 }
 
-// Appends the list of a pairing.
+/// Appends the list of a pairing.
 fn push_list(text: &mut String, y: u64, number: usize, pairing: &[u16]) -> Result<(), AllocError> {
     write!(
         text,

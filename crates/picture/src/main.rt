@@ -32,7 +32,7 @@ a sheet without a perfect pairing, with its crowd set and shortage.
 // The status of a program whose order file is refused.
 const REFUSED: u8 = 1;
 
-// Why there is no picture, in words.
+/// Why there is no picture, in words.
 fn reason(heap: Global, trouble: Trouble) -> Result<String, AllocError> {
     match trouble {
         Trouble::Refused(fault) => explain(heap, fault),

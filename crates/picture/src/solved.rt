@@ -38,7 +38,7 @@ pub enum Trouble {
     Memory(#[from] AllocError),
 }
 
-// Why a sheet could not be settled.
+/// Why a sheet could not be settled.
 fn trouble_of(refusal: Refusal<OpenSheet>) -> Trouble {
     match refusal.shortfall {
         Some(shortfall) => Trouble::Unmatched(shortfall),
@@ -83,7 +83,7 @@ pub fn solve(heap: Global, file: &[u8]) -> Result<Solved, Trouble> {
 }
 
 impl Solved {
-    // Fills in the total and the marks.
+    /// Fills in the total and the marks.
     fn look_at(&mut self, sheet: &SettledSheet) -> Result<(), Fault> {
         let (costs, standing) = (self.costs.as_slice(), self.standing.as_slice());
         let (left, right) = (self.left.as_slice(), self.right.as_slice());
@@ -93,7 +93,7 @@ impl Solved {
         sheet.marks(costs, standing, partners, left, right, marks)
     }
 
-    // The first optimum pairings, and whether there are more.
+    /// The first optimum pairings, and whether there are more.
     fn first_pairings(
         &self,
         heap: Global,
@@ -118,7 +118,7 @@ impl Solved {
     }
 }
 
-// Adds a pairing to those that are shown.
+/// Adds a pairing to those that are shown.
 fn show(pairings: &mut Vec<Vec<u16>>, pairing: Vec<u16>) -> Result<(), AllocError> {
     Ok(pairings.push(pairing)?)
 }

@@ -10,7 +10,7 @@ use tables::{place, stands};
 // The base line of the text in a row.
 const BASE: u64 = 18;
 
-// How a pair looks: the class of its cell and the class of its text.
+/// How a pair looks: the class of its cell and the class of its text.
 fn look(solved: &Solved, left: u16, right: u16) -> (&'static str, &'static str) {
     let at = place(solved.size, left, right);
     if solved.partners.get(left as usize) == Some(&right) {
@@ -22,7 +22,7 @@ fn look(solved: &Solved, left: u16, right: u16) -> (&'static str, &'static str) 
     }
 }
 
-// Appends the cell of a pair: its cost, or a dot where the pair is absent.
+/// Appends the cell of a pair: its cost, or a dot where the pair is absent.
 fn push_cell(
     text: &mut String,
     measures: Measures,
@@ -51,7 +51,7 @@ fn push_cell(
     }
 }
 
-// Appends the row of a left block: its number, its price, and its cells.
+/// Appends the row of a left block: its number, its price, and its cells.
 fn push_row(
     text: &mut String,
     measures: Measures,
@@ -76,7 +76,7 @@ fn push_row(
     Ok(())
 }
 
-// Appends which blocks have the columns and which the rows.
+/// Appends which blocks have the columns and which the rows.
 fn push_sides(text: &mut String, measures: Measures) -> Result<(), AllocError> {
     let side = measures.side();
     let (right, left, plane) = (HEAD - 54, HEAD - 32, HEAD - 14);
@@ -88,7 +88,7 @@ fn push_sides(text: &mut String, measures: Measures) -> Result<(), AllocError> {
     )
 }
 
-// Appends the numbers of the right blocks and their prices, above the rows.
+/// Appends the numbers of the right blocks and their prices, above the rows.
 fn push_heads(text: &mut String, measures: Measures, solved: &Solved) -> Result<(), AllocError> {
     let (number, amount) = (HEAD - 28, HEAD - 8);
     for right in 0..solved.size {

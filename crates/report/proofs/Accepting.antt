@@ -1,7 +1,7 @@
 -- What is known of lent tables that a sheet was settled with, or that refused it.
 -- Idea: a call is made with the parts of one value, and these together are the value again. Pair
 -- tables in order have a sane grid, whose totals stay far from the end of the rail.
-use Rattle.std.proofs.Common.{◌≡◌, ℕ, true, List, [], ◌∷◌, ℤ, sym, refl, ap, ◌∙◌}
+use Rattle.std.proofs.Common.{◌≡◌, ℕ, List, [], ◌∷◌, ℤ, sym, refl, ap, ◌∙◌}
 use Rattle.cost.specs.Columns.{rail_of}
 use Rattle.cost.specs.declared.plain_kind.Plain.{Plain}
 use Rattle.pairing.specs.Grid.{IsSane, IsPerfectIn, total}

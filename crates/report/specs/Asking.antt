@@ -1,5 +1,5 @@
 -- The word that asks for a map.
-use Rattle.std.specs.Prelude.{◌≡◌, ℕ, List, codes, length, slice_get, string_bytes, IfSome}
+use Rattle.std.specs.Prelude.{◌≡◌, List, codes, length, slice_get, string_bytes, IfSome}
 use Rattle.std.specs.Prelude.{String}
 
 -- the second word is the last, and it is `map`

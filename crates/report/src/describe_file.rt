@@ -19,7 +19,7 @@ pub fn refusal_line(heap: Global, fault: Fault) -> Result<String, AllocError>
     format!(in heap; "{fault}\n")
 }
 
-// Appends the line of a pair, if it stands: `pair L R COST`.
+/// Appends the line of a pair, if it stands: `pair L R COST`.
 fn push_pair(
     text: &mut String,
     sheet: &OpenSheet,
@@ -40,7 +40,7 @@ fn push_pair(
     Ok(())
 }
 
-// Appends the lines of the pairs of a left block.
+/// Appends the lines of the pairs of a left block.
 fn push_row(
     text: &mut String,
     sheet: &OpenSheet,
@@ -59,7 +59,7 @@ fn push_row(
     Ok(())
 }
 
-// Appends the lines of all pairs.
+/// Appends the lines of all pairs.
 fn push_rows(
     text: &mut String,
     sheet: &OpenSheet,
@@ -76,7 +76,7 @@ fn push_rows(
     Ok(())
 }
 
-// The text of a sheet: `size N`, a line for each standing pair, `end`.
+/// The text of a sheet: `size N`, a line for each standing pair, `end`.
 fn tell(heap: Global, loaded: &LoadedSheet) -> Result<String, AllocError>
     requires { HavePlaces (size_of loaded.now.sheet) (length loaded.now.costs.items)
         (length loaded.now.standing.items) }

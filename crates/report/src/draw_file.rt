@@ -19,7 +19,7 @@ use sheet::{Cause, SettledSheet, Shortfall};
 use std::alloc::{AllocError, Global};
 use tables::{Tables, places};
 
-// The map of a sheet that was just settled.
+/// The map of a sheet that was just settled.
 fn draw_settled(
     heap: Global,
     sheet: &SettledSheet,
@@ -60,7 +60,7 @@ fn draw_settled(
     Ok(text)
 }
 
-// What stands in place of the map of a sheet that holds no perfect pairing.
+/// What stands in place of the map of a sheet that holds no perfect pairing.
 fn draw_unmatched(heap: Global, shortfall: Shortfall) -> Result<String, AllocError>
     ensures { IfOk result (λ text. string_bytes text ≡ no_map shortfall) }
 {
@@ -69,7 +69,7 @@ fn draw_unmatched(heap: Global, shortfall: Shortfall) -> Result<String, AllocErr
     Ok(text)
 }
 
-// The map of a sheet: it is settled, or no pairing is perfect.
+/// The map of a sheet: it is settled, or no pairing is perfect.
 fn draw_sheet(heap: Global, loaded: LoadedSheet) -> Result<String, AllocError>
     requires { ArePairTables plain_kind (size_of loaded.sheet) loaded.costs.items
         loaded.standing.items }

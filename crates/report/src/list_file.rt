@@ -19,7 +19,7 @@ use sheet::{Cause, SettledSheet, Step, Walk};
 use std::alloc::{AllocError, Global};
 use tables::Tables;
 
-// Goes on to the next pairing of a walk over tables that hold together.
+/// Goes on to the next pairing of a walk over tables that hold together.
 fn step(walk: &Walk, tables: &Tables<'_, Plain>, list: &mut [u16]) -> Step
     requires size { size_of walk.now ≡ tables.now.size }
     requires together { HoldTogether plain_kind tables.now }
@@ -40,8 +40,8 @@ fn step(walk: &Walk, tables: &Tables<'_, Plain>, list: &mut [u16]) -> Step
     step
 }
 
-// Appends the lines of the pairings from the first one on, as far as a listing goes, and the last
-// line.
+/// Appends the lines of the pairings from the first one on, as far as a listing goes, and the last
+/// line.
 fn push_pairings(
     text: &mut String,
     walk: &Walk,
@@ -63,7 +63,7 @@ fn push_pairings(
     text.push_str("more\n")
 }
 
-// The listing of a sheet that was just settled.
+/// The listing of a sheet that was just settled.
 fn list_settled(
     heap: Global,
     sheet: SettledSheet,
@@ -97,7 +97,7 @@ fn list_settled(
     Ok(text)
 }
 
-// The listing of a sheet: it is settled, or no pairing is perfect.
+/// The listing of a sheet: it is settled, or no pairing is perfect.
 fn list_sheet(heap: Global, loaded: LoadedSheet) -> Result<String, AllocError>
     requires { ArePairTables plain_kind (size_of loaded.sheet) loaded.costs.items
         loaded.standing.items }

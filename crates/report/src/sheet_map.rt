@@ -30,7 +30,7 @@ impl Drawing<'_> {
     ghost use Rattle.report.specs.Mapping.{right_in};
     ghost use Rattle.report.specs.Mapping.{head_line, table_row, table_rows, map_text};
 
-    // The mark of a pair.
+    /// The mark of a pair.
     fn mark(&self, left: u16, right: u16) -> &'static str
         requires inside { (left < self.now.size) × (right < self.now.size) }
         ensures { let v = view_of self.now in
@@ -45,7 +45,7 @@ impl Drawing<'_> {
         }
     }
 
-    // The cell of a pair.
+    /// The cell of a pair.
     fn cell(&self, heap: Global, left: u16, right: u16) -> Result<String, AllocError>
         requires inside { (left < self.now.size) × (right < self.now.size) }
         ensures { IfOk result (λ text. string_bytes text ≡ cell_of (view_of self.now) left right) }
@@ -59,7 +59,7 @@ impl Drawing<'_> {
         format!(in heap; "{mark}{cost}")
     }
 
-    // The length of the longest cell of a row.
+    /// The length of the longest cell of a row.
     fn row_width(&self, heap: Global, left: u16) -> Result<usize, AllocError>
         requires inside { left < self.now.size }
         ensures { let v = view_of self.now in
@@ -73,7 +73,7 @@ impl Drawing<'_> {
         Ok(width)
     }
 
-    // The length of the longest cell.
+    /// The length of the longest cell.
     fn rows_width(&self, heap: Global) -> Result<usize, AllocError>
         ensures { let v = view_of self.now in
             IfOk result (λ width. width ≡ rows_width v.size (cell_of v) v.size) }
@@ -85,7 +85,7 @@ impl Drawing<'_> {
         Ok(width)
     }
 
-    // Appends the line above the rows: the numbers of the right blocks.
+    /// Appends the line above the rows: the numbers of the right blocks.
     fn push_heads(&self, text: &mut String, heap: Global, width: usize) -> Result<(), AllocError>
         ensures { OnOk result
             (string_bytes text.new ≡ string_bytes text.old ++ head_line self.now.size width) }
@@ -98,7 +98,7 @@ impl Drawing<'_> {
         text.push_str("\n")
     }
 
-    // Appends the cell of a pair behind a blank.
+    /// Appends the cell of a pair behind a blank.
     fn push_cell(
         &self,
         text: &mut String,
@@ -116,7 +116,7 @@ impl Drawing<'_> {
         push_right(text, width, cell.as_str())
     }
 
-    // Appends a row: the number of its left block, and the cell of each right block.
+    /// Appends a row: the number of its left block, and the cell of each right block.
     fn push_row(
         &self,
         text: &mut String,
@@ -135,7 +135,7 @@ impl Drawing<'_> {
         text.push_str("\n")
     }
 
-    // Appends all rows.
+    /// Appends all rows.
     fn push_rows(&self, text: &mut String, heap: Global, width: usize) -> Result<(), AllocError>
         ensures { let v = view_of self.now in OnOk result (string_bytes text.new
             ≡ string_bytes text.old ++ table_rows v.size (cell_of v) width v.size) }

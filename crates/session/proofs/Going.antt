@@ -1,9 +1,8 @@
 -- A run is a program: opening begins it, and each call that is made is one step more.
 -- Idea: the calls so far with what came of each are the exchanges of a program that has come to the
 -- state and the tables as they are; the law is then cited for it as a whole.
-use Rattle.std.proofs.Common.{◌≡◌, ℕ, ◌+◌, ◌<◌, ◌≤◌, true, false, List, [], ◌∷◌, ◌++◌, length, take}
+use Rattle.std.proofs.Common.{◌≡◌, ℕ, ◌+◌, ◌<◌, ◌≤◌, false, List, [], ◌∷◌, ◌++◌, length, take}
 use Rattle.std.proofs.Common.{Ok, Err, Result, inl, inr, get_or, sym, refl, ap, ◌∙◌, subst, arith}
-use Rattle.std.specs.Prelude.{MatchResult}
 use Rattle.std.specs.Vec.{with_items}
 use Rattle.std.specs.declared.alloc.AllocError.{AllocError}
 use Rattle.std.proofs.lemmas.List.{length-take-le, take_all, take_more, with_items_is}
@@ -29,7 +28,7 @@ use Rattle.session.specs.Lists.{TableLists, lengths, right_lengths}
 use Rattle.session.specs.Program.{SheetAt, state_after, IsAnswered, IsCalled, Program, opens, calls}
 use Rattle.session.specs.Program.{EveryProgramKeeps}
 use Rattle.session.specs.Runs.{state_of, IsAnswerOf, AreAnswersOf, WasMade, WereMade, Begins}
-use Rattle.session.specs.Runs.{tables_of, MakesOne, IsSheet, holds_copies}
+use Rattle.session.specs.Runs.{tables_of, MakesOne, IsSheet}
 
 -- ---- The size stays
 

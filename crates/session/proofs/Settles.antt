@@ -1,14 +1,14 @@
 -- The call that settles: what comes of it is right by the book, and the tables go on with it.
 -- Idea: where the lengths are right, the tables' grid is the book's inside, so the two have the
 -- same perfect and optimum pairings, the same greatest prices and the same crowd set.
-use Rattle.std.proofs.Common.{◌≡◌, ◌≢◌, ℕ, ◌<◌, Bool, true, List, length, Some, None, Ok}
+use Rattle.std.proofs.Common.{◌≡◌, ◌≢◌, ℕ, Bool, List, length, Some, None, Ok}
 use Rattle.std.proofs.Common.{Err, Option, Result, sym, refl, ap, ◌∙◌, subst, inl, inr, ⊎_elim, ltb}
 use Rattle.std.specs.Prelude.{MatchOption}
 use Rattle.std.specs.Bool.{Decides}
 use Rattle.cost.specs.declared.Cost.{Ghosts}
 use Rattle.pairing.specs.Grid.{Grid, IsPerfectIn}
 use Rattle.pairing.specs.Largest.{HasNoPerfect}
-use Rattle.pairing.specs.Optima.{perfects, optima}
+use Rattle.pairing.specs.Optima.{optima}
 use Rattle.pairing.specs.Theorems.{AreAlikeInside}
 use Rattle.pairing.proofs.Listing.{perfects_are}
 use Rattle.matching.specs.Answers.{IsNth}

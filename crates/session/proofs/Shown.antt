@@ -2,7 +2,7 @@
 -- Idea: each verdict, walk and mark is computed from its definition; the greatest prices are shown
 -- by a test that passes, and crowd sets as the worked grids of the mathematics have them.
 use Rattle.std.proofs.Common.{◌≡◌, ◌≢◌, ℕ, zero, suc, ◌<◌, true, false, List, [], ◌∷◌, ◌++◌, length}
-use Rattle.std.proofs.Common.{ℤ, pos, negsuc, Option, Some, None, cond, refl, sym, ◌∙◌, inl, ap}
+use Rattle.std.proofs.Common.{ℤ, pos, negsuc, Option, Some, None, cond, refl, sym, ◌∙◌, ap}
 use Rattle.std.proofs.Common.{Contains, arith}
 use Rattle.std.proofs.lemmas.Bool.{false≢true}
 use Rattle.cost.specs.Columns.{AreWithin}

@@ -1,5 +1,5 @@
 -- The tables of a sheet, one by one: what is said of each table is said once.
-use Rattle.std.specs.Prelude.{◌≡◌, ℕ, Bool, true, false, List, length}
+use Rattle.std.specs.Prelude.{ℕ, Bool, true, false, List, length}
 use Rattle.pairing.specs.Places.{places_of, rights_of}
 use Rattle.tables.specs.Lent.{Lent, lent as as_one}
 use Rattle.session.specs.declared.call.Lengths.{Lengths}

@@ -99,14 +99,14 @@ pub fn run<K: Cost>(
     Ok(answers)
 }
 
-// Whether each call is handed no more than is lent.
+/// Whether each call is handed no more than is lent.
 fn all_lent<K: Cost>(calls: &[Call<K>], lent: Lengths) -> bool
     ensures { MatchBool result (AreLent K.Cost calls.now lent) (ExceedsLent K.Cost calls.now lent) }
 {
     calls.iter().all(|call| call.handed.within(lent))
 }
 
-// Opens a sheet over the tables, if these have the right lengths for it: a program begins.
+/// Opens a sheet over the tables, if these have the right lengths for it: a program begins.
 fn begin<K: Cost>(n: u16, tables: &mut SheetTables<K>) -> Result<State, Fault>
     ensures sheet { MatchResult result (λ _. IsSheet K.Cost n (lengths (tables_of tables.old)))
         (λ f. IsNoSheet K.Cost n (lengths (tables_of tables.old)) f) }

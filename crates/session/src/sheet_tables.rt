@@ -90,8 +90,8 @@ impl Lengths {
     }
 }
 
-// A table with the same value in each place. What `vec!` makes are clones, which need not be the
-// value.
+/// A table with the same value in each place. What `vec!` makes are clones, which need not be the
+/// value.
 fn table<T: Copy>(heap: Global, value: T, places: usize) -> Result<Vec<T>, AllocError>
     ensures { IfOk result (λ made. made.items ≡ replicate places value) }
 {

@@ -12,7 +12,7 @@ const STANDING: [u8; 9] = [1, 1, 0, 1, 1, 1, 0, 1, 1];
 
 const COSTS: [i64; 9] = [4, 2, 0, 3, 1, 5, 0, 6, 2];
 
-/// The pairings that a walk hands out over three blocks a plane, up to three of them, and the marks.
+/// The pairings that a walk hands out over three blocks a plane, up to three, and the marks.
 fn walked<K: Cost>(costs: &[K; 9]) -> Option<([[u16; 3]; 3], usize, [u8; 9])> {
     let mut partners = [9u16; 3];
     let mut left = [K::zero(), K::zero(), K::zero()];

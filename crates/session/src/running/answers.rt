@@ -13,7 +13,7 @@ use crate::state::State;
 use cost::Cost;
 use sheet::{Fault, OpenSheet, Refusal, SettledSheet, Shortfall, Step, Walk};
 
-// The answer to a call that gives nothing.
+/// The answer to a call that gives nothing.
 pub(super) fn done_answer<K: Cost>(outcome: Result<(), Fault>) -> Answer<K>
     ensures { MatchResult outcome (λ u. result ≡ Done) (λ f. result ≡ Refused f) }
 {
@@ -23,7 +23,7 @@ pub(super) fn done_answer<K: Cost>(outcome: Result<(), Fault>) -> Answer<K>
     }
 }
 
-// The answer to a call that gives an amount.
+/// The answer to a call that gives an amount.
 pub(super) fn amount_answer<K: Cost>(outcome: Result<K, Fault>) -> Answer<K>
     ensures { MatchResult outcome (λ x. result ≡ Amount x) (λ f. result ≡ Refused f) }
 {
@@ -33,7 +33,7 @@ pub(super) fn amount_answer<K: Cost>(outcome: Result<K, Fault>) -> Answer<K>
     }
 }
 
-// The answer to a quote.
+/// The answer to a quote.
 pub(super) fn quote_answer<K: Cost>(outcome: Result<(K, K), Fault>) -> Answer<K>
     ensures { MatchResult outcome (λ q. result ≡ Quoted q.0 q.1) (λ f. result ≡ Refused f) }
 {
@@ -43,7 +43,7 @@ pub(super) fn quote_answer<K: Cost>(outcome: Result<(K, K), Fault>) -> Answer<K>
     }
 }
 
-// The answer to a call that writes marks, with a copy of the table as the call left it.
+/// The answer to a call that writes marks, with a copy of the table as the call left it.
 pub(super) fn marks_answer<K: Cost>(outcome: Result<(), Fault>, table: Vec<u8>) -> Answer<K>
     ensures { MatchResult outcome (λ u. result ≡ Marked table) (λ f. result ≡ Refused f) }
 {
@@ -53,7 +53,7 @@ pub(super) fn marks_answer<K: Cost>(outcome: Result<(), Fault>, table: Vec<u8>) 
     }
 }
 
-// The answer to a step of a walk, with a copy of the walk list as the call left it.
+/// The answer to a step of a walk, with a copy of the walk list as the call left it.
 pub(super) fn step_answer<K: Cost>(outcome: Result<Step, Fault>, list: Vec<u16>) -> Answer<K>
     ensures { IsStepAnswer outcome list result }
 {
@@ -64,7 +64,7 @@ pub(super) fn step_answer<K: Cost>(outcome: Result<Step, Fault>, list: Vec<u16>)
     }
 }
 
-// The state and the answer that a start leaves, with a copy of the walk list as it left it.
+/// The state and the answer that a start leaves, with a copy of the walk list as it left it.
 pub(super) fn after_start<K: Cost>(
     outcome: Result<Walk, Refusal<SettledSheet>>,
     list: Vec<u16>,
@@ -85,7 +85,7 @@ pub(super) fn after_start<K: Cost>(
     }
 }
 
-// The state and the answer that a settle leaves, with copies of the tables as it left them.
+/// The state and the answer that a settle leaves, with copies of the tables as it left them.
 pub(super) fn after_settle<K: Cost>(
     outcome: Result<SettledSheet, Refusal<OpenSheet>>,
     partners: Vec<u16>,
@@ -115,7 +115,7 @@ pub(super) fn after_settle<K: Cost>(
     }
 }
 
-// The answer to a call that was refused, perhaps with a crowd set.
+/// The answer to a call that was refused, perhaps with a crowd set.
 fn refusal_answer<K: Cost>(fault: Fault, shortfall: Option<Shortfall>) -> Answer<K>
     ensures { IsRefusalAnswer fault shortfall result }
 {

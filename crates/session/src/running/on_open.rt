@@ -123,7 +123,7 @@ fn copy_tables<K: Cost>(
     })
 }
 
-// The copies that the answer needs are made first.
+/// The copies that the answer needs are made first.
 fn settle<K: Cost>(
     heap: Global,
     sheet: OpenSheet,

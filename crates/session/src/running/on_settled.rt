@@ -89,7 +89,7 @@ fn total<K: Cost>(sheet: &SettledSheet, tables: &SheetTables<K>, h: Lengths) -> 
     amount_answer(outcome)
 }
 
-// The copy that the answer needs is made first, here and in `start`.
+/// The copy that the answer needs is made first, here and in `start`.
 fn marks<K: Cost>(
     heap: Global,
     sheet: &SettledSheet,

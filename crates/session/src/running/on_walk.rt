@@ -38,7 +38,7 @@ pub(super) fn make<K: Cost>(
     }
 }
 
-// One step of a walk. The copy that the answer needs is made first.
+/// One step of a walk. The copy that the answer needs is made first.
 fn next<K: Cost>(
     heap: Global,
     walk: &Walk,

@@ -148,8 +148,8 @@ impl OpenSheet {
         }
     }
 
-    // Refuses tables of the wrong length and blocks that do not exist, and else gives the pair's
-    // place.
+    /// Refuses tables of the wrong length and blocks that do not exist, and else gives the pair's
+    /// place.
     fn locate(&self, costs: usize, standing: usize, left: u16, right: u16) -> Result<usize, Fault>
         ensures answers { let n = size_of self.now in
             Responds (place_needs n costs standing left right nothing) result
@@ -165,7 +165,7 @@ impl OpenSheet {
         Ok(place(self.n, left, right))
     }
 
-    // The place of a standing pair.
+    /// The place of a standing pair.
     fn find<K: Cost>(
         &self,
         costs: &[K],

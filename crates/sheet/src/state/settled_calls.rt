@@ -31,7 +31,7 @@ impl SettledSheet {
         self.open.size()
     }
 
-    // The tables that a call was handed, as one value.
+    /// The tables that a call was handed, as one value.
     pub(super) fn lend<'a, K>(
         &self,
         costs: &'a [K],
@@ -171,7 +171,7 @@ impl SettledSheet {
         open
     }
 
-    // The refusal to start a walk.
+    /// The refusal to start a walk.
     fn unstarted(self, fault: Fault) -> Refusal<SettledSheet>
         ensures same { result.state ≡ self }
         ensures fault { result.fault ≡ fault }
@@ -185,7 +185,7 @@ impl SettledSheet {
     }
 }
 
-// Tests the tables of a settled sheet: their lengths, and whether they hold together.
+/// Tests the tables of a settled sheet: their lengths, and whether they hold together.
 fn check<K: Cost>(tables: &Tables<'_, K>) -> Result<(), Fault>
     ensures { Responds (total_needs K.Cost tables.now) result (λ _. ⊤) ⊤ }
 {
