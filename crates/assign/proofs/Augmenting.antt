@@ -1,117 +1,121 @@
 -- What a search, the lowered prices and the exchange along the shortest augmenting path make of the
 -- pairing so far.
 -- Idea: proofs/Adding.antt tells it of lists and functions; here the same is said once of the
--- tables that `pair_row` is lent, so that each of its calls gets what it asks for.
-use Rattle.std.proofs.Common.{◌≡◌, ℕ, ◌<◌, true, false, ◌||◌, eqb, List, length, ◌+ℤ◌, sym, ap}
-use Rattle.std.proofs.Common.{subst, arith, Option, Some, None}
+-- tables that `pair_row` is lent, so that each of its calls gets what it asks for. The taken right
+-- blocks that are had get a price; the only other one is the goal, which keeps the price it has.
+use Rattle.std.proofs.Common.{◌≡◌, ℕ, ◌+◌, ◌<◌, Bool, true, false, ◌&&◌, ◌||◌, eqb, List, length}
+use Rattle.std.proofs.Common.{◌+ℤ◌, sym, ap, arith, Some, None, ◌∙◌}
+use Rattle.std.proofs.lemmas.Bool.{cases_Bool}
 use Rattle.cost.specs.declared.Cost.{Ghosts}
 use Rattle.cost.specs.declared.TheConstants.{COST_LIMIT}
 use Rattle.cost.specs.Columns.{AreWithin}
+use Rattle.cost.proofs.Exact.{within_more}
 use Rattle.cost.specs.Weights.{weight}
 use Rattle.blockset.specs.declared.BlockSet.{BlockSet}
 use Rattle.blockset.specs.Has.{has}
 use Rattle.pairing.specs.Grid.{at, IsPerfect}
 use Rattle.pairing.specs.Rows.{holds}
 use Rattle.matching.specs.declared.chains.Holders.{Holders}
-use Rattle.matching.specs.Exchange.{without, GivesDistinct, AreHolders, HasWaysBack, IsExchanged}
+use Rattle.matching.specs.Exchange.{without, AreHolders, HasWaysBack, IsExchanged}
 use Rattle.tables.specs.Said.{columns_at, AreValuesWithin}
+use Rattle.assign.specs.declared.limits.TheConstants.{DISTANCE_LIMIT, LEFT_PRICE_LIMIT}
 use Rattle.assign.specs.declared.limits.TheConstants.{INNER_PRICE_LIMIT}
+use Rattle.assign.specs.declared.tree.Nearby.{Nearby}
 use Rattle.assign.specs.declared.tree.Tree.{Tree}
-use Rattle.assign.specs.Weighed.{weight_at, cost_weight}
-use Rattle.assign.specs.Search.{Ends, from_row}
-use Rattle.assign.specs.Trees.{stage_in, GrowsFrom}
+use Rattle.assign.specs.Weighed.{weight_at, graph}
+use Rattle.assign.specs.Offers.{distances}
+use Rattle.assign.specs.Search.{Pairing, pairing, from_row, Course, course}
+use Rattle.assign.specs.Trees.{stage_in, block_of, IsFreeSeen, IsNearestFree, HasCome, HasEnded}
 use Rattle.assign.specs.Pairs.{SoFar, so_far, IsPriced}
-use Rattle.assign.proofs.Adding.{distinct_of, ways_of, root_is, goal_free, untaken, added, never}
+use Rattle.assign.proofs.Adding.{HasSearched, only_goal, ways_of, added, never}
 use Rattle.assign.proofs.Seating.{not_inserted}
-use Rattle.assign.proofs.Turns.{taken_is}
+use Rattle.assign.proofs.Stages.{stage_taken, taken_is}
+
+-- The prices of those taken right blocks that are had have fallen by how far the goal is.
+pub record HaveFallen {K : Type 0} (kind : Ghosts K) (n : ℕ) (now : SoFar K) (dist : List K)
+    (tree : Tree K) (goal : Nearby K) (fallen : ℕ → Bool) (right' : List K) : Type 0 where
+  pub had : (c : ℕ) → fallen c ≡ (has tree.taken.reached c && has now.holders.held c)
+  pub lowered : (c : ℕ) → fallen c ≡ true
+      → weight_at kind right' c +ℤ weight (kind.meaning goal.key)
+      ≡ weight (distances kind now.holders dist c)
+  pub same : (c : ℕ) → fallen c ≡ false → columns_at kind right' c ≡ columns_at kind now.right c
+  pub near : AreValuesWithin kind INNER_PRICE_LIMIT n right'
 
 -- the search from left block k, which is left out, has come to its end
-pub record HasGrown {K : Type 0} (kind : Ghosts K) (rows : List BlockSet) (costs : List K)
-    (now : SoFar K) (k : ℕ) (dist : List K) (tree : Tree) : Type 0 where
-  pub paired : IsPriced kind rows costs now
-  pub room : k < length rows
-  pub unpaired : now.out k ≡ true
-  pub grown : GrowsFrom kind rows costs now.holders now.right k dist tree
-  pub inside : (c : ℕ) → has tree.taken.reached c ≡ true → c < length rows
-
 module _ {K : Type 0} {kind : Ghosts K} {rows : List BlockSet} {costs : List K} {now : SoFar K}
-    {k : ℕ} {dist : List K} {tree : Tree} (s : HasGrown kind rows costs now k dist tree) where
-  abbrev Leads : Option ℕ → Type 0
-  Leads = Ends (length rows) (holds rows) (cost_weight kind (length rows) costs) now.out
-      (from_row (holds rows) (cost_weight kind (length rows) costs) k) now.partners now.holders
-      (weight_at kind now.right) (weight_at kind dist) (stage_in tree) (at tree.taken.from)
+    (paired : IsPriced kind rows costs now) {k : ℕ} (room : k < length rows)
+    (unpaired : now.out k ≡ true) {dist : List K} {tree : Tree K}
+    (come : HasCome kind rows costs now.holders now.right (from_row (graph kind rows costs) k) tree
+    dist) (ended : HasEnded kind (length rows) now.holders now.right dist tree) where
+  abbrev pairs : Pairing
+  pairs = pairing now.out now.partners now.holders (weight_at kind now.right)
 
-  leads : Leads tree.taken.goal
-  leads = s.grown now.out now.partners s.paired.kept
+  abbrev walk : Course
+  walk = course come.0 come.1 (stage_in tree)
+
+  searched : HasSearched (graph kind rows costs) pairs k walk tree.taken (block_of tree.free)
+  searched = record {
+    kept = paired.kept;
+    room = room;
+    unpaired = unpaired;
+    inside = ended.inside;
+    ranked = stage_taken (has tree.taken.reached) (has tree.seen) tree.taken.rank;
+    taken = taken_is (has tree.taken.reached) (has tree.seen) tree.taken.rank;
+    end = rw ended.goal at (come.3 now.out now.partners paired.kept);
+  }
 
   -- it does not end without a goal
-  pub no_end : tree.taken.goal ≡ None → (q : List ℕ) → IsPerfect (length rows) (holds rows) q → ⊥
-  no_end is q perfect =
-      let stuck = subst Leads is leads in
-      never (length rows) k (holds rows) (cost_weight kind (length rows) costs) now.out
-      now.partners now.holders (weight_at kind now.right) s.paired.kept s.room s.unpaired
-      (weight_at kind dist) tree.taken (has tree.seen) stuck.1.0 stuck.1.1 stuck.0 q perfect
+  pub no_end : tree.free ≡ None → (p : List ℕ) → IsPerfect (length rows) (holds rows) p → ⊥
+  no_end is p perfect = never (rw is at searched) p perfect
 
-  module _ (f : ℕ) (is : tree.taken.goal ≡ Some f) where
-    end : Leads (Some f)
-    end = subst Leads is leads
+  module _ {goal : Nearby K} (is : tree.free ≡ Some goal) where
+    found : HasSearched (graph kind rows costs) pairs k walk tree.taken (Some goal.block)
+    found = rw is at searched
 
-    pub goal_taken : has tree.taken.reached f ≡ true
-    goal_taken = taken_is (has tree.taken.reached) (has tree.seen) tree.taken.rank f end.1
+    nearest : IsNearestFree kind now.holders now.right (has tree.seen) tree.taken.from come.0 come.1
+        goal
+    nearest = rw is at come.2.nearest
 
-    pub goal_unsold : AreWithin COST_LIMIT (columns_at kind now.right f)
-    goal_unsold = s.paired.unsold f end.0 end.2
+    free : IsFreeSeen kind now.holders now.right (has tree.seen) goal
+    free = rw is at ended.free
 
-    pub distinct : GivesDistinct (length now.partners) now.partners now.out
-    distinct = subst (λ z. GivesDistinct z now.partners now.out) (sym s.paired.kept.pairs.len)
-        (distinct_of (length rows) (holds rows) (cost_weight kind (length rows) costs) now.out
-        now.partners now.holders (weight_at kind now.right) s.paired.kept)
+    -- the goal was never sold, so its price is a cost
+    pub goal_near : AreWithin LEFT_PRICE_LIMIT (kind.meaning goal.key)
+    goal_near = within_more (DISTANCE_LIMIT + COST_LIMIT) LEFT_PRICE_LIMIT (kind.meaning goal.key)
+        (omega arith)
+        (free.reach COST_LIMIT (paired.unsold goal.block found.end.0 free.free) (omega arith))
+
+    -- the left blocks that the taken right blocks were reached from
+    from : (c : ℕ) → has tree.taken.reached c ≡ true → walk.via c ≡ at tree.taken.from c
+    from c t = grind (
+      arith,
+      cases_Bool (has now.holders.held c),
+      come.2.via c,
+      ended.among c,
+      only_goal found c,
+      nearest.via,
+    )
 
     pub ways : HasWaysBack now.partners now.out tree.taken
-    ways = ways_of (length rows) k (holds rows) (cost_weight kind (length rows) costs) now.out
-        now.partners now.holders (weight_at kind now.right) s.paired.kept s.room s.unpaired
-        (weight_at kind dist) tree.taken (has tree.seen) end.3.0 f end.3.1 s.inside
+    ways = ways_of found from
 
-    pub goal_unpaired : (l : ℕ) → l < length now.partners → now.out l ≡ false
-        → at now.partners l ≡ f → ⊥
-    goal_unpaired l h = goal_free (length rows) k (holds rows)
-        (cost_weight kind (length rows) costs) now.out now.partners now.holders
-        (weight_at kind now.right) s.paired.kept s.room s.unpaired (weight_at kind dist)
-        tree.taken (has tree.seen) end.3.0 f end.3.1 s.inside end.2 l
-        (omega (arith, s.paired.kept.pairs.len))
-
-    -- the prices of the taken right blocks are lowered, and the pairs along the way exchanged
-    pub augmented : (right' : List K)
-        → ((c : ℕ) → has tree.taken.reached c ≡ true
-        → weight_at kind right' c +ℤ weight_at kind dist f
-        ≡ weight_at kind dist c +ℤ weight_at kind now.right f)
-        → ((c : ℕ) → has tree.taken.reached c ≡ false
-        → columns_at kind right' c ≡ columns_at kind now.right c)
-        → AreValuesWithin kind INNER_PRICE_LIMIT (length rows) right' → {p' : List ℕ} {r : ℕ}
-        → IsExchanged now.partners p' now.out tree.taken r → (o' : Holders)
+    pub augmented : {fallen : ℕ → Bool} {right' : List K}
+        → HaveFallen kind (length rows) now dist tree goal fallen right' → {p' : List ℕ} {r : ℕ}
+        → IsExchanged now.partners p' now.out tree.taken r → {o' : Holders}
         → (AreHolders 0 now.partners now.out now.holders → AreHolders 0 p' (without now.out r) o')
-        → ((c : ℕ) → has o'.held c ≡ (eqb c f || has now.holders.held c))
+        → ((c : ℕ) → has o'.held c ≡ (eqb c goal.block || has now.holders.held c))
         → IsPriced kind rows costs (so_far (without now.out k) p' o' right')
-    augmented right' fallen same bounded {p' = p'} {r = r} exchanged o' told held =
-        let cost = cost_weight kind (length rows) costs in
-        let v = weight_at kind now.right in
-        let d = weight_at kind dist in
-        let root = root_is (length rows) k (holds rows) cost now.out now.partners now.holders v
-        s.paired.kept s.room s.unpaired d tree.taken (has tree.seen) end.3.0 f end.3.1 s.inside r
-        p' exchanged in
-        record {
-          kept = added (length rows) k (holds rows) cost now.out now.partners now.holders v
-              s.paired.kept s.room s.unpaired d tree.taken (has tree.seen) end.3.0 f end.3.1
-              s.inside end.0 end.1 end.2 (weight_at kind right') fallen
-              (λ c t. ap weight (same c t)) p' o'
-              (subst (IsExchanged now.partners p' now.out tree.taken) root exchanged)
-              (subst (λ z. AreHolders 0 p' (without now.out z) o') root (told
-              s.paired.kept.holding));
-          priced = bounded;
-          unsold = λ c h q.
-              let free = not_inserted (has now.holders.held) (has o'.held) f held c q in
-              subst (AreWithin COST_LIMIT)
-              (sym (same c (untaken (length rows) k (holds rows) cost now.out now.partners
-              now.holders v s.paired.kept s.room s.unpaired d tree.taken (has tree.seen) end.3.0
-              f end.3.1 s.inside c h free.0 free.1))) (s.paired.unsold c h free.0);
-        }
+    augmented {right' = right'} prices {p' = p'} exchanged {o' = o'} told held = record {
+      kept = added found from {next = pairing now.out p' o' (weight_at kind right')} (record {
+        goal_far = nearest.dist;
+        fallen = λ c t h. prices.lowered c (grind (arith, prices.had c))
+            ∙ sym (come.2.dist c (ended.among c t) h);
+        same = λ c f. ap weight (prices.same c (prices.had c ∙ f));
+        exchanged = exchanged;
+        told = told paired.kept.holding;
+      });
+      priced = prices.near;
+      unsold = λ c h f.
+          let free = not_inserted (has now.holders.held) (has o'.held) goal.block held c f in
+          rw (prices.same c (grind (arith, prices.had c))) (paired.unsold c h free.0);
+    }

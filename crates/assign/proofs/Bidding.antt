@@ -20,8 +20,8 @@ use Rattle.assign.specs.Offers.{Nearest, NearestWithKey}
 use Rattle.assign.specs.Bids.{IsBestBid}
 
 -- a key is so near that two of them compare as they weigh
-pub key_near : {K : Type 0} {kind : Ghosts K} {set : ℕ → Bool} {right dist : List K} {at : Nearby K}
-    → NearestWithKey kind set right dist at → AreWithin HALF_RAIL (kind.meaning at.key)
+pub key_near : {K : Type 0} {kind : Ghosts K} {set : ℕ → Bool} {right : List K} {d : ℕ → List ℤ}
+    {at : Nearby K} → NearestWithKey kind set right d at → AreWithin HALF_RAIL (kind.meaning at.key)
 key_near {kind = kind} {at = at} near =
     within_more KEY_LIMIT HALF_RAIL (kind.meaning at.key) (omega arith) near.bound
 

@@ -2,20 +2,20 @@
 -- Idea: a left block's own right block is at its price exactly, and every other right block that it
 -- stands with is at most at its cost. No right block comes twice, since it is cheapest with one
 -- left block only.
-use Rattle.std.proofs.Common.{◌≡◌, ℕ, Bool, List, length, ℤ, arith}
+use Rattle.std.proofs.Common.{◌≡◌, List, ℕ, length, ℤ, arith}
 use Rattle.std.proofs.lemmas.Int.{ints}
-use Rattle.pairing.specs.Grid.{at}
 use Rattle.blockset.specs.Has.{has}
+use Rattle.pairing.specs.Grid.{at}
 use Rattle.assign.specs.declared.tree.Cheapest.{Cheapest}
 use Rattle.assign.specs.declared.tree.FirstPairs.{FirstPairs}
-use Rattle.assign.specs.Search.{Kept}
+use Rattle.assign.specs.Search.{Graph, pairing, Kept}
 use Rattle.assign.specs.Pairs.{AreCheapest, AreChosen}
 
-pub cheaply_kept : {n : ℕ} {stands : ℕ → ℕ → Bool} {cost : ℕ → ℕ → ℤ} {of : Cheapest}
-    {v : ℕ → ℤ} → AreCheapest n n stands cost of v → {p : List ℕ} {made : FirstPairs}
-    → length p ≡ n → AreChosen n of p made
-    → Kept n stands cost (has made.out) p made.holders v
-cheaply_kept {stands = stands} {cost = cost} {of = of} cheapest {p = p} sized chosen = record {
+pub cheaply_kept : {g : Graph} {of : Cheapest} {v : ℕ → ℤ}
+    → AreCheapest g.size g.size g.stands g.cost of v → {p : List ℕ} {made : FirstPairs}
+    → length p ≡ g.size → AreChosen g.size of p made
+    → Kept g (pairing (has made.out) p made.holders v)
+cheaply_kept {g = g} {of = of} cheapest {p = p} sized chosen = record {
   pairs = record {
     len = sized;
     below = λ l h u. grind (arith, chosen.cheap l, cheapest.inside);

@@ -9,17 +9,13 @@ use Rattle.cost.specs.Weights.{weight}
 use Rattle.tables.specs.Said.{columns_at}
 use Rattle.assign.proofs.Entries.{put_same}
 
--- a difference weighs what the columns p' and q' weigh that its two values were read from
-pub difference_weighs : (x : ℤ) (p p' q q' : List ℤ) → x ≡ weight p -ℤ weight q → p ≡ p' → q ≡ q'
-    → x ≡ weight p' -ℤ weight q'
-difference_weighs x p p' q q' e f g = e ∙ ap₂ (λ (y z : List ℤ). weight y -ℤ weight z) f g
-
 module _ {K : Type 0} (kind : Ghosts K) (xs : List K) (i : ℕ) (y : K)
     (inside : i < length xs) where
+  -- p' and q' are the columns that the two values were read from
   pub put_weighs : (p p' q q' : List ℤ) → weight (kind.meaning y) ≡ weight p -ℤ weight q → p ≡ p'
       → q ≡ q' → weight (columns_at kind (set xs i y) i) ≡ weight p' -ℤ weight q'
   put_weighs p p' q q' e f g = ap weight (put_same kind xs i y inside)
-      ∙ difference_weighs (weight (kind.meaning y)) p p' q q' e f g
+      ∙ e ∙ ap₂ (λ (y z : List ℤ). weight y -ℤ weight z) f g
 
   pub put_within : (limit : ℕ) → AreWithin limit (kind.meaning y)
       → AreWithin limit (columns_at kind (set xs i y) i)

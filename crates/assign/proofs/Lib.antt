@@ -1,6 +1,9 @@
 pub mod Entries
 pub mod Differences
-pub mod Growing
+pub mod Own
+pub mod Stages
+pub mod Dijkstra
+pub mod Picking
 pub mod Adding
 pub mod Augmenting
 pub mod Ending
@@ -14,7 +17,7 @@ pub mod Going
 pub mod Turns
 pub mod Choosing
 pub mod Lowering
-pub mod RowPrices
+pub mod PairPrices
 pub mod Starting
 pub mod Cheaply
 pub mod Solving
@@ -24,3 +27,4 @@ pub mod Firsts
 pub mod Looking
 pub mod Nearer
 pub mod Parts
+pub mod Owners

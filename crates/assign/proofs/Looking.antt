@@ -12,7 +12,6 @@ use Rattle.cost.specs.declared.Cost.{Ghosts}
 use Rattle.cost.specs.Columns.{AreWithin}
 use Rattle.cost.specs.Weights.{weight}
 use Rattle.assign.specs.declared.limits.TheConstants.{SHIFT_LIMIT}
-use Rattle.tables.specs.Said.{columns_at}
 use Rattle.tables.proofs.Filling.{value_at}
 use Rattle.assign.specs.Weighed.{weight_at}
 use Rattle.assign.specs.Offers.{Offered, KeyReach}
@@ -110,17 +109,16 @@ module _ (shift : List ℤ) (cost : ℕ → List ℤ) (from : ℕ) (set to : ℕ
       }
 
 -- how far a right block is beyond its price, from its distance x and its price y, which was read
-module _ {K : Type 0} (kind : Ghosts K) (dist right : List K) (i : ℕ) (x y z : K)
-    (inside : i < length right) (x-is : kind.meaning x ≡ columns_at kind dist i)
-    (y-is : y ≡ get_or right i y) where
+module _ {K : Type 0} (kind : Ghosts K) (d : ℕ → List ℤ) (right : List K) (i : ℕ) (x y z : K)
+    (inside : i < length right) (x-is : kind.meaning x ≡ d i) (y-is : y ≡ get_or right i y) where
   pub key_weighs : weight (kind.meaning z) ≡ weight (kind.meaning x) -ℤ weight (kind.meaning y)
-      → weight (kind.meaning z) ≡ weight_at kind dist i -ℤ weight_at kind right i
+      → weight (kind.meaning z) ≡ weight (d i) -ℤ weight_at kind right i
   key_weighs e =
       let a = ap weight x-is in
       let b = ap weight (value_at kind right i y inside y-is) in
       omega (arith, ints)
 
   pub key_reaches : ((a b : ℕ) → AreWithin a (kind.meaning x) → AreWithin b (kind.meaning y)
-      → a + b ≤ RAIL → AreWithin (a + b) (kind.meaning z)) → KeyReach kind right dist i z
+      → a + b ≤ RAIL → AreWithin (a + b) (kind.meaning z)) → KeyReach kind right d i z
   key_reaches bound a b far priced le = bound a b (subst (AreWithin a) (sym x-is) far)
       (read_within kind b b right i y inside y-is (omega arith) priced) le

@@ -1,49 +1,26 @@
 -- The nearest right block of a set, from the nearest of its free and of its held ones.
 -- Idea: each right block of the set is free or held, and so at least as far as the nearest of its
 -- part. The free one is taken unless the held one is nearer.
-use Rattle.std.proofs.Common.{◌≡◌, ℕ, Bool, true, false, not, ◌&&◌, ℤ, ◌+ℤ◌, ◌-ℤ◌, ◌≤ℤ◌, ◌<ℤ◌}
-use Rattle.std.proofs.Common.{List, length, sym, ◌∙◌, subst, ap, ⊎_elim, arith, Option, Some, None}
+use Rattle.std.proofs.Common.{◌≡◌, ℕ, Bool, true, false, not, ◌&&◌, ℤ, ◌+ℤ◌, ◌≤ℤ◌, ◌<ℤ◌}
+use Rattle.std.proofs.Common.{List, sym, ◌∙◌, subst, ⊎_elim, arith, Option, Some, None}
 use Rattle.std.proofs.Common.{MatchOption, inl, inr}
 use Rattle.std.proofs.lemmas.Int.{ints}
 use Rattle.std.proofs.lemmas.Bool.{and_parts, and_from, cases_Bool, both_ways, not-true}
 use Rattle.std.proofs.lemmas.Bool.{not_from_false}
 use Rattle.cost.specs.declared.Cost.{Ghosts}
-use Rattle.cost.specs.Columns.{AreWithin}
 use Rattle.cost.specs.Weights.{weight}
 use Rattle.assign.specs.declared.tree.Nearby.{Nearby}
 use Rattle.assign.specs.Weighed.{weight_at}
 use Rattle.assign.specs.Offers.{NearestWithKey, FreeFirst, Nearer}
-use Rattle.tables.specs.Said.{columns_at}
-
--- a right block that was found stays the nearest where nothing of its set has changed
-pub near_still : {K : Type 0} (kind : Ghosts K) (set : ℕ → Bool) (right d d' : List K)
-    (near : Nearby K) → length d' ≡ length d
-    → ((c : ℕ) → set c ≡ true → columns_at kind d' c ≡ columns_at kind d c)
-    → NearestWithKey kind set right d near → NearestWithKey kind set right d' near
-near_still kind set right d d' near long same h =
-    let here : weight_at kind d' near.block ≡ weight_at kind d near.block =
-    ap weight (same near.block h.nearest.member) in
-    record {
-      inside = omega (arith, h.inside);
-      nearest = record {
-        member = h.nearest.member;
-        least = λ c s. let there : weight_at kind d' c ≡ weight_at kind d c =
-            ap weight (same c s) in omega (arith, ints, h.nearest.least c s);
-      };
-      key = h.key ∙ ap (λ z. z -ℤ weight_at kind right near.block) (sym here);
-      bound = h.bound;
-      reach = λ x y far priced le. h.reach x y
-          (subst (λ z. AreWithin x z) (same near.block h.nearest.member) far) priced le;
-    }
 
 module _ {K : Type 0} (kind : Ghosts K) (set held free other : ℕ → Bool)
     (free_is : (j : ℕ) → free j ≡ (set j && not (held j)))
-    (other_is : (j : ℕ) → other j ≡ (set j && held j)) (right d : List K) where
+    (other_is : (j : ℕ) → other j ≡ (set j && held j)) (right : List K) (d : ℕ → List ℤ) where
   abbrev v : ℕ → ℤ
   v = weight_at kind right
 
   abbrev w : ℕ → ℤ
-  w = weight_at kind d
+  w = λ c. weight (d c)
 
   in_free : (c : ℕ) → set c ≡ true → held c ≡ false → free c ≡ true
   in_free c s f = free_is c ∙ and_from (set c) (not (held c)) s (not_from_false (held c) f)
@@ -60,7 +37,7 @@ module _ {K : Type 0} (kind : Ghosts K) (set held free other : ℕ → Bool)
 
   abbrev pub Found : Nearby K → Type 0
   Found near = NearestWithKey kind set right d near
-      × FreeFirst set held (weight_at kind right) (weight_at kind d) near.block
+      × FreeFirst set held (weight_at kind right) (λ c. weight (d c)) near.block
 
   -- the nearest free one is the nearest of all if no held one is nearer
   free_found : (a : Nearby K) → NearestWithKey kind free right d a

@@ -26,18 +26,18 @@ use Rattle.assign.specs.Pairs.{AreCheapest}
 module _ {K : Type 0} (kind : Ghosts K) (nought : K) (columns : ℕ)
     (nothing : kind.meaning nought ≡ zeros columns) (k : ℕ) (table : List K)
     (cleared : table ≡ replicate k nought) where
-  zero-at : (c : ℕ) → c < k → columns_at kind table c ≡ zeros columns
-  zero-at c h =
+  pub zero_at : (c : ℕ) → c < k → columns_at kind table c ≡ zeros columns
+  zero_at c h =
       ap (λ t. columns_at kind t c) cleared
       ∙ get_or-map kind.meaning (replicate k nought) c nought []
       (subst (λ (z : ℕ). c < z) (sym (length-replicate k nought)) h)
       ∙ ap kind.meaning (get_or-replicate k c nought nought h) ∙ nothing
 
   pub cleared_within : (b c : ℕ) → c < k → AreWithin b (columns_at kind table c)
-  cleared_within b c h = subst (AreWithin b) (sym (zero-at c h)) (zeros_within b columns)
+  cleared_within b c h = subst (AreWithin b) (sym (zero_at c h)) (zeros_within b columns)
 
   pub cleared_weighs : (c : ℕ) → c < k → weight_at kind table c ≡ pos 0
-  cleared_weighs c h = ap weight (zero-at c h) ∙ weight_zeros columns
+  cleared_weighs c h = ap weight (zero_at c h) ∙ weight_zeros columns
 
 module _ (n : ℕ) (stands : ℕ → ℕ → Bool) (cost : ℕ → ℕ → ℤ) where
   -- no left block has made an offer, and no right block has a price

@@ -17,7 +17,7 @@ use Rattle.pairing.specs.Grid.{at}
 use Rattle.pairing.specs.Rows.{holds}
 use Rattle.matching.specs.declared.chains.Holders.{Holders}
 use Rattle.matching.specs.Exchange.{AreHolders}
-use Rattle.assign.specs.Search.{Kept}
+use Rattle.assign.specs.Search.{Graph, Pairing, pairing, Kept}
 use Rattle.matching.proofs.Inserting.{old_in}
 use Rattle.tables.specs.Said.{AreValuesWithin}
 use Rattle.assign.specs.declared.limits.TheConstants.{INNER_PRICE_LIMIT, REDUCED_LIMIT}
@@ -30,24 +30,25 @@ use Rattle.assign.proofs.Bidding.{bid_like}
 use Rattle.assign.proofs.Seating.{not_inserted}
 
 -- a pairing with prices, and a bid that left block l has taken under them
-module _ {n : ℕ} {stands : ℕ → ℕ → Bool} {cost : ℕ → ℕ → ℤ} {out : ℕ → Bool} {p : List ℕ}
-    {o : Holders} {v : ℕ → ℤ} (kept : Kept n stands cost out p o v) (l j : ℕ) (below : j < n)
-    (w : ℤ) (bid : IsBestBid (stands l) (has o.held) v (cost l) j w) {out' : ℕ → Bool}
-    {p' : List ℕ} (seated : IsSeated n out p l j out' p') (o' : Holders)
-    (told : AreHolders 0 p' out' o') (v' : ℕ → ℤ) (new : v' j ≡ w)
-    (same : (c : ℕ) → (c ≡ j → ⊥) → v' c ≡ v c) where
+module _ {g : Graph} {q : Pairing} (kept : Kept g q) (l j : ℕ) (below : j < g.size) (w : ℤ)
+    (bid : IsBestBid (g.stands l) (has q.holders.held) q.price (g.cost l) j w) {next : Pairing}
+    (seated : IsSeated g.size q.out q.partners l j next.out next.partners)
+    (told : AreHolders 0 next.partners next.out next.holders) (new : next.price j ≡ w)
+    (same : (c : ℕ) → (c ≡ j → ⊥) → next.price c ≡ q.price c) where
   -- no price rises
-  pub falls : (c : ℕ) → v' c ≤ℤ v c
+  pub falls : (c : ℕ) → next.price c ≤ℤ q.price c
   falls c = grind (arith, ints)
 
-  fair_new : (c : ℕ) → stands l c ≡ true → (v' c +ℤ cost l j) ≤ℤ (v' j +ℤ cost l c)
+  fair_new : (c : ℕ) → g.stands l c ≡ true
+      → (next.price c +ℤ g.cost l j) ≤ℤ (next.price j +ℤ g.cost l c)
   fair_new c st = grind (arith, ints, bid.best c, cases_eq c j)
 
-  fair : (m c : ℕ) → m < n → out' m ≡ false → c < n → stands m c ≡ true
-      → (v' c +ℤ cost m (at p' m)) ≤ℤ (v' (at p' m) +ℤ cost m c)
+  fair : (m c : ℕ) → m < g.size → next.out m ≡ false → c < g.size → g.stands m c ≡ true
+      → (next.price c +ℤ g.cost m (at next.partners m))
+      ≤ℤ (next.price (at next.partners m) +ℤ g.cost m c)
   fair m c h u hc st = grind (arith, ints, fair_new c, falls c, kept.fair m c, cases_eq m l)
 
-  pub reduced_kept : Kept n stands cost out' p' o' v'
+  pub reduced_kept : Kept g next
   reduced_kept = record {
     pairs = record {
       len = seated.len;
@@ -105,6 +106,7 @@ step_of {kind = kind} {rows = rows} {costs = costs} lent {before = before} paire
     let here = put_same kind before.right j taken.price lies in
     let others = λ (c : ℕ) (ne : c ≡ j → ⊥). put_other kind before.right j c taken.price ne in
     let w = weight (kind.meaning taken.price) in
+    let next = pairing out' p' o' (weight_at kind right') in
     record {
       reduced = record {
         block = j;
@@ -114,11 +116,11 @@ step_of {kind = kind} {rows = rows} {costs = costs} lent {before = before} paire
       };
       goes_on = record {
         held = old_in (has before.holders.held) (has o'.held) j held;
-        falls = falls paired.kept l j inside w bid seated o' told (weight_at kind right')
-            (ap weight here) (λ c ne. ap weight (others c ne));
+        falls = falls paired.kept l j inside w bid {next = next} seated told (ap weight here)
+            (λ c ne. ap weight (others c ne));
       };
       paired = record {
-        kept = reduced_kept paired.kept l j inside w bid seated o' told (weight_at kind right')
+        kept = reduced_kept paired.kept l j inside w bid {next = next} seated told
             (ap weight here) (λ c ne. ap weight (others c ne));
         priced = put_bound kind INNER_PRICE_LIMIT INNER_PRICE_LIMIT (length rows) before.right j
             taken.price lies (omega arith)

@@ -8,19 +8,18 @@ use Rattle.cost.specs.declared.Cost.{Ghosts}
 use Rattle.blockset.specs.declared.BlockSet.{BlockSet}
 use Rattle.pairing.specs.Places.{place_of}
 use Rattle.pairing.specs.Largest.{HasNoPerfect}
-use Rattle.pairing.proofs.Duality.{proves_optimum}
 use Rattle.pairing.specs.Rows.{holds}
-use Rattle.pairing.proofs.Alike.{perfect_like}
 use Rattle.tables.specs.PairTables.{byte_of, says_stands}
 use Rattle.tables.specs.Said.{columns_at}
 use Rattle.tables.specs.PairRows.{AreStandingRows}
 use Rattle.tables.specs.Lent.{Lent, grid, IsUsable}
 use Rattle.tables.proofs.Alike.{rows_alike, unpaired_rows}
 use Rattle.tables.proofs.Orderly.{near_value, sane_in_order}
-use Rattle.assign.specs.Weighed.{weight_at, cost_weight, SearchTables}
+use Rattle.assign.specs.Weighed.{SearchTables}
 use Rattle.assign.specs.Prices.{IsSolution}
 use Rattle.assign.specs.Answer.{HasOptimum}
-use Rattle.assign.proofs.Ending.{perfect_of, greatest}
+use Rattle.assign.specs.Search.{pairing}
+use Rattle.assign.proofs.Ending.{HasPriced, optimum, greatest}
 
 -- tables whose partners and prices are written to
 abbrev pub written : {K : Type 0} → Lent K → (p : List ℕ) (l r : List K) → Lent K
@@ -81,22 +80,25 @@ module _ {K : Type 0} {kind : Ghosts K} (t : Lent K) (rows : List BlockSet)
         let g = grid kind (record t { size = n }) in
         let sane = sane_in_order kind wide n t.costs t.standing u.few u.lengths.room.costs_long
         u.in_order in
-        let alike = rows_alike n g.stands rows given.made in
-        let perfect = perfect_of n (holds rows) (cost_weight kind n t.costs) t.partners s.holders
-        s.price (λ _. false) s.kept (λ l h. refl) in
-        let top = greatest g sane (holds rows) alike t.partners s.holders s.price (λ _. false)
-        s.kept (λ l h. refl) perfect (weight_at kind t.right) s.topmost.stage s.topmost.via
-        s.topmost.turns s.topmost.grown s.topmost.done (columns_at kind t.left)
-        (columns_at kind t.right) (near_value kind wide n t.left u.lengths.room.left_long
-        s.left_near)
-        (near_value kind wide n t.right u.lengths.room.right_long
-        s.right_near) (λ r h. refl)
-        s.topmost.tight in
+        let top = s.topmost in
+        let prices : HasPriced g (holds rows)
+        (pairing (λ _. false) t.partners s.holders s.price) top.search (columns_at kind t.left)
+        (columns_at kind t.right) = record {
+          alike = rows_alike n g.stands rows given.made;
+          kept = s.kept;
+          all = λ l h. refl;
+          turns = top.turns;
+          grown = top.grown;
+          done = top.done;
+          lefts = near_value kind wide n t.left u.lengths.room.left_long s.left_near;
+          rights = near_value kind wide n t.right u.lengths.room.right_long s.right_near;
+          priced = top.priced;
+          tight = top.tight;
+        } in
         record {
-          optimum = proves_optimum g (columns_at kind t.left) (columns_at kind t.right) t.partners
-              sane (perfect_like n (holds rows) g.stands alike t.partners perfect) top.valid;
+          optimum = optimum sane prices;
           prices = record {
-            greatest = top;
+            greatest = greatest sane prices;
             left_near = s.left_near;
             right_near = s.right_near;
           };

@@ -7,11 +7,10 @@ use Rattle.cost.specs.Columns.{AreWithin}
 use Rattle.blockset.specs.declared.BlockSet.{BlockSet}
 use Rattle.blockset.specs.Has.{has}
 use Rattle.pairing.specs.Grid.{at}
-use Rattle.pairing.specs.Rows.{holds}
 use Rattle.tables.specs.Said.{columns_at, AreValuesWithin}
-use Rattle.assign.specs.Weighed.{weight_at, cost_weight}
+use Rattle.assign.specs.Weighed.{weight_at, graph}
 use Rattle.matching.specs.Exchange.{AreHolders}
-use Rattle.assign.specs.Search.{Kept}
+use Rattle.assign.specs.Search.{pairing, Kept}
 use Rattle.assign.specs.declared.tree.Cheapest.{Cheapest}
 use Rattle.assign.specs.declared.tree.FirstPairs.{FirstPairs}
 use Rattle.assign.specs.declared.limits.TheConstants.{INNER_PRICE_LIMIT}
@@ -33,8 +32,8 @@ so_far out partners holders right =
 -- right block that was never taken is still a cost, and no price is far.
 pub record IsPriced {K : Type 0} (kind : Ghosts K) (rows : List BlockSet) (costs : List K)
     (now : SoFar K) : Type 0 where
-  pub kept : Kept (length rows) (holds rows) (cost_weight kind (length rows) costs) now.out
-      now.partners now.holders (weight_at kind now.right)
+  pub kept : Kept (graph kind rows costs)
+      (pairing now.out now.partners now.holders (weight_at kind now.right))
   pub priced : AreValuesWithin kind INNER_PRICE_LIMIT (length rows) now.right
   pub unsold : (c : ℕ) → c < length rows → has now.holders.held c ≡ false
       → AreWithin COST_LIMIT (columns_at kind now.right c)

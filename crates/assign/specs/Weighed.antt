@@ -10,6 +10,7 @@ use Rattle.blockset.specs.declared.BlockSet.{BlockSet}
 use Rattle.pairing.specs.Rows.{holds}
 use Rattle.pairing.specs.Places.{place_of, places_of}
 use Rattle.tables.specs.Said.{columns_at}
+use Rattle.assign.specs.Search.{Graph}
 
 -- what the value at a place of a table weighs
 abbrev pub weight_at : {K : Type 0} → Ghosts K → List K → ℕ → ℤ
@@ -18,6 +19,14 @@ weight_at kind table k = weight (columns_at kind table k)
 -- what the cost of a pair weighs
 abbrev pub cost_weight : {K : Type 0} → Ghosts K → ℕ → List K → ℕ → ℕ → ℤ
 cost_weight kind n costs l r = weight_at kind costs (place_of n l r)
+
+-- what a search over rows and costs goes over
+abbrev pub graph : {K : Type 0} → Ghosts K → List BlockSet → List K → Graph
+graph kind rows costs = record {
+  size = length rows;
+  stands = holds rows;
+  cost = cost_weight kind (length rows) costs;
+}
 
 -- the values of a table at the places of a set are within a limit in each column
 abbrev pub BoundedOn : {K : Type 0} → Ghosts K → ℕ → (ℕ → Bool) → List K → Type 0

@@ -20,6 +20,7 @@ ghost use Rattle.assign.specs.Weighed.{SearchTables};
 ghost use Rattle.assign.specs.Prices.{IsSolution};
 ghost use Rattle.assign.specs.Answer.{Answers, HasOptimum};
 
+mod growing;
 mod limits;
 mod pairs;
 mod prices;

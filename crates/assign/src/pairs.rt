@@ -9,9 +9,9 @@ ghost use Rattle.assign.specs.Weighed.{SearchTables};
 ghost use Rattle.matching.specs.Exchange.{without};
 ghost use Rattle.assign.specs.Pairs.{so_far, IsPriced, AreChosen};
 
+use crate::growing::grow_from;
 use crate::prices::lower;
-use crate::search::grow_from;
-use crate::tree::{Cheapest, FirstPairs};
+use crate::tree::{Cheapest, FirstPairs, Tree};
 use blockset::{BlockSet, SET_WIDTH};
 use cost::Cost;
 use matching::{Holders, exchange};
@@ -66,10 +66,15 @@ pub fn pair_row<K: Cost>(
     ensures { IsPriced K.Cost rows.now costs.now
         (so_far (without (has out) k) partners.new holders.new right.new) }
 {
-    let tree = grow_from(k, costs, rows, holders, right, left);
-    if let Some(goal) = tree.taken.goal {
-        lower(goal, tree.taken.reached, left, right);
-        exchange(partners, holders, out, &tree.taken, goal);
+    let Tree {
+        seen: _,
+        taken,
+        free,
+    } = grow_from(k, costs, rows, holders, right, left);
+    if let Some(goal) = free {
+        let fallen = taken.reached.intersection(holders.held);
+        lower(goal.key, fallen, holders, left, right);
+        exchange(partners, holders, out, &taken, goal.block);
     }
 }
 

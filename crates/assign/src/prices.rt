@@ -5,16 +5,19 @@ ghost use Rattle.std.specs.Prelude.{◌≡◌, ℕ, ◌<◌, true, false, length
 ghost use Rattle.cost.specs.declared.TheConstants.{COST_LIMIT, PRICE_LIMIT};
 ghost use Rattle.cost.specs.Columns.{AreWithin};
 ghost use Rattle.blockset.specs.Has.{has};
-ghost use Rattle.pairing.specs.Grid.{at};
+ghost use Rattle.cost.specs.Weights.{weight};
+ghost use Rattle.pairing.specs.Grid.{at, IsPerfect};
 ghost use Rattle.pairing.specs.Rows.{holds};
 ghost use Rattle.tables.specs.Said.{AreValuesWithin, columns_at};
 ghost use Rattle.assign.specs.declared.limits.TheConstants.{DISTANCE_LIMIT, LEFT_PRICE_LIMIT};
 ghost use Rattle.assign.specs.declared.limits.TheConstants.{INNER_PRICE_LIMIT};
-ghost use Rattle.assign.specs.Weighed.{weight_at, cost_weight, BoundedOn, SearchTables};
+ghost use Rattle.assign.specs.Weighed.{weight_at, cost_weight, SearchTables};
+ghost use Rattle.assign.specs.Offers.{distances, HaveOwners};
 ghost use Rattle.assign.specs.Pairs.{so_far, IsPriced, AreCheapest};
 ghost use Rattle.assign.specs.Prices.{Topmost};
 
-use crate::search::{Offer, grow, offer_all};
+use crate::growing::grow_all;
+use crate::search::{Offer, offer_all};
 use crate::sums::exact_difference;
 use crate::tree::Cheapest;
 use blockset::{BlockSet, SET_WIDTH};
@@ -55,51 +58,56 @@ pub fn price_cheapest<K: Cost>(costs: &[K], rows: &[BlockSet], right: &mut [K]) 
     Cheapest { priced, owner }
 }
 
-/// Lowers the price of each taken right block to its distance short of that of the goal, so that
-/// every step of the search becomes tight.
-pub fn lower<K: Cost>(goal: usize, taken: BlockSet, dist: &[K], right: &mut [K])
-    requires sized { length right.old ≡ length dist.now }
-    requires inside { (c : ℕ) → has taken c ≡ true → c < length dist.now }
-    requires goal { has taken goal ≡ true }
-    requires far { BoundedOn K.Cost DISTANCE_LIMIT (has taken) dist.now }
-    requires unsold { AreWithin COST_LIMIT (columns_at K.Cost right.old goal) }
-    requires priced { AreValuesWithin K.Cost INNER_PRICE_LIMIT (length dist.now) right.old }
+/// Lowers the price of each right block of `taken`, all of which are had, to its distance short of
+/// `far`, so that every step of the search becomes tight.
+pub fn lower<K: Cost>(far: K, taken: BlockSet, holders: &Holders, dist: &[K], right: &mut [K])
+    requires owners { HaveOwners (length dist.now) holders.now }
+    requires inside { (c : ℕ) → has taken c ≡ true → c < length right.old }
+    requires had { (c : ℕ) → has taken c ≡ true → has holders.now.held c ≡ true }
+    requires near { (c : ℕ) → has taken c ≡ true
+        → AreWithin DISTANCE_LIMIT (distances K.Cost holders.now dist.now c) }
+    requires goal { AreWithin LEFT_PRICE_LIMIT (K.meaning far) }
+    requires priced { AreValuesWithin K.Cost INNER_PRICE_LIMIT (length right.old) right.old }
     ensures fallen { (c : ℕ) → has taken c ≡ true
-        → weight_at K.Cost right.new c +ℤ weight_at K.Cost dist.now goal
-        ≡ weight_at K.Cost dist.now c +ℤ weight_at K.Cost right.old goal }
+        → weight_at K.Cost right.new c +ℤ weight (K.meaning far)
+        ≡ weight (distances K.Cost holders.now dist.now c) }
     ensures same { (c : ℕ) → has taken c ≡ false
         → columns_at K.Cost right.new c ≡ columns_at K.Cost right.old c }
-    ensures bound { AreValuesWithin K.Cost INNER_PRICE_LIMIT (length dist.now) right.new }
+    ensures bound { AreValuesWithin K.Cost INNER_PRICE_LIMIT (length right.old) right.new }
 {
-    let far = exact_difference(dist[goal], right[goal]);
     for c in taken {
-        right[c] = exact_difference(dist[c], far);
+        let l = holders.owner[c] as usize;
+        right[c] = exact_difference(dist[l], far);
     }
 }
 
-/// Makes the price of each left block what its pair costs beyond the price of the right block.
-fn price_rows<K: Cost>(
+/// Makes the price of each right block the distance of the left block that has it, and that of each
+/// left block what its pair costs beyond.
+fn price_pairs<K: Cost>(
     costs: &[K],
     rows: &[BlockSet],
     partners: &[u16],
     left: &mut [K],
-    right: &[K],
+    right: &mut [K],
 )
     requires lent { SearchTables K.Cost rows.now costs.now }
-    requires partnered { length partners.now ≡ length rows.now }
+    requires perfect { IsPerfect (length rows.now) (holds rows.now) partners.now }
     requires lefts { length left.old ≡ length rows.now }
-    requires rights { length right.now ≡ length rows.now }
-    requires pairs { (l : ℕ) → l < length rows.now → holds rows.now l (at partners.now l) ≡ true }
-    requires far { AreValuesWithin K.Cost DISTANCE_LIMIT (length rows.now) right.now }
+    requires rights { length right.old ≡ length rows.now }
+    requires far { AreValuesWithin K.Cost DISTANCE_LIMIT (length rows.now) left.old }
+    ensures moved { (l : ℕ) → l < length rows.now
+        → columns_at K.Cost right.new (at partners.now l) ≡ columns_at K.Cost left.old l }
     ensures tight { (l : ℕ) → l < length rows.now → weight_at K.Cost left.new l
-        +ℤ weight_at K.Cost right.now (at partners.now l) ≡ cost_weight K.Cost
+        +ℤ weight_at K.Cost right.new (at partners.now l) ≡ cost_weight K.Cost
         (length rows.now) costs.now l (at partners.now l) }
     ensures bound { AreValuesWithin K.Cost LEFT_PRICE_LIMIT (length rows.now) left.new }
 {
     let n = rows.len();
     for l in 0..n {
         let c = partners[l] as usize;
-        left[l] = exact_difference(costs[l * n + c], right[c]);
+        let price = left[l];
+        right[c] = price;
+        left[l] = exact_difference(costs[l * n + c], price);
     }
 }
 
@@ -124,17 +132,7 @@ pub fn price_greatest<K: Cost>(
     ensures lefts { AreValuesWithin K.Cost PRICE_LIMIT (length rows.now) left.new }
     ensures rights { AreValuesWithin K.Cost PRICE_LIMIT (length rows.now) right.new }
 {
-    let n = rows.len();
     clear(left);
-    grow(
-        costs,
-        rows,
-        holders,
-        right,
-        BlockSet::all(n),
-        [0u8; SET_WIDTH],
-        left,
-    );
-    right.copy_from_slice(left);
-    price_rows(costs, rows, partners, left, right);
+    grow_all(costs, rows, holders, right, left);
+    price_pairs(costs, rows, partners, left, right);
 }

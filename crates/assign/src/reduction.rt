@@ -8,7 +8,7 @@ ghost use Rattle.cost.specs.declared.TheConstants.{COST_LIMIT};
 ghost use Rattle.blockset.specs.declared.TheConstants.{MOST_BLOCKS};
 ghost use Rattle.blockset.specs.Has.{has};
 ghost use Rattle.matching.specs.Exchange.{GivesDistinct, AreHolders};
-ghost use Rattle.tables.specs.Said.{AreValuesWithin};
+ghost use Rattle.tables.specs.Said.{AreValuesWithin, columns_at};
 ghost use Rattle.assign.specs.declared.limits.TheConstants.{INNER_PRICE_LIMIT, REDUCED_LIMIT};
 ghost use Rattle.assign.specs.Weighed.{weight_at, BoundedOn, SearchTables};
 ghost use Rattle.assign.specs.Offers.{NearestWithKey};
@@ -57,7 +57,7 @@ fn bid_as_near<K: Cost>(
     requires inside { (c : ℕ) → has to c ≡ true → c < length costs.now }
     requires modest { BoundedOn K.Cost COST_LIMIT (has to) costs.now }
     requires priced { AreValuesWithin K.Cost INNER_PRICE_LIMIT (length costs.now) right.now }
-    requires near { NearestWithKey K.Cost (has to) right.now costs.now near }
+    requires near { NearestWithKey K.Cost (has to) right.now (columns_at K.Cost costs.now) near }
     requires no_held { HasNoHeldBid K.Cost (has to) (has held) costs.now right.now }
     ensures bid { IsBidFound K.Cost (has to) (has held) costs.now right.now result }
     ensures bound { IfSome result (IsPricedNear K.Cost (length costs.now) right.now) }

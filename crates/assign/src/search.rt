@@ -12,20 +12,18 @@ ghost use Rattle.cost.specs.Columns.{AreWithin};
 ghost use Rattle.cost.specs.Weights.{weight};
 ghost use Rattle.blockset.specs.Has.{has};
 ghost use Rattle.pairing.specs.Grid.{at};
-ghost use Rattle.pairing.specs.Rows.{holds};
 ghost use Rattle.tables.specs.Said.{columns_at, AreValuesWithin};
 ghost use Rattle.assign.specs.declared.limits.TheConstants.{DISTANCE_LIMIT, SHIFT_LIMIT};
 ghost use Rattle.assign.specs.declared.limits.TheConstants.{INNER_PRICE_LIMIT};
-ghost use Rattle.assign.specs.Weighed.{weight_at, BoundedOn, SearchTables};
+ghost use Rattle.assign.specs.Weighed.{weight_at, BoundedOn};
 ghost use Rattle.assign.specs.Offers.{IsOffered, NearestWithKey, FreeFirst, KeyReach, NearestTwo};
-ghost use Rattle.assign.specs.Offers.{Nearer, IsModest};
-ghost use Rattle.assign.specs.Trees.{Grows, GrowsFrom};
+ghost use Rattle.assign.specs.Offers.{Nearer, IsModest, distances, HaveOwners, IsFreeOffered};
 
 use crate::sums::{exact_difference, exact_sum, is_less};
-use crate::tree::{Nearby, Tree, TwoNearest};
+use crate::tree::{Nearby, TwoNearest};
 use blockset::{BlockSet, SET_WIDTH};
 use cost::Cost;
-use matching::{Holders, Reach};
+use matching::Holders;
 
 /// What a left block offers: to each right block of `to` the distance `shift` plus what the pair
 /// costs by `costs`, the row of the left block.
@@ -50,7 +48,7 @@ pub fn offer_all<K: Cost>(
     requires inside { (c : ℕ) → has offer.now.to c ≡ true → c < length offer.now.costs.now }
     requires known { BoundedOn K.Cost HALF_RAIL (has reached) dist.old }
     ensures offered { (c : ℕ) → IsOffered K.Cost offer.now (has offer.now.to) (has reached)
-        dist.old dist.new via.old via.new c }
+        (columns_at K.Cost dist.old) (columns_at K.Cost dist.new) via.old via.new c }
     ensures bound { (b c : ℕ) → AreWithin b (K.meaning offer.now.shift) → b ≤ SHIFT_LIMIT
         → (has offer.now.to c ≡ false → AreWithin (b + COST_LIMIT) (columns_at K.Cost dist.old c))
         → (has reached c ≡ true → AreWithin (b + COST_LIMIT) (columns_at K.Cost dist.old c))
@@ -73,7 +71,7 @@ fn key_of<K: Cost>(block: usize, dist: &[K], right: &[K]) -> K
     requires priced { AreWithin INNER_PRICE_LIMIT (columns_at K.Cost right.now block) }
     ensures key { weight (K.meaning result) ≡ weight_at K.Cost dist.now block
         -ℤ weight_at K.Cost right.now block }
-    ensures reach { KeyReach K.Cost right.now dist.now block result }
+    ensures reach { KeyReach K.Cost right.now (columns_at K.Cost dist.now) block result }
 {
     exact_difference(dist[block], right[block])
 }
@@ -85,7 +83,7 @@ pub fn nearest<K: Cost>(set: BlockSet, dist: &[K], right: &[K]) -> Option<Nearby
     requires far { BoundedOn K.Cost DISTANCE_LIMIT (has set) dist.now }
     requires priced { AreValuesWithin K.Cost INNER_PRICE_LIMIT (length dist.now) right.now }
     ensures { MatchOption result ((c : ℕ) → has set c ≡ false)
-        (NearestWithKey K.Cost (has set) right.now dist.now) }
+        (NearestWithKey K.Cost (has set) right.now (columns_at K.Cost dist.now)) }
 {
     let mut block = set.least()?;
     let mut least = key_of(block, dist, right);
@@ -122,7 +120,7 @@ pub fn two_nearest<K: Cost>(set: BlockSet, dist: &[K], right: &[K]) -> Option<Tw
     requires priced { AreValuesWithin K.Cost INNER_PRICE_LIMIT (length dist.now) right.now }
     ensures { MatchOption result
         ((c c' : ℕ) → has set c ≡ true → has set c' ≡ true → c ≡ c')
-        (NearestTwo K.Cost (has set) right.now dist.now) }
+        (NearestTwo K.Cost (has set) right.now (columns_at K.Cost dist.now)) }
 {
     let first = set.least()?;
     let mut rest = set;
@@ -161,7 +159,7 @@ pub fn two_nearest<K: Cost>(set: BlockSet, dist: &[K], right: &[K]) -> Option<Tw
 }
 
 /// The nearer one of two right blocks, the first one if both are as near.
-fn nearer<K: Cost>(first: Option<Nearby<K>>, second: Option<Nearby<K>>) -> Option<Nearby<K>>
+pub fn nearer<K: Cost>(first: Option<Nearby<K>>, second: Option<Nearby<K>>) -> Option<Nearby<K>>
     requires first { IfSome first (λ near. AreWithin HALF_RAIL (K.meaning near.key)) }
     requires second { IfSome second (λ near. AreWithin HALF_RAIL (K.meaning near.key)) }
     ensures { Nearer K.Cost first second result }
@@ -191,7 +189,7 @@ pub fn nearest_free_first<K: Cost>(
     requires far { BoundedOn K.Cost DISTANCE_LIMIT (has set) dist.now }
     requires priced { AreValuesWithin K.Cost INNER_PRICE_LIMIT (length dist.now) right.now }
     ensures { MatchOption result ((c : ℕ) → has set c ≡ false)
-        (λ near. NearestWithKey K.Cost (has set) right.now dist.now near
+        (λ near. NearestWithKey K.Cost (has set) right.now (columns_at K.Cost dist.now) near
         × FreeFirst (has set) (has held) (weight_at K.Cost right.now)
         (weight_at K.Cost dist.now) near.block) }
 {
@@ -200,31 +198,95 @@ pub fn nearest_free_first<K: Cost>(
     nearer(free, other)
 }
 
-/// Makes an offer to right block `c` alone, which is reached, if it is one of the offer's: it takes
-/// the distance if that is less than the one it has. Answers how far it is then.
+/// Makes an offer to the free ones of its right blocks: `free` is the nearest free right block
+/// before, and the answer the nearest one then. `via` tells where it is reached from.
+pub fn offer_free<K: Cost>(
+    offer: &Offer<'_, K>,
+    held: BlockSet,
+    free: Option<Nearby<K>>,
+    via: &mut [u8; SET_WIDTH],
+    right: &[K],
+) -> Option<Nearby<K>>
+    requires modest { IsModest K.Cost offer.now }
+    requires rights { length right.now ≡ length offer.now.costs.now }
+    requires inside { (c : ℕ) → has offer.now.to c ≡ true → c < length offer.now.costs.now }
+    requires priced { AreValuesWithin K.Cost INNER_PRICE_LIMIT (length offer.now.costs.now)
+        right.now }
+    requires known { IfSome free (λ near. AreWithin HALF_RAIL (K.meaning near.key)) }
+    ensures { MatchOption result ((free ≡ None) × (via.new ≡ via.old)
+        × ((c : ℕ) → has offer.now.to c ≡ true → has held c ≡ true))
+        (IsFreeOffered K.Cost offer.now (has held) right.now free via.old via.new) }
+{
+    let Some(near) = nearest(offer.to.difference(held), offer.costs, right) else {
+        return free;
+    };
+    let block = near.block;
+    let key = exact_sum(offer.shift, near.key);
+    if let Some(nearest_yet) = free {
+        if !is_less(key, nearest_yet.key) {
+            return Some(nearest_yet);
+        }
+    }
+    via[block] = offer.from as u8;
+    Some(Nearby { block, key })
+}
+
+/// Makes an offer to right blocks that are had and not yet reached.
+pub fn offer_first<K: Cost>(
+    offer: &Offer<'_, K>,
+    holders: &Holders,
+    via: &mut [u8; SET_WIDTH],
+    dist: &mut [K],
+)
+    requires modest { IsModest K.Cost offer.now }
+    requires inside { (c : ℕ) → has offer.now.to c ≡ true → c < length offer.now.costs.now }
+    requires had { (c : ℕ) → has offer.now.to c ≡ true → has holders.now.held c ≡ true }
+    requires owners { HaveOwners (length dist.old) holders.now }
+    ensures offered { (c : ℕ) → IsOffered K.Cost offer.now (has offer.now.to) (λ _. false)
+        (distances K.Cost holders.now dist.old) (distances K.Cost holders.now dist.new) via.old
+        via.new c }
+    ensures bound { (b c : ℕ) → AreWithin b (K.meaning offer.now.shift) → b ≤ SHIFT_LIMIT
+        → (has offer.now.to c ≡ false
+        → AreWithin (b + COST_LIMIT) (distances K.Cost holders.now dist.old c))
+        → AreWithin (b + COST_LIMIT) (distances K.Cost holders.now dist.new c) }
+{
+    for c in offer.to {
+        let l = holders.owner[c] as usize;
+        dist[l] = exact_sum(offer.shift, offer.costs[c]);
+        via[c] = offer.from as u8;
+    }
+}
+
+/// Makes an offer to right block `c` alone, which is had and reached, if it is one of the offer's:
+/// it takes the distance if that is less than the one it has. Answers how far it is then.
 fn offer_one<K: Cost>(
     c: usize,
     offer: &Offer<'_, K>,
+    holders: &Holders,
     via: &mut [u8; SET_WIDTH],
     dist: &mut [K],
 ) -> K
     requires modest { IsModest K.Cost offer.now }
-    requires sized { length dist.old ≡ length offer.now.costs.now }
     requires inside { c < length offer.now.costs.now }
-    requires known { AreWithin HALF_RAIL (columns_at K.Cost dist.old c) }
-    ensures offered { IsOffered K.Cost offer.now (has offer.now.to) (λ _. true) dist.old dist.new
-        via.old via.new c }
-    ensures others { (j : ℕ) → j ≢ c
-        → (columns_at K.Cost dist.new j ≡ columns_at K.Cost dist.old j)
-        × (at via.new j ≡ at via.old j) }
-    ensures answer { K.meaning result ≡ columns_at K.Cost dist.new c }
-    ensures nearer { (columns_at K.Cost dist.new c ≡ columns_at K.Cost dist.old c)
-        ⊎ (weight_at K.Cost dist.new c <ℤ weight_at K.Cost dist.old c) }
+    requires had { has holders.now.held c ≡ true }
+    requires owners { HaveOwners (length dist.old) holders.now }
+    requires known { AreWithin HALF_RAIL (distances K.Cost holders.now dist.old c) }
+    ensures offered { IsOffered K.Cost offer.now (has offer.now.to) (λ _. true)
+        (distances K.Cost holders.now dist.old) (distances K.Cost holders.now dist.new) via.old
+        via.new c }
+    ensures others { (j : ℕ) → j ≢ c → (distances K.Cost holders.now dist.new j
+        ≡ distances K.Cost holders.now dist.old j) × (at via.new j ≡ at via.old j) }
+    ensures answer { K.meaning result ≡ distances K.Cost holders.now dist.new c }
+    ensures nearer { (distances K.Cost holders.now dist.new c
+        ≡ distances K.Cost holders.now dist.old c)
+        ⊎ (weight (distances K.Cost holders.now dist.new c)
+        <ℤ weight (distances K.Cost holders.now dist.old c)) }
     ensures bound { (b : ℕ) → AreWithin b (K.meaning offer.now.shift) → b ≤ SHIFT_LIMIT
-        → AreWithin (b + COST_LIMIT) (columns_at K.Cost dist.old c)
-        → AreWithin (b + COST_LIMIT) (columns_at K.Cost dist.new c) }
+        → AreWithin (b + COST_LIMIT) (distances K.Cost holders.now dist.old c)
+        → AreWithin (b + COST_LIMIT) (distances K.Cost holders.now dist.new c) }
 {
-    let far = dist[c];
+    let l = holders.owner[c] as usize;
+    let far = dist[l];
     if !offer.to.contains(c) {
         return far;
     }
@@ -232,41 +294,46 @@ fn offer_one<K: Cost>(
     if !is_less(way, far) {
         return far;
     }
-    dist[c] = way;
+    dist[l] = way;
     via[c] = offer.from as u8;
     way
 }
 
-/// Makes an offer to those of its right blocks that are in `set`, all of which are reached, as
-/// `offer_all` does. Answers which one of `set` is nearest then: so each of them is looked at once.
+/// Makes an offer to those of its right blocks that are in `set`, all of which are had and reached.
+/// Answers which one of `set` is nearest then: so each of them is looked at once.
 pub fn offer_and_find<K: Cost>(
     set: BlockSet,
     offer: &Offer<'_, K>,
+    holders: &Holders,
     via: &mut [u8; SET_WIDTH],
     dist: &mut [K],
     right: &[K],
 ) -> Option<Nearby<K>>
     requires modest { IsModest K.Cost offer.now }
-    requires sized { length dist.old ≡ length offer.now.costs.now }
     requires rights { length right.now ≡ length offer.now.costs.now }
     requires inside { (c : ℕ) → has set c ≡ true → c < length offer.now.costs.now }
-    requires far { BoundedOn K.Cost DISTANCE_LIMIT (has set) dist.old }
+    requires had { (c : ℕ) → has set c ≡ true → has holders.now.held c ≡ true }
+    requires owners { HaveOwners (length dist.old) holders.now }
+    requires far { (c : ℕ) → has set c ≡ true
+        → AreWithin DISTANCE_LIMIT (distances K.Cost holders.now dist.old c) }
     requires priced { AreValuesWithin K.Cost INNER_PRICE_LIMIT (length offer.now.costs.now)
         right.now }
     ensures offered { (c : ℕ) → IsOffered K.Cost offer.now (λ k. has set k && has offer.now.to k)
-        (λ _. true) dist.old dist.new via.old via.new c }
+        (λ _. true) (distances K.Cost holders.now dist.old)
+        (distances K.Cost holders.now dist.new) via.old via.new c }
     ensures others { (c : ℕ) → has set c ≡ false
-        → columns_at K.Cost dist.new c ≡ columns_at K.Cost dist.old c }
+        → distances K.Cost holders.now dist.new c ≡ distances K.Cost holders.now dist.old c }
     ensures bound { (b c : ℕ) → AreWithin b (K.meaning offer.now.shift) → b ≤ SHIFT_LIMIT
-        → AreWithin (b + COST_LIMIT) (columns_at K.Cost dist.old c)
-        → AreWithin (b + COST_LIMIT) (columns_at K.Cost dist.new c) }
+        → AreWithin (b + COST_LIMIT) (distances K.Cost holders.now dist.old c)
+        → AreWithin (b + COST_LIMIT) (distances K.Cost holders.now dist.new c) }
     ensures found { MatchOption result ((c : ℕ) → has set c ≡ false)
-        (NearestWithKey K.Cost (has set) right.now dist.new) }
+        (NearestWithKey K.Cost (has set) right.now (distances K.Cost holders.now dist.new)) }
 {
     let mut block = set.least()?;
-    let mut lowest = exact_difference(dist[block], right[block]);
+    let first = holders.owner[block] as usize;
+    let mut lowest = exact_difference(dist[first], right[block]);
     for c in set {
-        let far = offer_one(c, offer, via, dist);
+        let far = offer_one(c, offer, holders, via, dist);
         let key = exact_difference(far, right[c]);
         if is_less(key, lowest) {
             block = c;
@@ -276,152 +343,53 @@ pub fn offer_and_find<K: Cost>(
     Some(Nearby { block, key: lowest })
 }
 
-/// Makes an offer as `offer_all` does, and answers which one of `rest` is nearest then; of several
-/// such ones a free one, if there is any. Each of `rest` is reached, or is now.
-pub fn offer_and_choose<K: Cost>(
+/// Makes an offer to those of its right blocks that are had, and answers which one of `rest` is
+/// nearest then. All of `rest` are had, and each is reached, or is now.
+pub fn offer_held<K: Cost>(
     offer: &Offer<'_, K>,
     reached: BlockSet,
     rest: BlockSet,
-    held: BlockSet,
+    holders: &Holders,
     via: &mut [u8; SET_WIDTH],
     dist: &mut [K],
     right: &[K],
 ) -> Option<Nearby<K>>
     requires modest { IsModest K.Cost offer.now }
-    requires sized { length dist.old ≡ length offer.now.costs.now }
     requires rights { length right.now ≡ length offer.now.costs.now }
     requires inside { (c : ℕ) → has rest c ≡ true → c < length offer.now.costs.now }
-    requires waiting { (c : ℕ) → has offer.now.to c ≡ true → has rest c ≡ true }
+    requires had { (c : ℕ) → has rest c ≡ true → has holders.now.held c ≡ true }
+    requires owners { HaveOwners (length dist.old) holders.now }
+    requires waiting { (c : ℕ) → has offer.now.to c ≡ true → has holders.now.held c ≡ true
+        → has rest c ≡ true }
     requires come_to { (c : ℕ) → has rest c ≡ true → has offer.now.to c ≡ false
         → has reached c ≡ true }
-    requires known { BoundedOn K.Cost DISTANCE_LIMIT (has reached) dist.old }
+    requires known { (c : ℕ) → has rest c ≡ true → has reached c ≡ true
+        → AreWithin DISTANCE_LIMIT (distances K.Cost holders.now dist.old c) }
     requires priced { AreValuesWithin K.Cost INNER_PRICE_LIMIT (length offer.now.costs.now)
         right.now }
-    ensures offered { (c : ℕ) → IsOffered K.Cost offer.now (has offer.now.to) (has reached)
-        dist.old dist.new via.old via.new c }
+    ensures offered { (c : ℕ) → IsOffered K.Cost offer.now
+        (λ k. has offer.now.to k && has holders.now.held k) (has reached)
+        (distances K.Cost holders.now dist.old) (distances K.Cost holders.now dist.new) via.old
+        via.new c }
     ensures bound { (b c : ℕ) → AreWithin b (K.meaning offer.now.shift) → b ≤ SHIFT_LIMIT
-        → (has offer.now.to c ≡ false → AreWithin (b + COST_LIMIT) (columns_at K.Cost dist.old c))
-        → (has reached c ≡ true → AreWithin (b + COST_LIMIT) (columns_at K.Cost dist.old c))
-        → AreWithin (b + COST_LIMIT) (columns_at K.Cost dist.new c) }
+        → (has offer.now.to c ≡ false
+        → AreWithin (b + COST_LIMIT) (distances K.Cost holders.now dist.old c))
+        → (has reached c ≡ true
+        → AreWithin (b + COST_LIMIT) (distances K.Cost holders.now dist.old c))
+        → has holders.now.held c ≡ true
+        → AreWithin (b + COST_LIMIT) (distances K.Cost holders.now dist.new c) }
     ensures found { MatchOption result ((c : ℕ) → has rest c ≡ false)
-        (λ near. NearestWithKey K.Cost (has rest) right.now dist.new near
-        × FreeFirst (has rest) (has held) (weight_at K.Cost right.now)
-        (weight_at K.Cost dist.new) near.block) }
+        (NearestWithKey K.Cost (has rest) right.now (distances K.Cost holders.now dist.new)) }
 {
+    let to = offer.to.intersection(holders.held);
     let fresh = Offer {
-        to: offer.to.difference(reached),
+        to: to.difference(reached),
         ..*offer
     };
-    offer_all(&fresh, reached, via, dist);
+    offer_first(&fresh, holders, via, dist);
     let known = Offer {
-        to: offer.to.intersection(reached),
+        to: to.intersection(reached),
         ..*offer
     };
-    let free_ones = rest.difference(held);
-    let held_ones = rest.intersection(held);
-    let free = offer_and_find(free_ones, &known, via, dist, right);
-    let other = offer_and_find(held_ones, &known, via, dist, right);
-    nearer(free, other)
-}
-
-/// Takes right blocks by their distance beyond their price, up to the first that is free. It starts
-/// from the right blocks of `start`, which have been reached by `via` at the distances in `dist`.
-pub fn grow<K: Cost>(
-    costs: &[K],
-    rows: &[BlockSet],
-    holders: &Holders,
-    right: &[K],
-    start: BlockSet,
-    via: [u8; SET_WIDTH],
-    dist: &mut [K],
-) -> Tree
-    requires lent { SearchTables K.Cost rows.now costs.now }
-    requires rights { length right.now ≡ length rows.now }
-    requires dists { length dist.old ≡ length rows.now }
-    requires begins { (c : ℕ) → has start c ≡ true → c < length rows.now }
-    requires holders { (c : ℕ) → has holders.now.held c ≡ true
-        → at holders.now.owner c < length rows.now }
-    requires own { (c : ℕ) → has holders.now.held c ≡ true
-        → holds rows.now (at holders.now.owner c) c ≡ true }
-    requires near { BoundedOn K.Cost COST_LIMIT (has start) dist.old }
-    requires priced { AreValuesWithin K.Cost INNER_PRICE_LIMIT (length rows.now) right.now }
-    ensures grown { Grows K.Cost rows.now costs.now holders.now right.now (has start) via dist.old
-        dist.new result }
-    ensures inside { (c : ℕ) → has result.taken.reached c ≡ true → c < length rows.now }
-    ensures bound { BoundedOn K.Cost DISTANCE_LIMIT (has result.taken.reached) dist.new }
-{
-    let n = rows.len();
-    let mut seen = start;
-    let mut taken = Reach {
-        reached: BlockSet::empty(),
-        from: via,
-        rank: [0u8; SET_WIDTH],
-        goal: None,
-    };
-    let mut next = nearest_free_first(start, holders.held, dist, right);
-    for t in 0..n {
-        let Some(near) = next else {
-            return Tree { seen, taken };
-        };
-        let a = near.block;
-        taken.reached.insert(a);
-        taken.rank[a] = t as u8;
-        if !holders.held.contains(a) {
-            taken.goal = Some(a);
-            return Tree { seen, taken };
-        }
-        let l = holders.owner[a] as usize;
-        let to = rows[l].difference(taken.reached);
-        let row = &costs[l * n..l * n + n];
-        let offer = Offer {
-            from: l,
-            costs: row,
-            shift: exact_difference(dist[a], row[a]),
-            to,
-        };
-        let reached = seen;
-        seen = seen.union(to);
-        let rest = seen.difference(taken.reached);
-        let held = holders.held;
-        let via = &mut taken.from;
-        next = offer_and_choose(&offer, reached, rest, held, via, dist, right);
-    }
-    Tree { seen, taken }
-}
-
-/// Searches from left block `k` for the cheapest way to a free right block, whatever the distances
-/// were before.
-pub fn grow_from<K: Cost>(
-    k: usize,
-    costs: &[K],
-    rows: &[BlockSet],
-    holders: &Holders,
-    right: &[K],
-    dist: &mut [K],
-) -> Tree
-    requires lent { SearchTables K.Cost rows.now costs.now }
-    requires rights { length right.now ≡ length rows.now }
-    requires dists { length dist.old ≡ length rows.now }
-    requires room { k < length rows.now }
-    requires holders { (c : ℕ) → has holders.now.held c ≡ true
-        → at holders.now.owner c < length rows.now }
-    requires own { (c : ℕ) → has holders.now.held c ≡ true
-        → holds rows.now (at holders.now.owner c) c ≡ true }
-    requires priced { AreValuesWithin K.Cost INNER_PRICE_LIMIT (length rows.now) right.now }
-    ensures grown { GrowsFrom K.Cost rows.now costs.now holders.now right.now k dist.new result }
-    ensures inside { (c : ℕ) → has result.taken.reached c ≡ true → c < length rows.now }
-    ensures bound { BoundedOn K.Cost DISTANCE_LIMIT (has result.taken.reached) dist.new }
-{
-    let n = rows.len();
-    let to = rows[k];
-    let row = &costs[k * n..k * n + n];
-    let mut via = [0u8; SET_WIDTH];
-    let offer = Offer {
-        from: k,
-        costs: row,
-        shift: K::zero(),
-        to,
-    };
-    offer_all(&offer, BlockSet::empty(), &mut via, dist);
-    grow(costs, rows, holders, right, to, via, dist)
+    offer_and_find(rest, &known, holders, via, dist, right)
 }

@@ -45,15 +45,30 @@ pub struct Bid<K> {
     pub price: K,
 }
 
+/// What a search has come to before its first turn.
+#[derive(Drop)]
+pub struct Begun<K> {
+    /// The right blocks that it has come to, had or free.
+    pub seen: BlockSet,
+    /// The left block that each was reached from that is had, and the nearest free one.
+    pub via: [u8; SET_WIDTH],
+    /// The nearest free one.
+    pub free: Option<Nearby<K>>,
+    /// The nearest one that is had.
+    pub next: Option<Nearby<K>>,
+}
+
 /// How far a search has come.
 #[derive(Drop)]
-pub struct Tree {
+pub struct Tree<K> {
     /// The right blocks that it has come to, taken or not.
     pub seen: BlockSet,
     /// Those that it has taken, whose distances are for good: their ranks are the turns, and the
     /// goal, if there is one, is the only one of them that is free. `from` is also known of what is
-    /// seen and not yet taken.
+    /// seen and had and not yet taken.
     pub taken: Reach,
+    /// The goal, with how far it is beyond its price.
+    pub free: Option<Nearby<K>>,
 }
 
 /// The right blocks that have a price, and `owner`, the left block that each is cheapest with.

@@ -19,8 +19,8 @@ returns-clause-bid g c =
     let price = c.index-right-block in
     as_near (has c.args.held) near.nearest free.nearest c.difference.ensures c.requires.no_held
     (omega (arith, ints, near.key, free.key)) (weight (g.K.Cost.meaning price.result))
-    (read_weighs g.K.Cost c.args.right.now c.in_ok-free.free.block price.result
-    (omega (arith, c.requires.sized, free.inside)) price.is)
+    (read_weighs g.K.Cost c.args.right.now c.in_ok-free.free.block price.result free.inside
+    price.is)
 
 pub returns-then-is_less-clause-bid : goal.returns-then-is_less-clause-bid
 returns-then-is_less-clause-bid g c =

@@ -21,11 +21,9 @@ returns-then-not-contains g c =
     record {
       bid = bid_free (has c.args.held) near.nearest
           (sym c.contains.ensures ∙ c.if-not-contains.true) (weight (kind.meaning price.result))
-          (read_weighs kind c.args.right.now j price.result
-          (omega (arith, c.requires.sized, near.inside)) price.is);
+          (read_weighs kind c.args.right.now j price.result near.inside price.is);
       bound = λ b far le. read_within kind b (b + 2 * COST_LIMIT) c.args.right.now j price.result
-          (omega (arith, c.requires.sized, near.inside)) price.is (omega arith)
-          (far j near.inside);
+          near.inside price.is (omega arith) (far j (c.requires.inside j near.nearest.member));
     }
 
 pub is_less-requires : goal.is_less-requires
@@ -38,10 +36,11 @@ pub exact_difference-price-requires : goal.exact_difference-price-requires
 exact_difference-price-requires g c =
     let near = c.in-Some.ensures.near in
     let j = c.in-Some.field-0.near.block in
+    let member = near.nearest.member in
     record {
       first = read_within g.K.Cost COST_LIMIT HALF_RAIL c.args.costs.now j
-          c.index-costs-block.result near.inside c.index-costs-block.is (omega arith)
-          (c.requires.modest j near.nearest.member);
+          c.index-costs-block.result (c.requires.inside j member) c.index-costs-block.is
+          (omega arith) (c.requires.modest j member);
       second = key_near c.in-Some.ensures.next;
     }
 
@@ -55,7 +54,8 @@ returns-then-is_less g c =
     let cost = c.index-costs-block in
     let price = c.exact_difference-price in
     let less = c.is_less.ensures.less c.if-is_less.true in
-    let weighs = read_weighs kind c.args.costs.now j cost.result near.inside cost.is in
+    let inside = c.requires.inside j near.nearest.member in
+    let weighs = read_weighs kind c.args.costs.now j cost.result inside cost.is in
     let member = (still_in (has c.args.to) (without (has c.args.to) j) j (λ _. refl) k
     next.nearest.member).0 in
     record {
@@ -66,10 +66,10 @@ returns-then-is_less g c =
       bound = λ b far le. within_more (COST_LIMIT + (COST_LIMIT + b)) (b + 2 * COST_LIMIT)
           (kind.meaning price.result) (omega arith)
           (price.ensures.bound COST_LIMIT (COST_LIMIT + b)
-          (read_within kind COST_LIMIT COST_LIMIT c.args.costs.now j cost.result near.inside
-          cost.is (omega arith) (c.requires.modest j near.nearest.member))
-          (next.reach COST_LIMIT b (c.requires.modest k member) (far k next.inside)
-          (omega arith)) (omega arith));
+          (read_within kind COST_LIMIT COST_LIMIT c.args.costs.now j cost.result inside cost.is
+          (omega arith) (c.requires.modest j near.nearest.member))
+          (next.reach COST_LIMIT b (c.requires.modest k member)
+          (far k (c.requires.inside k member)) (omega arith)) (omega arith));
     }
 
 pub bid_as_near-requires-clause-no_held : goal.bid_as_near-requires-clause-no_held

@@ -1,22 +1,22 @@
 -- One right block more is offered its way, and becomes the best where it is less far beyond its
 -- price then.
 use Rattle.std.proofs.Common.{◌≡◌, ℕ, ◌+◌, ◌<◌, List, length, ℤ, ◌-ℤ◌}
-use Rattle.std.proofs.Common.{◌<ℤ◌, ◌≤ℤ◌, ◌⊎◌, sym, ap, ◌∙◌, subst, ⊎_elim, arith}
+use Rattle.std.proofs.Common.{◌<ℤ◌, ◌≤ℤ◌, ◌⊎◌, sym, refl, ap, subst, ⊎_elim, arith}
 use Rattle.std.proofs.lemmas.Int.{ints}
 use Rattle.std.proofs.lemmas.Bool.{cases_eq}
 use Rattle.cost.specs.declared.TheConstants.{COST_LIMIT, HALF_RAIL}
-use Rattle.cost.specs.declared.Cost.{Ghosts}
 use Rattle.cost.specs.Columns.{AreWithin}
 use Rattle.cost.proofs.Exact.{within_more}
 use Rattle.cost.specs.Weights.{weight}
 use Rattle.blockset.specs.Has.{has}
 use Rattle.pairing.specs.Grid.{at}
 use Rattle.tables.specs.Said.{columns_at}
-use Rattle.tables.proofs.Filling.{value_at}
 use Rattle.assign.specs.declared.limits.TheConstants.{DISTANCE_LIMIT, KEY_LIMIT, INNER_PRICE_LIMIT}
 use Rattle.assign.specs.declared.limits.TheConstants.{SHIFT_LIMIT}
 use Rattle.assign.specs.Weighed.{weight_at}
+use Rattle.assign.specs.Offers.{distances, HaveOwners}
 use Rattle.assign.proofs.Entries.{read_within}
+use Rattle.assign.proofs.Owners.{known_at}
 use Rattle.assign.proofs.Nearing.{nearing_none, nearing_keep, nearing_take}
 use Rattle.assign.proofs.Looking.{looking_none, looking_one, key_weighs, key_reaches}
 use Rattle.assign.proofs.search.offer_and_find.Goals as goal
@@ -27,10 +27,11 @@ exact_difference-lowest-requires g c =
     let i = c.in_ok-block.block in
     let member = c.in_ok-block.ensures.1 in
     let inside = c.requires.inside c.in_ok-block.block member in
+    let far = known_at kind c.requires.owners c.args.dist.now refl i (c.requires.had i member)
+    c.index-dist-first.result c.index-dist-first.is in
     record {
-      first = read_within kind DISTANCE_LIMIT HALF_RAIL c.args.dist.now i c.index-dist-block.result
-          (omega (arith, c.requires.sized)) c.index-dist-block.is (omega arith)
-          (c.requires.far i member);
+      first = within_more DISTANCE_LIMIT HALF_RAIL (kind.meaning c.index-dist-first.result)
+          (omega arith) (subst (AreWithin DISTANCE_LIMIT) (sym far) (c.requires.far i member));
       second = read_within kind INNER_PRICE_LIMIT HALF_RAIL c.args.right.now i
           c.index-right-block.result (omega (arith, c.requires.rights)) c.index-right-block.is
           (omega arith) (c.requires.priced i inside);
@@ -40,27 +41,27 @@ pub loop-c-init : goal.loop-c-init
 loop-c-init g c =
     let kind = g.K.Cost in
     let offer = c.args.offer.now in
+    let d = distances kind c.args.holders.now c.args.dist.now in
     let i = c.in_ok-block.block in
     let member = c.in_ok-block.ensures.1 in
     let inside = c.requires.inside c.in_ok-block.block member in
     let in-right : c.in_ok-block.block < length c.args.right.now =
     omega (arith, c.requires.rights) in
-    let far = value_at kind c.args.dist.now i c.index-dist-block.result
-    (omega (arith, c.requires.sized)) c.index-dist-block.is in
-    let reach = key_reaches kind c.args.dist.now c.args.right.now i c.index-dist-block.result
+    let far = known_at kind c.requires.owners c.args.dist.now refl i (c.requires.had i member)
+    c.index-dist-first.result c.index-dist-first.is in
+    let reach = key_reaches kind d c.args.right.now i c.index-dist-first.result
     c.index-right-block.result c.exact_difference-lowest.result in-right far c.index-right-block.is
     c.exact_difference-lowest.ensures.bound in (
       tt,
       tt,
       rw c.into_iter-c-iterator.ensures.into_iter_gives
           (looking_none (kind.meaning offer.shift) (columns_at kind offer.costs.now) offer.from
-          (has c.args.set) (has offer.to) (columns_at kind c.args.dist.now) (at c.args.via.now)),
+          (has c.args.set) (has offer.to) d (at c.args.via.now)),
       rw c.into_iter-c-iterator.ensures.into_iter_gives
-          (nearing_none (has c.args.set) (weight_at kind c.args.right.now)
-          (weight_at kind c.args.dist.now) i
+          (nearing_none (has c.args.set) (weight_at kind c.args.right.now) (λ j. weight (d j)) i
           (weight (kind.meaning c.exact_difference-lowest.result))
           member
-          (key_weighs kind c.args.dist.now c.args.right.now i c.index-dist-block.result
+          (key_weighs kind d c.args.right.now i c.index-dist-first.result
           c.index-right-block.result c.exact_difference-lowest.result in-right far
           c.index-right-block.is c.exact_difference-lowest.ensures.sum)),
       reach DISTANCE_LIMIT INNER_PRICE_LIMIT (c.requires.far i member) (c.requires.priced i inside)
@@ -73,12 +74,15 @@ offer_one-far-requires g c =
     let i = c.in-Some.c in
     let member = c.loop-c.invariant.3.part i c.in-Some.ensures.steps.member in
     let waits = (c.loop-c.invariant.2.waits i c.in-Some.ensures.steps.member).0 in
+    let d = distances g.K.Cost c.args.holders.now c.loop-c.dist in
     record {
       modest = c.requires.modest;
-      sized = c.loop-c.auto.dist ∙ c.requires.sized;
       inside = c.requires.inside i member;
-      known = within_more DISTANCE_LIMIT HALF_RAIL (columns_at g.K.Cost c.loop-c.dist i)
-          (omega arith) (subst (AreWithin DISTANCE_LIMIT) (sym waits) (c.requires.far i member));
+      had = c.requires.had i member;
+      owners = subst (λ (z : ℕ). HaveOwners z c.args.holders.now) (sym c.loop-c.auto.dist)
+          c.requires.owners;
+      known = within_more DISTANCE_LIMIT HALF_RAIL (d i) (omega arith)
+          (subst (AreWithin DISTANCE_LIMIT) (sym waits) (c.requires.far i member));
     }
 
 pub exact_difference-key-requires : goal.exact_difference-key-requires
@@ -88,8 +92,9 @@ exact_difference-key-requires g c =
     let member = c.loop-c.invariant.3.part i c.in-Some.ensures.steps.member in
     let waits = (c.loop-c.invariant.2.waits i c.in-Some.ensures.steps.member).0 in
     let inside = c.requires.inside c.in-Some.c member in
+    let d = distances kind c.args.holders.now c.loop-c.dist in
     let far = c.offer_one-far.ensures.bound SHIFT_LIMIT c.requires.modest.shift (omega arith)
-    (within_more DISTANCE_LIMIT (SHIFT_LIMIT + COST_LIMIT) (columns_at kind c.loop-c.dist i)
+    (within_more DISTANCE_LIMIT (SHIFT_LIMIT + COST_LIMIT) (d i)
     (omega arith) (subst (AreWithin DISTANCE_LIMIT) (sym waits) (c.requires.far i member))) in
     record {
       first = within_more (SHIFT_LIMIT + COST_LIMIT) HALF_RAIL (kind.meaning c.offer_one-far.result)
@@ -108,10 +113,12 @@ is_less-requires g c =
     let waits = (c.loop-c.invariant.2.waits i c.in-Some.ensures.steps.member).0 in
     let inside = c.requires.inside c.in-Some.c member in
     let one = c.offer_one-far.ensures in
+    let d = distances kind c.args.holders.now c.loop-c.dist in
     let far = one.bound SHIFT_LIMIT c.requires.modest.shift (omega arith)
-    (within_more DISTANCE_LIMIT (SHIFT_LIMIT + COST_LIMIT) (columns_at kind c.loop-c.dist i)
+    (within_more DISTANCE_LIMIT (SHIFT_LIMIT + COST_LIMIT) (d i)
     (omega arith) (subst (AreWithin DISTANCE_LIMIT) (sym waits) (c.requires.far i member))) in
-    let reach = key_reaches kind c.offer_one-far.new.dist c.args.right.now i c.offer_one-far.result
+    let reach = key_reaches kind (distances kind c.args.holders.now c.offer_one-far.new.dist)
+    c.args.right.now i c.offer_one-far.result
     c.index-right-c.result c.exact_difference-key.result (omega (arith, c.requires.rights))
     one.answer c.index-right-c.is c.exact_difference-key.ensures.bound in
     record {
@@ -128,33 +135,34 @@ loop-c-preserved-then-is_less g c =
     let kind = g.K.Cost in
     let offer = c.args.offer.now in
     let i = c.in-Some.c in
-    let member = c.loop-c.invariant.3.part i c.in-Some.ensures.steps.member in
-    let waits = (c.loop-c.invariant.2.waits i c.in-Some.ensures.steps.member).0 in
+    let step = c.in-Some.ensures.steps in
+    let member = c.loop-c.invariant.3.part i step.member in
+    let waits = (c.loop-c.invariant.2.waits i step.member).0 in
     let inside = c.requires.inside c.in-Some.c member in
     let in-right : c.in-Some.c < length c.args.right.now = omega (arith, c.requires.rights) in
     let one = c.offer_one-far.ensures in
+    let d = distances kind c.args.holders.now c.loop-c.dist in
+    let d' = distances kind c.args.holders.now c.offer_one-far.new.dist in
     let far = one.bound SHIFT_LIMIT c.requires.modest.shift (omega arith)
-    (within_more DISTANCE_LIMIT (SHIFT_LIMIT + COST_LIMIT) (columns_at kind c.loop-c.dist i)
+    (within_more DISTANCE_LIMIT (SHIFT_LIMIT + COST_LIMIT) (d i)
     (omega arith) (subst (AreWithin DISTANCE_LIMIT) (sym waits) (c.requires.far i member))) in
-    let reach = key_reaches kind c.offer_one-far.new.dist c.args.right.now i c.offer_one-far.result
+    let reach = key_reaches kind d' c.args.right.now i c.offer_one-far.result
     c.index-right-c.result c.exact_difference-key.result in-right
     one.answer c.index-right-c.is c.exact_difference-key.ensures.bound in
-    let is = key_weighs kind c.offer_one-far.new.dist c.args.right.now i c.offer_one-far.result
+    let is = key_weighs kind d' c.args.right.now i c.offer_one-far.result
     c.index-right-c.result c.exact_difference-key.result in-right
     one.answer c.index-right-c.is c.exact_difference-key.ensures.sum in (
       tt,
       tt,
       looking_one (kind.meaning offer.shift) (columns_at kind offer.costs.now) offer.from
-          (has c.args.set) (has offer.to) (columns_at kind c.args.dist.now) (at c.args.via.now)
-          (has c.loop-c.c-iterator) (has c.next.new.self) i c.in-Some.ensures.steps.others
-          c.in-Some.ensures.steps.member member (columns_at kind c.loop-c.dist)
-          (at c.loop-c.via) c.loop-c.invariant.2 (columns_at kind c.offer_one-far.new.dist)
+          (has c.args.set) (has offer.to) (distances kind c.args.holders.now c.args.dist.now)
+          (at c.args.via.now) (has c.loop-c.c-iterator) (has c.next.new.self) i step.others
+          step.member member d (at c.loop-c.via) c.loop-c.invariant.2 d'
           (at c.offer_one-far.new.via) one.others one.offered one.bound,
-      nearing_take (has c.args.set) (weight_at kind c.args.right.now) (weight_at kind c.loop-c.dist)
-          (weight_at kind c.offer_one-far.new.dist) (has c.loop-c.c-iterator)
-          (has c.next.new.self) i c.in-Some.ensures.steps.others c.in-Some.ensures.steps.member
-          c.loop-c.block (weight (kind.meaning c.loop-c.lowest)) c.loop-c.invariant.3
-          (λ j ne. ap weight (one.others j ne).0)
+      nearing_take (has c.args.set) (weight_at kind c.args.right.now) (λ j. weight (d j))
+          (λ j. weight (d' j)) (has c.loop-c.c-iterator) (has c.next.new.self) i step.others
+          step.member c.loop-c.block (weight (kind.meaning c.loop-c.lowest))
+          c.loop-c.invariant.3 (λ j ne. ap weight (one.others j ne).0)
           (weight (kind.meaning c.exact_difference-key.result)) is
           (c.is_less.ensures.less c.if-is_less.true),
       within_more (SHIFT_LIMIT + COST_LIMIT + INNER_PRICE_LIMIT) KEY_LIMIT
@@ -165,20 +173,16 @@ loop-c-preserved-then-is_less g c =
     )
 
 -- where no lesser key was found, the best so far is at the distance it had
-still_there : {K : Type 0} (kind : Ghosts K) (dist dist' right : List K) (block i : ℕ) (k k' : ℤ)
-    → ((j : ℕ) → (j ≡ i → ⊥) → columns_at kind dist' j ≡ columns_at kind dist j)
-    → (columns_at kind dist' i ≡ columns_at kind dist i)
-    ⊎ (weight_at kind dist' i <ℤ weight_at kind dist i)
-    → k ≡ weight_at kind dist block -ℤ weight_at kind right block
-    → k' ≡ weight_at kind dist' i -ℤ weight_at kind right i → k ≤ℤ k'
-    → columns_at kind dist' block ≡ columns_at kind dist block
-still_there kind dist dist' right block i k k' others nearer is is' le = ⊎_elim
+still_there : (d d' : ℕ → List ℤ) (v : ℕ → ℤ) (block i : ℕ) (k k' : ℤ)
+    → ((j : ℕ) → (j ≡ i → ⊥) → d' j ≡ d j) → (d' i ≡ d i) ⊎ (weight (d' i) <ℤ weight (d i))
+    → k ≡ weight (d block) -ℤ v block → k' ≡ weight (d' i) -ℤ v i → k ≤ℤ k'
+    → d' block ≡ d block
+still_there d d' v block i k k' others nearer is is' le = ⊎_elim
     (λ (e : block ≡ i). ⊎_elim
-    (λ (same : columns_at kind dist' i ≡ columns_at kind dist i).
-    subst (λ (z : ℕ). columns_at kind dist' z ≡ columns_at kind dist z) (sym e) same)
-    (λ (less : weight_at kind dist' i <ℤ weight_at kind dist i).
-    let x : weight_at kind dist block ≡ weight_at kind dist i = ap (weight_at kind dist) e in
-    let y : weight_at kind right block ≡ weight_at kind right i = ap (weight_at kind right) e in
+    (λ (same : d' i ≡ d i). subst (λ (z : ℕ). d' z ≡ d z) (sym e) same)
+    (λ (less : weight (d' i) <ℤ weight (d i)).
+    let x : weight (d block) ≡ weight (d i) = ap (λ z. weight (d z)) e in
+    let y : v block ≡ v i = ap v e in
     absurd (omega (arith, ints)))
     nearer)
     (λ (ne : block ≡ i → ⊥). others block ne)
@@ -188,29 +192,30 @@ pub loop-c-preserved : goal.loop-c-preserved
 loop-c-preserved g c =
     let kind = g.K.Cost in
     let offer = c.args.offer.now in
+    let v = weight_at kind c.args.right.now in
     let i = c.in-Some.c in
-    let member = c.loop-c.invariant.3.part i c.in-Some.ensures.steps.member in
+    let step = c.in-Some.ensures.steps in
+    let member = c.loop-c.invariant.3.part i step.member in
     let inside = c.requires.inside c.in-Some.c member in
     let one = c.offer_one-far.ensures in
-    let is = key_weighs kind c.offer_one-far.new.dist c.args.right.now i c.offer_one-far.result
+    let d = distances kind c.args.holders.now c.loop-c.dist in
+    let d' = distances kind c.args.holders.now c.offer_one-far.new.dist in
+    let is = key_weighs kind d' c.args.right.now i c.offer_one-far.result
     c.index-right-c.result c.exact_difference-key.result (omega (arith, c.requires.rights))
     one.answer c.index-right-c.is c.exact_difference-key.ensures.sum in
     let kept = c.is_less.ensures.not_less c.if-is_less.false in
-    let same = still_there kind c.loop-c.dist c.offer_one-far.new.dist c.args.right.now
-    c.loop-c.block i (weight (kind.meaning c.loop-c.lowest))
+    let same = still_there d d' v c.loop-c.block i (weight (kind.meaning c.loop-c.lowest))
     (weight (kind.meaning c.exact_difference-key.result)) (λ j ne. (one.others j ne).0) one.nearer
     c.loop-c.invariant.3.is is kept in (
       tt,
       tt,
       looking_one (kind.meaning offer.shift) (columns_at kind offer.costs.now) offer.from
-          (has c.args.set) (has offer.to) (columns_at kind c.args.dist.now) (at c.args.via.now)
-          (has c.loop-c.c-iterator) (has c.next.new.self) i c.in-Some.ensures.steps.others
-          c.in-Some.ensures.steps.member member (columns_at kind c.loop-c.dist)
-          (at c.loop-c.via) c.loop-c.invariant.2 (columns_at kind c.offer_one-far.new.dist)
+          (has c.args.set) (has offer.to) (distances kind c.args.holders.now c.args.dist.now)
+          (at c.args.via.now) (has c.loop-c.c-iterator) (has c.next.new.self) i step.others
+          step.member member d (at c.loop-c.via) c.loop-c.invariant.2 d'
           (at c.offer_one-far.new.via) one.others one.offered one.bound,
-      nearing_keep (has c.args.set) (weight_at kind c.args.right.now) (weight_at kind c.loop-c.dist)
-          (weight_at kind c.offer_one-far.new.dist) (has c.loop-c.c-iterator)
-          (has c.next.new.self) i c.in-Some.ensures.steps.others c.in-Some.ensures.steps.member
+      nearing_keep (has c.args.set) v (λ j. weight (d j)) (λ j. weight (d' j))
+          (has c.loop-c.c-iterator) (has c.next.new.self) i step.others step.member
           c.loop-c.block (weight (kind.meaning c.loop-c.lowest)) c.loop-c.invariant.3
           (λ j ne. ap weight (one.others j ne).0) (ap weight same) (omega (arith, ints)),
       c.loop-c.invariant.4,
@@ -226,12 +231,7 @@ returns g c =
       others = looking.outside;
       bound = λ b j s le old. looking.near j b s le old;
       found = record {
-        inside = omega (
-          arith,
-          c.requires.inside c.loop-c.block nearing.member,
-          c.requires.sized,
-          c.loop-c.auto.dist,
-        );
+        inside = omega (arith, c.requires.rights, c.requires.inside c.loop-c.block nearing.member);
         nearest = record {
           member = nearing.member;
           least = λ j s. nearing.least j s (c.in-None.ensures.steps j);

@@ -1,5 +1,5 @@
 -- The right block takes the way that it is offered only where that is less than the one it has.
-use Rattle.std.proofs.Common.{◌≡◌, ◌+◌, ◌<◌, length, set, ◌+ℤ◌, sym, ap, ◌∙◌, subst, inr, arith}
+use Rattle.std.proofs.Common.{◌≡◌, ◌+◌, set, ◌+ℤ◌, sym, ap, ◌∙◌, refl, subst, inr, arith}
 use Rattle.std.proofs.lemmas.List.{get_or-set_same, get_or-set_other}
 use Rattle.std.proofs.lemmas.Int.{ints}
 use Rattle.std.proofs.lemmas.Bool.{both_ways}
@@ -8,24 +8,32 @@ use Rattle.cost.specs.Columns.{AreWithin}
 use Rattle.cost.proofs.Exact.{within_more}
 use Rattle.cost.specs.Weights.{weight}
 use Rattle.blockset.specs.Has.{has}
-use Rattle.tables.proofs.Filling.{value_at}
+use Rattle.pairing.specs.Grid.{at}
 use Rattle.assign.specs.declared.limits.TheConstants.{SHIFT_LIMIT}
 use Rattle.assign.specs.Weighed.{weight_at}
-use Rattle.assign.proofs.Entries.{put_same, put_other, entry_is}
+use Rattle.assign.specs.Offers.{distances}
+use Rattle.assign.proofs.Entries.{entry_is}
+use Rattle.assign.proofs.Owners.{known_at, store_same, store_other}
 use Rattle.assign.proofs.search.offer_one.Goals as goal
 
-pub is_less-requires-clause-first : goal.is_less-requires-clause-first
-is_less-requires-clause-first g c =
+pub is_less-requires : goal.is_less-requires
+is_less-requires g c =
     let kind = g.K.Cost in
-    let costs = c.args.offer.now.costs.now in
+    let offer = c.args.offer.now in
     let i = c.args.c in
     let member = sym c.contains.ensures ∙ c.if-not-contains.false in
-    let cost-is = entry_is kind costs i c.index-offer-c.result c.requires.inside
+    let cost-is = entry_is kind offer.costs.now i c.index-offer-c.result c.requires.inside
     c.index-offer-c.is in
-    within_more (SHIFT_LIMIT + COST_LIMIT) HALF_RAIL (kind.meaning c.exact_sum-way.result)
-    (omega arith)
-    (c.exact_sum-way.ensures.bound SHIFT_LIMIT COST_LIMIT c.requires.modest.shift
-    (subst (AreWithin COST_LIMIT) (sym cost-is) (c.requires.modest.costs i member)) (omega arith))
+    record {
+      first = within_more (SHIFT_LIMIT + COST_LIMIT) HALF_RAIL (kind.meaning c.exact_sum-way.result)
+          (omega arith)
+          (c.exact_sum-way.ensures.bound SHIFT_LIMIT COST_LIMIT c.requires.modest.shift
+          (subst (AreWithin COST_LIMIT) (sym cost-is) (c.requires.modest.costs i member))
+          (omega arith));
+      second = subst (AreWithin HALF_RAIL)
+          (sym (known_at kind c.requires.owners c.args.dist.now refl i c.requires.had
+          c.index-dist-l.result c.index-dist-l.is)) c.requires.known;
+    }
 
 pub returns : goal.returns
 returns g c =
@@ -33,17 +41,17 @@ returns g c =
     let i = c.args.c in
     let x = c.exact_sum-way.result in
     let member = sym c.contains.ensures ∙ c.if-not-contains.false in
-    let within-dist : c.args.c < length c.args.dist.now =
-    omega (arith, c.requires.sized, c.requires.inside) in
-    let here = put_same kind c.args.dist.now i x within-dist in
+    let here = store_same kind c.requires.owners c.args.dist.now refl i c.requires.had x in
     let offer = c.args.offer.now in
     let cost-is = entry_is kind offer.costs.now i c.index-offer-c.result c.requires.inside
     c.index-offer-c.is in
     let old = ap weight
-    (value_at kind c.args.dist.now i c.index-dist-c.result within-dist c.index-dist-c.is) in
+    (known_at kind c.requires.owners c.args.dist.now refl i c.requires.had c.index-dist-l.result
+    c.index-dist-l.is) in
     let new = ap weight here in
     let less = c.is_less.ensures.less c.if-not-is_less.false in
-    let w-here : weight_at kind (set c.args.dist.now i x) i ≡ weight (kind.meaning offer.shift)
+    let w-here : weight (distances kind c.args.holders.now
+    (set c.args.dist.now (at c.args.holders.now.owner i) x) i) ≡ weight (kind.meaning offer.shift)
     +ℤ weight_at kind offer.costs.now i = new ∙ c.exact_sum-way.ensures.sum
     ∙ ap (λ z. weight (kind.meaning offer.shift) +ℤ weight z) cost-is in
     record {
@@ -54,7 +62,7 @@ returns g c =
         less = λ _ _. omega (arith, ints);
       };
       others = λ j ne. (
-        put_other kind c.args.dist.now i j x ne,
+        store_other kind c.requires.owners c.args.dist.now refl i c.requires.had x j ne,
         get_or-set_other c.args.via.now i j offer.from 0 ne,
       );
       answer = sym here;

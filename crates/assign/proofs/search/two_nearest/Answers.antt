@@ -13,7 +13,7 @@ use Rattle.blockset.specs.Has.{has}
 use Rattle.blockset.proofs.Removing.{still_in, gone}
 use Rattle.assign.specs.declared.limits.TheConstants.{DISTANCE_LIMIT, KEY_LIMIT, INNER_PRICE_LIMIT}
 use Rattle.assign.specs.declared.tree.Nearby.{Nearby}
-use Rattle.tables.specs.Said.{AreValuesWithin}
+use Rattle.tables.specs.Said.{AreValuesWithin, columns_at}
 use Rattle.assign.specs.Weighed.{weight_at, BoundedOn}
 use Rattle.assign.specs.Offers.{KeyReach}
 use Rattle.assign.proofs.Seconding.{Seconding, seconding_first, seconding_second, seconding_keep}
@@ -25,12 +25,12 @@ module _ {K : Type 0} (kind : Ghosts K) (set : ℕ → Bool) (dist right : List 
     (inside : (c : ℕ) → set c ≡ true → c < length dist)
     (far : BoundedOn kind DISTANCE_LIMIT set dist)
     (priced : AreValuesWithin kind INNER_PRICE_LIMIT (length dist) right) where
-  near_key : (i : ℕ) (key : K) → set i ≡ true → KeyReach kind right dist i key
+  near_key : (i : ℕ) (key : K) → set i ≡ true → KeyReach kind right (columns_at kind dist) i key
       → AreWithin KEY_LIMIT (kind.meaning key)
   near_key i key s reach = reach DISTANCE_LIMIT INNER_PRICE_LIMIT (far i s) (priced i (inside i s))
       (omega arith)
 
-  half_key : (i : ℕ) (key : K) → set i ≡ true → KeyReach kind right dist i key
+  half_key : (i : ℕ) (key : K) → set i ≡ true → KeyReach kind right (columns_at kind dist) i key
       → AreWithin HALF_RAIL (kind.meaning key)
   half_key i key s reach = within_more KEY_LIMIT HALF_RAIL (kind.meaning key) (omega arith)
       (near_key i key s reach)
@@ -106,8 +106,8 @@ loop-c-init g c =
     λ x y. weight (kind.meaning x.key) ≤ℤ weight (kind.meaning y.key)
     → Seconding set v d rest x.block (weight (kind.meaning x.key)) y.block
     (weight (kind.meaning y.key))
-    × KeyReach kind c.args.right.now c.args.dist.now x.block x.key
-    × KeyReach kind c.args.right.now c.args.dist.now y.block y.key in
+    × KeyReach kind c.args.right.now (columns_at kind c.args.dist.now) x.block x.key
+    × KeyReach kind c.args.right.now (columns_at kind c.args.dist.now) y.block y.key in
     let known = in_order Known (record { block = a; key = c.key_of.result })
     (record { block = b; key = c.key_of-2.result }) c.in_order-two.result.near
     c.in_order-two.result.next c.in_order-two.ensures.both
@@ -236,7 +236,7 @@ returns g c =
     let k' = weight (kind.meaning c.loop-c.next_key) in
     record {
       near = rw c.of.ensures.near (record {
-        inside = c.requires.inside c.loop-c.near seen.member;
+        inside = omega (arith, c.requires.sized, c.requires.inside c.loop-c.near seen.member);
         nearest = seconded_best set v d (has c.loop-c.c-iterator) c.in-None.ensures.steps
             c.loop-c.near k c.loop-c.next k' seen;
         key = seen.is;
@@ -246,7 +246,7 @@ returns g c =
         reach = c.loop-c.invariant.3;
       });
       next = rw (c.of.ensures.near, c.of.ensures.next) (record {
-        inside = c.requires.inside c.loop-c.next seen.member';
+        inside = omega (arith, c.requires.sized, c.requires.inside c.loop-c.next seen.member');
         nearest = seconded_next set v d (has c.loop-c.c-iterator) c.in-None.ensures.steps
             c.loop-c.near k c.loop-c.next k' seen;
         key = seen.is';
