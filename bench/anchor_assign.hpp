@@ -44,6 +44,22 @@ static inline void reduce_columns(const Value *costs, Pairing<N, Value> &p, int 
     }
 }
 
+// Whether so few left blocks are wanted that their right blocks' prices are far from those in the end.
+template <int N> static inline bool wants_few(const int *wanted) {
+    int count = 0;
+    for (int l = 0; l < N; ++l) count += wanted[l] > 0;
+    return 2 * count < N;
+}
+
+// Nobody is paired, and all prices are zero.
+template <int N, class Value> static inline void start_at_zero(Pairing<N, Value> &p) {
+    for (int k = 0; k < N; ++k) {
+        p.partner[k] = p.owner[k] = NONE;
+        p.price[k] = 0;
+        p.free[p.free_count++] = k;
+    }
+}
+
 // Where a left block is wanted by one right block alone, that one becomes as cheap as it can
 // without being given up. The left blocks that no right block wants are free.
 template <int N, class Value>
@@ -146,7 +162,8 @@ template <int N, class Value>
 static inline void assign(const Value *costs, Pairing<N, Value> &p) {
     int wanted[N];
     reduce_columns(costs, p, wanted);
-    transfer(costs, p, wanted);
+    if (wants_few<N>(wanted)) start_at_zero(p);
+    else transfer(costs, p, wanted);
     for (int turn = 0; turn < 2; ++turn) reduce_rows(costs, p);
     for (int k = 0; k < p.free_count; ++k) search(costs, p, p.free[k]);
 }

@@ -3,7 +3,7 @@
 -- Idea (Dijkstra's): beyond their prices the distances only grow from turn to turn, since a step
 -- from a taken right block along its left block never leads to a lesser one; that is what it means
 -- that the prices go with the pairing. So what is taken keeps its distance for good.
-use Rattle.std.proofs.Common.{◌≡◌, ℕ, ◌+◌, ◌<◌, ◌≤◌, true, false, ◌⊎◌, ℤ, ◌+ℤ◌, ◌≤ℤ◌, sym, ap}
+use Rattle.std.proofs.Common.{◌≡◌, ℕ, ◌+◌, ◌<◌, ◌≤◌, true, false, ◌⊎◌, ◌+ℤ◌, ◌≤ℤ◌, sym, ap}
 use Rattle.std.proofs.Common.{IfSome, ◌∙◌, subst, inl, inr, ⊎_elim, arith}
 use Rattle.std.proofs.lemmas.Int.{ints}
 use Rattle.std.proofs.lemmas.Bool.{cases_eq, cases_lt}

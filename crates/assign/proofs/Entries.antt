@@ -10,12 +10,16 @@ use Rattle.cost.specs.declared.TheConstants.{COST_LIMIT}
 use Rattle.cost.specs.Columns.{AreWithin}
 use Rattle.cost.specs.Weights.{weight}
 use Rattle.blockset.specs.declared.BlockSet.{BlockSet}
+use Rattle.blockset.specs.Has.{has}
 use Rattle.pairing.specs.Places.{place_of}
 use Rattle.pairing.specs.Rows.{holds}
 use Rattle.cost.proofs.Exact.{within_more}
 use Rattle.tables.specs.Said.{columns_at}
-use Rattle.tables.proofs.Filling.{value_at, columns_at_lem}
+use Rattle.tables.proofs.Filling.{value_at, row_length, columns_at_lem}
+use Rattle.assign.specs.declared.limits.TheConstants.{SHIFT_LIMIT}
+use Rattle.assign.specs.declared.search.Offer.{Offer}
 use Rattle.assign.specs.Weighed.{weight_at, BoundedOn, SearchTables}
+use Rattle.assign.specs.Offers.{IsModest}
 
 module _ {K : Type 0} (kind : Ghosts K) where
   pub put_same : (xs : List K) (i : ℕ) (y : K) → i < length xs
@@ -70,3 +74,17 @@ module _ {K : Type 0} {kind : Ghosts K} {rows : List BlockSet} {costs : List K}
 
   pub part_modest : BoundedOn kind COST_LIMIT (holds rows l) (part_of (length rows) l costs)
   part_modest c t = subst (AreWithin COST_LIMIT) (sym (part_is c t)) (lent.modest l c room t)
+
+  -- what it offers to right blocks that it stands with is modest
+  pub row_modest : {offer : Offer K} → offer.from ≡ l
+      → offer.costs.now ≡ part_of (length rows) l costs
+      → AreWithin SHIFT_LIMIT (kind.meaning offer.shift)
+      → ((c : ℕ) → has offer.to c ≡ true → holds rows l c ≡ true) → IsModest kind offer
+  row_modest from row shift to = record {
+    few = subst (λ (xs : List K). length xs ≤ 64) (sym row)
+        (omega (arith, row_length costs (length rows) l room lent.square, lent.few));
+    block = omega (arith, from, room, lent.few);
+    costs = λ c t. subst (λ xs. AreWithin COST_LIMIT (columns_at kind xs c)) (sym row)
+        (part_modest c (to c t));
+    shift = shift;
+  }

@@ -23,6 +23,7 @@ pub mod Cheaply
 pub mod Solving
 pub mod Pricing
 pub mod Sweeping
+pub mod Resting
 pub mod Firsts
 pub mod Looking
 pub mod Nearer

@@ -1,7 +1,8 @@
 -- The offers of one left block, made in two parts: to right blocks that are reached for the first
 -- time, and to those that were reached before.
 -- Idea: a right block is in one part at most, and the other leaves it as it is.
-use Rattle.std.proofs.Common.{◌≡◌, ℕ, Bool, true, false, not, ◌&&◌, ◌⊎◌, List, ℤ, ◌-ℤ◌, sym, ap, subst}
+use Rattle.std.proofs.Common.{◌≡◌, ℕ, Bool, true, false, not, ◌&&◌, ◌⊎◌, List, ℤ, ◌-ℤ◌, sym, ap}
+use Rattle.std.proofs.Common.{subst}
 use Rattle.std.proofs.Common.{◌∙◌, Option, Some, None, MatchOption, arith}
 use Rattle.std.proofs.lemmas.Bool.Decides.{nat_tests}
 use Rattle.std.proofs.lemmas.Int.{ints}

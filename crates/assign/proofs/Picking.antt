@@ -5,7 +5,7 @@
 -- needed: a free one that is offered less than the nearest has is the nearest then.
 use Rattle.std.proofs.Common.{◌≡◌, ℕ, Bool, true, false, ◌&&◌, ◌||◌, ◌⊎◌, List, ℤ, ◌+ℤ◌, ◌<ℤ◌}
 use Rattle.std.proofs.Common.{◌≤ℤ◌}
-use Rattle.std.proofs.Common.{Option, Some, None, IfSome, MatchOption, sym, refl, ap, ◌∙◌, subst}
+use Rattle.std.proofs.Common.{Option, Some, None, IfSome, MatchOption, sym, refl, ap, ◌∙◌}
 use Rattle.std.proofs.Common.{inl, inr, ⊎_elim, arith}
 use Rattle.std.proofs.Math.Bool.{and-false}
 use Rattle.std.proofs.lemmas.Int.{ints, by_lt_z}
@@ -183,101 +183,101 @@ module _ {K : Type 0} {kind : Ghosts K} {holders : Holders} {right dist dist' : 
 
   module _ (seen' : ℕ → Bool) (joined : (c : ℕ) → seen' c ≡ (seen c || to c))
     where
-    was_seen : (c : ℕ) → seen' c ≡ true → to c ≡ false → seen c ≡ true
-    was_seen c r f = ⊎_elim (λ x. x) (λ x. absurd (both_ways (to c) f x))
-        (or_cases (seen c) (to c) (sym (joined c) ∙ r))
+      was_seen : (c : ℕ) → seen' c ≡ true → to c ≡ false → seen c ≡ true
+      was_seen c r f = ⊎_elim (λ x. x) (λ x. absurd (both_ways (to c) f x))
+          (or_cases (seen c) (to c) (sym (joined c) ∙ r))
 
-    -- no free right block is nearer than the nearest one was, or than it is offered to be
-    far_enough : (k : ℤ)
-        → ((c : ℕ) → seen c ≡ true → held c ≡ false → (k +ℤ weight_at kind right c) ≤ℤ d c)
-        → ((c : ℕ) → to c ≡ true → held c ≡ false → (k +ℤ weight_at kind right c) ≤ℤ way c)
-        → (c : ℕ) → seen' c ≡ true → held c ≡ false
-        → (k +ℤ weight_at kind right c) ≤ℤ dist_then c
-    far_enough k before now c r f = ⊎_elim
-        (λ (t : to c ≡ true). ⊎_elim
-        (λ w. omega (arith, ints, before c w.0 f, w.1))
-        (λ w. omega (arith, ints, now c t f, w.0))
-        ((then_offered c).change t))
-        (λ (n : to c ≡ false). omega
-        (arith, ints, before c (was_seen c r n) f, ((then_offered c).others n).0))
-        (cases_Bool (to c))
+      -- no free right block is nearer than the nearest one was, or than it is offered to be
+      far_enough : (k : ℤ)
+          → ((c : ℕ) → seen c ≡ true → held c ≡ false → (k +ℤ weight_at kind right c) ≤ℤ d c)
+          → ((c : ℕ) → to c ≡ true → held c ≡ false → (k +ℤ weight_at kind right c) ≤ℤ way c)
+          → (c : ℕ) → seen' c ≡ true → held c ≡ false
+          → (k +ℤ weight_at kind right c) ≤ℤ dist_then c
+      far_enough k before now c r f = ⊎_elim
+          (λ (t : to c ≡ true). ⊎_elim
+          (λ w. omega (arith, ints, before c w.0 f, w.1))
+          (λ w. omega (arith, ints, now c t f, w.0))
+          ((then_offered c).change t))
+          (λ (n : to c ≡ false). omega
+          (arith, ints, before c (was_seen c r n) f, ((then_offered c).others n).0))
+          (cases_Bool (to c))
 
-    -- what is nearer than the nearest free one is nearer than all
-    nearer_than : (k : ℤ) → (f : Option (Nearby K)) → HasFree kind holders right seen f
-        → IfSome f (IsNearestFree kind holders right seen via d came)
-        → IfSome f (λ old. k <ℤ weight (kind.meaning old.key)) → (c : ℕ) → seen c ≡ true
-        → held c ≡ false → (k +ℤ weight_at kind right c) <ℤ d c
-    nearer_than k None none _ _ c r f = absurd (both_ways (held c) f (none c r))
-    nearer_than k (Some old) _ near less c r f = omega (arith, ints, near.least c r f, less)
+      -- what is nearer than the nearest free one is nearer than all
+      nearer_than : (k : ℤ) → (f : Option (Nearby K)) → HasFree kind holders right seen f
+          → IfSome f (IsNearestFree kind holders right seen via d came)
+          → IfSome f (λ old. k <ℤ weight (kind.meaning old.key)) → (c : ℕ) → seen c ≡ true
+          → held c ≡ false → (k +ℤ weight_at kind right c) <ℤ d c
+      nearer_than k None none _ _ c r f = absurd (both_ways (held c) f (none c r))
+      nearer_than k (Some old) _ near less c r f = omega (arith, ints, near.least c r f, less)
 
-    -- where a free right block was reached from is as it was after the free ones were offered
-    via_kept : (c : ℕ) → held c ≡ false → at via' c ≡ at via₁ c
-    via_kept c f = ((look.made c).others (ap (λ z. to c && z) f ∙ and-false (to c))).1
+      -- where a free right block was reached from is as it was after the free ones were offered
+      via_kept : (c : ℕ) → held c ≡ false → at via' c ≡ at via₁ c
+      via_kept c f = ((look.made c).others (ap (λ z. to c && z) f ∙ and-false (to c))).1
 
-    -- the nearest one that stays is offered no less than it has
-    stays_nearest : (near : Nearby K) → IsFreeOffered kind offer held right free via via₁ near
-        → IsFreeSeen kind holders right seen near
-        → IsNearestFree kind holders right seen via d came near → via₁ ≡ via
-        → IsNearestFree kind holders right seen' via' dist_then via_then near
-    stays_nearest near w is old unchanged =
-        let b = near.block in
-        let same : (dist_then near.block ≡ d near.block)
-        × (via_then near.block ≡ came near.block) = ⊎_elim
-        (λ (t : to near.block ≡ true). ⊎_elim (λ x. (x.1, x.2))
-        (λ x. let y = x.2 is.seen in let z = w.least b t is.free in
-        absurd (omega (arith, ints, y, z, x.0, old.dist)))
-        ((picked b).2.less is.free t))
-        (λ (n : to near.block ≡ false). (then_offered b).others n) (cases_Bool (to b)) in
-        record {
-          dist = same.0 ∙ old.dist;
-          via = same.1 ∙ old.via ∙ sym (ap (λ z. at z b) unchanged) ∙ sym (via_kept b is.free);
-          least = far_enough (weight (kind.meaning near.key)) old.least w.least;
-        }
+      -- the nearest one that stays is offered no less than it has
+      stays_nearest : (near : Nearby K) → IsFreeOffered kind offer held right free via via₁ near
+          → IsFreeSeen kind holders right seen near
+          → IsNearestFree kind holders right seen via d came near → via₁ ≡ via
+          → IsNearestFree kind holders right seen' via' dist_then via_then near
+      stays_nearest near w is old unchanged =
+          let b = near.block in
+          let same : (dist_then near.block ≡ d near.block)
+          × (via_then near.block ≡ came near.block) = ⊎_elim
+          (λ (t : to near.block ≡ true). ⊎_elim (λ x. (x.1, x.2))
+          (λ x. let y = x.2 is.seen in let z = w.least b t is.free in
+          absurd (omega (arith, ints, y, z, x.0, old.dist)))
+          ((picked b).2.less is.free t))
+          (λ (n : to near.block ≡ false). (then_offered b).others n) (cases_Bool (to b)) in
+          record {
+            dist = same.0 ∙ old.dist;
+            via = same.1 ∙ old.via ∙ sym (ap (λ z. at z b) unchanged) ∙ sym (via_kept b is.free);
+            least = far_enough (weight (kind.meaning near.key)) old.least w.least;
+          }
 
-    -- one that is nearer takes what it is offered
-    takes_nearest : (near : Nearby K) → IsFreeOffered kind offer held right free via via₁ near
-        → IsNearerOffer kind offer held right free via via₁ near
-        → IsNearestFree kind holders right seen' via' dist_then via_then near
-    takes_nearest near w new =
-        let b = near.block in
-        let k = weight (kind.meaning near.key) in
-        let all = nearer_than k free look.known look.tells.nearest new.less in
-        let took : (dist_then near.block ≡ way near.block) × (via_then near.block ≡ offer.from) =
-        ⊎_elim
-        (λ x. let y = all b x.0 new.free in let z = (then_offered b).most new.member in
-        absurd (omega (arith, ints, x.1, y, z, new.key)))
-        (λ x. (x.0, x.1)) ((picked b).2.less new.free new.member) in
-        record {
-          dist = took.0 ∙ sym new.key;
-          via = took.1 ∙ sym new.from ∙ sym (via_kept b new.free);
-          least = far_enough k (λ c r f. let y = all c r f in omega (arith, ints, y)) w.least;
-        }
+      -- one that is nearer takes what it is offered
+      takes_nearest : (near : Nearby K) → IsFreeOffered kind offer held right free via via₁ near
+          → IsNearerOffer kind offer held right free via via₁ near
+          → IsNearestFree kind holders right seen' via' dist_then via_then near
+      takes_nearest near w new =
+          let b = near.block in
+          let k = weight (kind.meaning near.key) in
+          let all = nearer_than k free look.known look.tells.nearest new.less in
+          let took : (dist_then near.block ≡ way near.block) × (via_then near.block ≡ offer.from) =
+          ⊎_elim
+          (λ x. let y = all b x.0 new.free in let z = (then_offered b).most new.member in
+          absurd (omega (arith, ints, x.1, y, z, new.key)))
+          (λ x. (x.0, x.1)) ((picked b).2.less new.free new.member) in
+          record {
+            dist = took.0 ∙ sym new.key;
+            via = took.1 ∙ sym new.from ∙ sym (via_kept b new.free);
+            least = far_enough k (λ c r f. let y = all c r f in omega (arith, ints, y)) w.least;
+          }
 
-    nearest_then : (r : Option (Nearby K)) → MatchOption r ((free ≡ None) × (via₁ ≡ via)
-        × ((c : ℕ) → to c ≡ true → held c ≡ true))
-        (IsFreeOffered kind offer held right free via via₁)
-        → IfSome r (IsNearestFree kind holders right seen' via'
-        dist_then via_then)
-    nearest_then None w = tt
-    nearest_then (Some near) w = ⊎_elim
-        (λ same. stays_nearest near w (rw same.0 at look.known) (rw same.0 at look.tells.nearest)
-        same.1)
-        (λ new. takes_nearest near w new) w.choice
+      nearest_then : (r : Option (Nearby K)) → MatchOption r ((free ≡ None) × (via₁ ≡ via)
+          × ((c : ℕ) → to c ≡ true → held c ≡ true))
+          (IsFreeOffered kind offer held right free via via₁)
+          → IfSome r (IsNearestFree kind holders right seen' via'
+          dist_then via_then)
+      nearest_then None w = tt
+      nearest_then (Some near) w = ⊎_elim
+          (λ same. stays_nearest near w (rw same.0 at look.known) (rw same.0 at look.tells.nearest)
+          same.1)
+          (λ new. takes_nearest near w new) w.choice
 
-    pub then_tells : Tells kind holders right dist' seen' via' free'
-        dist_then via_then
-    then_tells = record {
-      dist = λ c r h. ⊎_elim
-          (λ (t : to c ≡ true). ((picked c).2.told h t).0)
-          (λ (n : to c ≡ false). ((then_offered c).others n).0
-          ∙ look.tells.dist c (was_seen c r n) h
-          ∙ sym ((look.made c).others (and_left (to c) (held c) n)).0)
-          (cases_Bool (to c));
-      via = λ c r h. ⊎_elim
-          (λ (t : to c ≡ true). ((picked c).2.told h t).1)
-          (λ (n : to c ≡ false). ((then_offered c).others n).1
-          ∙ look.tells.via c (was_seen c r n) h ∙ sym (via_same c h)
-          ∙ sym ((look.made c).others (and_left (to c) (held c) n)).1)
-          (cases_Bool (to c));
-      nearest = nearest_then free' look.found;
-    }
+      pub then_tells : Tells kind holders right dist' seen' via' free'
+          dist_then via_then
+      then_tells = record {
+        dist = λ c r h. ⊎_elim
+            (λ (t : to c ≡ true). ((picked c).2.told h t).0)
+            (λ (n : to c ≡ false). ((then_offered c).others n).0
+            ∙ look.tells.dist c (was_seen c r n) h
+            ∙ sym ((look.made c).others (and_left (to c) (held c) n)).0)
+            (cases_Bool (to c));
+        via = λ c r h. ⊎_elim
+            (λ (t : to c ≡ true). ((picked c).2.told h t).1)
+            (λ (n : to c ≡ false). ((then_offered c).others n).1
+            ∙ look.tells.via c (was_seen c r n) h ∙ sym (via_same c h)
+            ∙ sym ((look.made c).others (and_left (to c) (held c) n)).1)
+            (cases_Bool (to c));
+        nearest = nearest_then free' look.found;
+      }

@@ -2,12 +2,12 @@
 -- Idea: nothing is reached before. Each right block that a left block stands with takes its offer,
 -- which is just their cost, and the nearest free one is told; no other is reached. The imagined
 -- left block offers all the distance 0, and cleared tables tell that.
-use Rattle.std.proofs.Common.{◌≡◌, ℕ, ◌+◌, ◌<◌, ◌≤◌, Bool, true, false, ◌&&◌, List, length, replicate}
-use Rattle.std.proofs.Common.{ℤ, pos, ◌+ℤ◌, Option, Some, None, IfSome, MatchOption, is_some, sym, refl, ap}
+use Rattle.std.proofs.Common.{◌≡◌, ℕ, ◌+◌, ◌<◌, Bool, true, false, ◌&&◌, List, length, replicate}
+use Rattle.std.proofs.Common.{ℤ, pos, ◌+ℤ◌, Option, Some, None, IfSome, MatchOption, is_some, sym}
+use Rattle.std.proofs.Common.{refl, ap}
 use Rattle.std.proofs.Common.{◌∙◌, ⊎_elim, arith}
 use Rattle.std.proofs.Math.Bool.{and-false}
 use Rattle.std.proofs.lemmas.Int.{ints}
-use Rattle.std.proofs.lemmas.List.{get_or-replicate}
 use Rattle.std.proofs.lemmas.Bool.{both_ways, and_from, cases_Bool}
 use Rattle.cost.specs.declared.Cost.{Ghosts}
 use Rattle.cost.specs.declared.TheConstants.{COST_LIMIT}
@@ -19,9 +19,8 @@ use Rattle.blockset.specs.Has.{has}
 use Rattle.pairing.specs.Grid.{at}
 use Rattle.pairing.specs.Rows.{holds}
 use Rattle.matching.specs.declared.chains.Holders.{Holders}
-use Rattle.assign.specs.declared.limits.TheConstants.{DISTANCE_LIMIT, SHIFT_LIMIT}
+use Rattle.assign.specs.declared.limits.TheConstants.{DISTANCE_LIMIT}
 use Rattle.assign.specs.declared.search.Offer.{Offer}
-use Rattle.assign.specs.declared.tree.Begun.{Begun}
 use Rattle.assign.specs.declared.tree.Nearby.{Nearby}
 use Rattle.assign.specs.Weighed.{weight_at, cost_weight, graph, SearchTables}
 use Rattle.assign.specs.Offers.{IsOffered, IsFreeOffered, distances}
@@ -117,7 +116,7 @@ module _ {K : Type 0} {kind : Ghosts K} {rows : List BlockSet} {costs : List K}
       })
       w.choice
 
-  pub begins_row : (next : Option (Nearby K))
+  begins_row : (next : Option (Nearby K))
       → Begins kind rows costs holders right (from_row (graph kind rows costs) k)
       (record { seen = reached; via = via; free = free; next = next }) dist'
   begins_row next = (
@@ -149,8 +148,11 @@ module _ {K : Type 0} {kind : Ghosts K} {rows : List BlockSet} {costs : List K}
       })
       w.choice
 
-  pub free_row : HasFree kind holders right (has reached) free
-  free_row = free_in free start.found
+  -- so the search begins here, and the nearest free right block is known
+  pub started_row : HasFree kind holders right (has reached) free × ((next : Option (Nearby K))
+      → Begins kind rows costs holders right (from_row (graph kind rows costs) k)
+      (record { seen = reached; via = via; free = free; next = next }) dist')
+  started_row = (free_in free start.found, begins_row)
 
 -- the imagined left block, in cleared tables
 pub begins_all : {K : Type 0} (kind : Ghosts K) (rows : List BlockSet) (costs : List K)

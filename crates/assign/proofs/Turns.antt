@@ -4,7 +4,8 @@
 -- right blocks that are not taken makes those seen. One right block more is taken each turn, so
 -- after n turns all are.
 use Rattle.std.proofs.Common.{◌≡◌, ℕ, ◌+◌, ◌*◌, ◌<◌, ◌≤◌, Bool, true, false, cond, not, ◌&&◌, ◌||◌}
-use Rattle.std.proofs.Common.{eqb, List, length, set, ℤ, ◌+ℤ◌, ◌≤ℤ◌, Option, Some, None, MatchOption, ◌⊎◌}
+use Rattle.std.proofs.Common.{eqb, List, length, set, ℤ, ◌+ℤ◌, ◌≤ℤ◌, Option, Some, None}
+use Rattle.std.proofs.Common.{MatchOption, ◌⊎◌}
 use mathlib.Core.Path.{fun_ext}
 use Rattle.std.proofs.Common.{replicate, sym, refl, ap, ◌∙◌, subst, inl, inr, ⊎_elim, arith}
 use Rattle.std.proofs.Math.Logic.{⊎_swap}
@@ -32,7 +33,7 @@ use Rattle.assign.specs.declared.tree.Begun.{Begun}
 use Rattle.assign.specs.declared.tree.Nearby.{Nearby}
 use Rattle.assign.specs.declared.tree.Tree.{Tree}
 use Rattle.assign.specs.Weighed.{weight_at, cost_weight, graph, SearchTables}
-use Rattle.assign.specs.Offers.{Offered, IsOffered, IsFreeOffered, NearestWithKey, Nearer, distances}
+use Rattle.assign.specs.Offers.{IsOffered, IsFreeOffered, NearestWithKey, Nearer, distances}
 use Rattle.assign.specs.Search.{Start, pairing, course, Grown, Ends}
 use Rattle.assign.specs.Trees.{stage, block_of, waiting, IsFreeSeen, HasFree, HasNext, Tells}
 use Rattle.assign.specs.Trees.{Searches, Begins, HasCome, HasEnded}
@@ -323,13 +324,17 @@ module _ {K : Type 0} {kind : Ghosts K} {rows : List BlockSet} {costs : List K}
         free = free;
       })
       came unheld time = (
-        λ start begins. let w = took_one start begins in
-            (w.0, w.1, w.2, λ out p kept. (
-              in_range,
-              taken_stage,
-              unheld,
-              (t + 1, w.3 out p kept),
-            )),
+        λ start begins. let w = took_one start begins in (
+          w.0,
+          w.1,
+          w.2,
+          λ out p kept. (
+            in_range,
+            taken_stage,
+            unheld,
+            (t + 1, w.3 out p kept),
+          ),
+        ),
         record {
           goal = ap block_of (sym (chosen.goal unheld));
           free = turning.nearest_free;
@@ -394,8 +399,8 @@ module _ {K : Type 0} {kind : Ghosts K} {rows : List BlockSet} {costs : List K}
 
         module _ (d : ℕ → ℤ) (came : ℕ → ℕ)
             (tells : Tells kind holders right dist (has seen) taken.from free d came) where
-          look : IsLook kind holders right dist dist' offer (has seen) taken.from via₁ via' free free'
-              d came
+          look : IsLook kind holders right dist dist' offer (has seen) taken.from via₁ via' free
+              free' d came
           look = record {
             tells = tells;
             known = turning.nearest_free;

@@ -1,9 +1,9 @@
 //! The search for the cheapest way from a left block to a free right block, along alternating
 //! chains: turn by turn the nearest right block is taken, and its left block is looked at.
 //!
-//! A right block that is had lies as far as the left block that has it, so the distances are a table
-//! over left blocks. Of the free right blocks only the nearest matters, since the search ends with
-//! the first free one that is taken.
+//! A right block that is had lies as far as the left block that has it, so the distances are a
+//! table over left blocks. Of the free right blocks only the nearest matters, since the search ends
+//! with the first free one that is taken.
 
 ghost use Rattle.std.specs.Prelude.{◌≡◌, ℕ, ◌<◌, true, false, length, replicate};
 ghost use Rattle.cost.specs.declared.TheConstants.{COST_LIMIT};
@@ -54,15 +54,12 @@ pub fn grow<K: Cost>(
     ensures ended { HasEnded K.Cost (length rows.now) holders.now right.now dist.new result }
 {
     let n = rows.len();
-    let Begun {
-        mut seen,
-        via,
-        mut free,
-        mut next,
-    } = begun;
+    let mut seen = begun.seen;
+    let mut free = begun.free;
+    let mut next = begun.next;
     let mut taken = Reach {
         reached: BlockSet::empty(),
-        from: via,
+        from: begun.via,
         rank: [0u8; SET_WIDTH],
         goal: None,
     };
@@ -89,9 +86,8 @@ pub fn grow<K: Cost>(
         let reached = seen;
         seen = seen.union(to);
         let rest = seen.intersection(holders.held).difference(taken.reached);
-        let via = &mut taken.from;
-        free = offer_free(&offer, holders.held, free, via, right);
-        next = offer_held(&offer, reached, rest, holders, via, dist, right);
+        free = offer_free(&offer, holders.held, free, &mut taken.from, right);
+        next = offer_held(&offer, reached, rest, holders, &mut taken.from, dist, right);
     }
     Tree { seen, taken, free }
 }

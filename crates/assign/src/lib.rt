@@ -1,13 +1,14 @@
 //! Pairing by cost: an optimum pairing, and the greatest prices that prove it one, for every cost
 //! kind.
 //!
-//! Each right block starts at the price of its cheapest pair, and every left block that some right
-//! block is cheapest with is paired at once. The others then take right blocks from one another, as
-//! long as lower prices make up for it, for two steps a left block (augmenting row reduction).
-//! Those that are left out still are paired one at a time, each along the cheapest alternating path
-//! to a free right block (shortest augmenting paths). A last search finds the greatest prices.
-//! There are at most 2n steps and n + 1 searches of at most n turns, and a step or a turn looks at
-//! each right block at most twice: O(n³) steps, whatever the costs.
+//! Either each right block starts at the price of its cheapest pair, and every left block that some
+//! right block is cheapest with is paired at once; or all prices start at zero and nobody is
+//! paired, where the first would pair few. Left blocks that are left out then take right blocks
+//! from one another, as long as lower prices make up for it, for two steps a left block (augmenting
+//! row reduction). Those that are left out still are paired one at a time, each along the cheapest
+//! alternating path to a free right block (shortest augmenting paths). A last search finds the
+//! greatest prices. There are at most 2n steps and n + 1 searches of at most n turns, and a step or
+//! a turn looks at each right block at most twice: O(n³) steps, whatever the costs.
 #![tactic(auto)]
 
 ghost use Rattle.std.specs.Prelude.{◌≡◌, ℕ, ◌≤◌, List, length, MatchOption};
@@ -34,8 +35,8 @@ use blockset::{BlockSet, SET_WIDTH};
 use cost::Cost;
 pub use matching::Shortfall;
 use matching::{Found, pair_most};
-use pairs::{pair_cheapest, pair_rest};
-use prices::{price_cheapest, price_greatest};
+use pairs::{begin, pair_rest};
+use prices::price_greatest;
 use reduction::reduce_rows;
 pub use settling::settle;
 use tables::{Flaw, PairRows, Tables, check_usable};
@@ -113,8 +114,7 @@ fn solve<K: Cost>(
     requires possible { (q : List ℕ) × IsPerfect (length rows.now) (holds rows.now) q }
     ensures { IsSolution K.Cost rows.now costs.now partners.new left.new right.new }
 {
-    let cheapest = price_cheapest(costs, rows, right);
-    let first = pair_cheapest(rows.len(), &cheapest, partners);
+    let first = begin(costs, rows, partners, right);
     let reduced = reduce_rows(costs, rows, first, partners, right);
     let holders = pair_rest(costs, rows, reduced, partners, left, right);
     price_greatest(costs, rows, partners, &holders, left, right);

@@ -1,20 +1,28 @@
-//! The pairing as it grows: the pairs that cost least at once, then one left block at a time.
+//! The pairing as it grows: a start that fits the sheet, then one left block at a time.
 
 ghost use Rattle.std.specs.Prelude.{◌≡◌, ℕ, ◌<◌, ◌≤◌, true, false, List, length};
+ghost use Rattle.cost.specs.declared.TheConstants.{COST_LIMIT};
 ghost use Rattle.blockset.specs.declared.TheConstants.{MOST_BLOCKS};
 ghost use Rattle.blockset.specs.Has.{has};
 ghost use Rattle.pairing.specs.Grid.{at, IsPerfect};
 ghost use Rattle.pairing.specs.Rows.{holds};
+ghost use Rattle.tables.specs.Said.{AreValuesWithin};
 ghost use Rattle.assign.specs.Weighed.{SearchTables};
 ghost use Rattle.matching.specs.Exchange.{without};
 ghost use Rattle.assign.specs.Pairs.{so_far, IsPriced, AreChosen};
 
 use crate::growing::grow_from;
-use crate::prices::lower;
+use crate::prices::{clear, lower, price_cheapest};
 use crate::tree::{Cheapest, FirstPairs, Tree};
 use blockset::{BlockSet, SET_WIDTH};
 use cost::Cost;
 use matching::{Holders, exchange};
+
+/// The left blocks of the sample that tells which start fits, every eighth one.
+const SAMPLED_LEFTS: u64 = 0x0101_0101_0101_0101;
+
+/// So many right blocks are of that sample, the first ones.
+const SAMPLED_RIGHTS: usize = 24;
 
 /// Pairs each left block that some right block is cheapest with, with the first such one.
 pub fn pair_cheapest(n: usize, cheapest: &Cheapest, partners: &mut [u16]) -> FirstPairs
@@ -39,6 +47,47 @@ pub fn pair_cheapest(n: usize, cheapest: &Cheapest, partners: &mut [u16]) -> Fir
     FirstPairs {
         out,
         holders: Holders { held, owner },
+    }
+}
+
+/// Makes the pairs and prices that the rest starts from. Where right blocks are mostly cheapest
+/// with different left blocks, by a sample of both, the pairs that cost least are many, and are
+/// made at once. Else they would be few, at prices far from those in the end: then no pair is made,
+/// and all prices are zero. Which of the two it is matters for the time alone.
+// As a function of its own it leaves the registers of `solve` to the loops that come after it.
+#[inline(never)]
+pub fn begin<K: Cost>(
+    costs: &[K],
+    rows: &[BlockSet],
+    partners: &mut [u16],
+    right: &mut [K],
+) -> FirstPairs
+    requires lent { SearchTables K.Cost rows.now costs.now }
+    requires partnered { length partners.old ≡ length rows.now }
+    requires rights { length right.old ≡ length rows.now }
+    ensures inside { (l : ℕ) → has result.out l ≡ true → l < length rows.now }
+    ensures paired { IsPriced K.Cost rows.now costs.now
+        (so_far (has result.out) partners.new result.holders right.new) }
+    ensures near { AreValuesWithin K.Cost COST_LIMIT (length rows.now) right.new }
+{
+    let n = rows.len();
+    let all = BlockSet::all(n);
+    let from = BlockSet::from_bits(SAMPLED_LEFTS);
+    let sample = price_cheapest(costs, rows, from, BlockSet::all(SAMPLED_RIGHTS), right);
+    let some = pair_cheapest(n, &sample, partners);
+
+    // More than half of the left blocks of the sample, of which one in eight is.
+    if 16 * (n - some.out.len()) > n {
+        let cheapest = price_cheapest(costs, rows, all, all, right);
+        return pair_cheapest(n, &cheapest, partners);
+    }
+    clear(right);
+    FirstPairs {
+        out: all,
+        holders: Holders {
+            held: BlockSet::empty(),
+            owner: [0u8; SET_WIDTH],
+        },
     }
 }
 

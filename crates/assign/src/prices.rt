@@ -1,9 +1,10 @@
 //! Prices of the right blocks: those to begin with, how they fall as left blocks are paired, and
 //! the greatest ones at the end.
 
-ghost use Rattle.std.specs.Prelude.{◌≡◌, ℕ, ◌<◌, true, false, length, replicate, ◌+ℤ◌};
+ghost use Rattle.std.specs.Prelude.{◌≡◌, ℕ, ◌<◌, true, false, length, replicate, ◌+ℤ◌, ◌&&◌};
+ghost use Rattle.std.specs.Prelude.{IsTrue, ◌↔◌, All};
 ghost use Rattle.cost.specs.declared.TheConstants.{COST_LIMIT, PRICE_LIMIT};
-ghost use Rattle.cost.specs.Columns.{AreWithin};
+ghost use Rattle.cost.specs.Columns.{AreWithin, zeros};
 ghost use Rattle.blockset.specs.Has.{has};
 ghost use Rattle.cost.specs.Weights.{weight};
 ghost use Rattle.pairing.specs.Grid.{at, IsPerfect};
@@ -26,17 +27,36 @@ use matching::Holders;
 use tables::fill;
 
 /// Writes zero everywhere.
-fn clear<K: Cost>(table: &mut [K])
+pub fn clear<K: Cost>(table: &mut [K])
     ensures { table.new ≡ replicate (length table.old) K.zero }
 {
     fill(table, K::zero());
 }
 
-/// Makes the price of each right block the least cost that it stands at.
-pub fn price_cheapest<K: Cost>(costs: &[K], rows: &[BlockSet], right: &mut [K]) -> Cheapest
+/// The right blocks of `to` that left block `l` stands with, if it is one of `from`.
+fn row_between(l: usize, rows: &[BlockSet], from: BlockSet, to: BlockSet) -> BlockSet
+    requires { l < length rows.now }
+    ensures { (c : ℕ) → has result c ≡ (holds rows.now l c && (has from l && has to c)) }
+{
+    if from.contains(l) {
+        return rows[l].intersection(to);
+    }
+    BlockSet::empty()
+}
+
+/// Makes the price of each right block of `to` the least cost that it stands at with a left block
+/// of `from`.
+pub fn price_cheapest<K: Cost>(
+    costs: &[K],
+    rows: &[BlockSet],
+    from: BlockSet,
+    to: BlockSet,
+    right: &mut [K],
+) -> Cheapest
     requires lent { SearchTables K.Cost rows.now costs.now }
     requires rights { length right.old ≡ length rows.now }
-    ensures cheapest { AreCheapest (length rows.now) (length rows.now) (holds rows.now)
+    ensures cheapest { AreCheapest (length rows.now) (length rows.now)
+        (λ l c. holds rows.now l c && (has from l && has to c))
         (cost_weight K.Cost (length rows.now) costs.now) result (weight_at K.Cost right.new) }
     ensures bound { AreValuesWithin K.Cost COST_LIMIT (length rows.now) right.new }
 {
@@ -45,15 +65,15 @@ pub fn price_cheapest<K: Cost>(costs: &[K], rows: &[BlockSet], right: &mut [K]) 
     let mut priced = BlockSet::empty();
     let mut owner = [0u8; SET_WIDTH];
     for l in 0..n {
-        let to = rows[l];
+        let row = row_between(l, rows, from, to);
         let offer = Offer {
             from: l,
             costs: &costs[l * n..l * n + n],
             shift: K::zero(),
-            to,
+            to: row,
         };
         offer_all(&offer, priced, &mut owner, right);
-        priced = priced.union(to);
+        priced = priced.union(row);
     }
     Cheapest { priced, owner }
 }
@@ -111,8 +131,23 @@ fn price_pairs<K: Cost>(
     }
 }
 
+/// Whether a value is zero in each column.
+fn is_zero<K: Cost>(value: K) -> bool
+    ensures { IsTrue result ↔ (K.meaning value ≡ zeros K.Cost.columns) }
+{
+    value.is_equal_near(K::zero())
+}
+
+/// Whether every right price is zero in each column, which is the greatest that one may be.
+fn are_zero<K: Cost>(right: &[K]) -> bool
+    ensures { IsTrue result ↔ All (λ price. K.meaning price ≡ zeros K.Cost.columns) right.now }
+{
+    right.iter().all(|price| is_zero(*price))
+}
+
 /// Makes the prices the greatest that go with a perfect pairing and have no right price above zero:
 /// the distances of a search from an imagined left block that every right block costs nothing with.
+/// Where every right price is zero already, none can be greater, and no search is needed.
 pub fn price_greatest<K: Cost>(
     costs: &[K],
     rows: &[BlockSet],
@@ -133,6 +168,8 @@ pub fn price_greatest<K: Cost>(
     ensures rights { AreValuesWithin K.Cost PRICE_LIMIT (length rows.now) right.new }
 {
     clear(left);
-    grow_all(costs, rows, holders, right, left);
+    if !are_zero(right) {
+        grow_all(costs, rows, holders, right, left);
+    }
     price_pairs(costs, rows, partners, left, right);
 }

@@ -1,5 +1,5 @@
-//! The search for the cheapest way from a left block to a free right block, along alternating
-//! chains.
+//! What a left block offers the right blocks that it stands with, and which of them is nearest: the
+//! looks that a turn of a search and a step of the row reduction take.
 //!
 //! Distances are sums and differences of the costs themselves, at most two for each step. So they
 //! stay small however often prices change.

@@ -67,7 +67,8 @@ pub struct Tree<K> {
     /// goal, if there is one, is the only one of them that is free. `from` is also known of what is
     /// seen and had and not yet taken.
     pub taken: Reach,
-    /// The goal, with how far it is beyond its price.
+    /// The goal, with how far it is beyond its price; there is none where no free right block was
+    /// come to.
     pub free: Option<Nearby<K>>,
 }
 
@@ -78,7 +79,7 @@ pub struct Cheapest {
     pub owner: [u8; SET_WIDTH],
 }
 
-/// What the pairs that cost least leave to do: the left blocks that are still `out`, and the
+/// What the start and the row reduction leave to do: the left blocks that are still `out`, and the
 /// holders of the right blocks so far.
 #[derive(Drop)]
 pub struct FirstPairs {

@@ -1,8 +1,8 @@
 -- Each turn takes the nearest right block, and ends the search if it is free; else its left block
 -- offers the ways through it, and the nearest one is known that is taken next.
-use Rattle.std.proofs.Common.{◌≡◌, ℕ, ◌+◌, ◌<◌, ◌≤◌, true, false, length, List}
+use Rattle.std.proofs.Common.{◌≡◌, ℕ, ◌+◌, ◌<◌, ◌≤◌, true, length, List}
 use Rattle.std.proofs.Common.{Option, Some, None, IfSome, Bool}
-use Rattle.std.proofs.Common.{get_or, ◌+ℤ◌, ◌-ℤ◌, not, ◌&&◌, sym, refl, ap, ◌∙◌, subst, ⊎_elim}
+use Rattle.std.proofs.Common.{get_or, ◌+ℤ◌, ◌-ℤ◌, not, ◌&&◌, sym, refl, ap, ◌∙◌, subst}
 use Rattle.std.proofs.Common.{arith, rules}
 use Rattle.std.proofs.lemmas.Int.{ints}
 use Rattle.std.proofs.lemmas.Bool.{and_parts}
@@ -21,19 +21,21 @@ use Rattle.tables.specs.Said.{columns_at}
 use Rattle.tables.proofs.Filling.{value_at, row_length}
 use Rattle.matching.proofs.Inserting.{inserted}
 use Rattle.matching.specs.declared.chains.Holders.{Holders}
-use Rattle.assign.specs.declared.search.Offer.{Offer}
 use Rattle.assign.specs.declared.tree.Nearby.{Nearby}
 use Rattle.assign.specs.declared.limits.TheConstants.{DISTANCE_LIMIT, SHIFT_LIMIT, KEY_LIMIT}
 use Rattle.assign.specs.declared.limits.TheConstants.{INNER_PRICE_LIMIT}
-use Rattle.assign.specs.Weighed.{weight_at, cost_weight, SearchTables}
-use Rattle.assign.specs.Offers.{IsModest, distances, HaveOwners}
+use Rattle.assign.specs.Weighed.{cost_weight, SearchTables}
+use Rattle.assign.specs.Offers.{distances, HaveOwners}
 use Rattle.assign.specs.Trees.{waiting, HasFree, HasNext}
-use Rattle.assign.proofs.Entries.{part_of, part_is, part_modest}
+use Rattle.assign.proofs.Entries.{part_of, part_is, row_modest}
 use Rattle.assign.proofs.Owners.{known_at}
 use Rattle.assign.proofs.Parts.{found_in}
-use Rattle.assign.proofs.Turns.{Turning, IsChosen, far_at, turning_none, chosen, stuck, over, came, far_enough}
-use Rattle.assign.proofs.Turns.{in_range, IsTurn, turned}
+use Rattle.assign.proofs.Turns.{IsChosen, far_at, turning_none, chosen, stuck, over, came}
+use Rattle.assign.proofs.Turns.{far_enough}
+use Rattle.assign.proofs.Turns.{turned}
+use Rattle.assign.proofs.growing.grow.Given as given
 use Rattle.assign.proofs.growing.grow.Goals as goal
+use Rattle.assign.proofs.growing.grow.Goals.{After-insert, After-index-row-a}
 
 pub loop-t-init : goal.loop-t-init
 loop-t-init g c = turning_none c.empty.result c.empty.ensures c.requires.inside
@@ -41,7 +43,8 @@ loop-t-init g c = turning_none c.empty.result c.empty.ensures c.requires.inside
 
 -- the keys of the nearest right blocks are near
 free_near : {K : Type 0} (kind : Ghosts K) (holders : Holders) (right : List K)
-    (seen : ℕ → Bool) (n : ℕ) → ((c : ℕ) → c < n → AreWithin INNER_PRICE_LIMIT (columns_at kind right c))
+    (seen : ℕ → Bool) (n : ℕ)
+    → ((c : ℕ) → c < n → AreWithin INNER_PRICE_LIMIT (columns_at kind right c))
     → ((c : ℕ) → seen c ≡ true → c < n) → (free : Option (Nearby K))
     → HasFree kind holders right seen free
     → IfSome free (λ near. AreWithin HALF_RAIL (kind.meaning near.key))
@@ -70,6 +73,12 @@ nearer-requires g c =
           (has c.loop-t.seen) (has c.loop-t.taken.reached) c.loop-t.next now.nearest_held;
     }
 
+-- the right block that is taken in this turn
+taken_now : (g : given.Over) (c : After-insert g)
+    → IsChosen c.loop-t.invariant c.in-Some.near
+taken_now g c =
+    rw c.in-Some.is at (chosen c.loop-t.invariant c.nearer.result c.nearer.ensures)
+
 pub returns-in_default : goal.returns-in_default
 returns-in_default g c =
     let w = rw c.in_default.is at (chosen c.loop-t.invariant
@@ -79,16 +88,14 @@ returns-in_default g c =
 
 pub bounds-taken-a : goal.bounds-taken-a
 bounds-taken-a g c =
-    let w = rw c.in-Some.is at (chosen c.loop-t.invariant
-    c.nearer.result c.nearer.ensures) in
+    let w = taken_now g (goal.at.bounds-taken-a g c).After-insert in
     omega (arith, c.loop-t.invariant.inside c.in-Some.near.block w.come_to, c.requires.lent.few)
 
 pub returns-then-not-contains : goal.returns-then-not-contains
 returns-then-not-contains g c =
     let a = c.in-Some.near.block in
     let few = c.requires.lent.few in
-    let w = rw c.in-Some.is at (chosen c.loop-t.invariant
-    c.nearer.result c.nearer.ensures) in
+    let w = taken_now g (goal.at.returns-then-not-contains g c).After-insert in
     let below : c.in-Some.near.block < length c.args.rows.now =
     c.loop-t.invariant.inside a w.come_to in
     let more = inserted (has c.loop-t.taken.reached) (has c.insert.new.self) a (omega (arith, few))
@@ -99,8 +106,7 @@ returns-then-not-contains g c =
 
 pub bounds-holders-a : goal.bounds-holders-a
 bounds-holders-a g c =
-    let w = rw c.in-Some.is at (chosen c.loop-t.invariant
-    c.nearer.result c.nearer.ensures) in
+    let w = taken_now g (goal.at.bounds-holders-a g c).After-insert in
     omega (arith, c.loop-t.invariant.inside c.in-Some.near.block w.come_to, c.requires.lent.few)
 
 pub slice_bounds-row-end : goal.slice_bounds-row-end
@@ -153,43 +159,34 @@ module _ {K : Type 0} {kind : Ghosts K} {rows : List BlockSet} {costs : List K}
       (subst (AreWithin COST_LIMIT) (sym cost_known) (hand.lent.modest l a hl hand.own))
 
   -- z is how far the way through the right block goes
-  module _ (z : K)
-      (sum : weight (kind.meaning z) ≡ weight (kind.meaning x) -ℤ weight (kind.meaning y))
-      (bound : (b b' : ℕ) → AreWithin b (kind.meaning x) → AreWithin b' (kind.meaning y)
-      → b + b' ≤ RAIL → AreWithin (b + b') (kind.meaning z)) where
-    shift_weighs : weight (kind.meaning z) +ℤ cost_weight kind (length rows) costs l a
+  module _ (z : K) where
+    shift_weighs : weight (kind.meaning z) ≡ weight (kind.meaning x) -ℤ weight (kind.meaning y)
+        → weight (kind.meaning z) +ℤ cost_weight kind (length rows) costs l a
         ≡ weight (distances kind holders dist a)
-    shift_weighs =
+    shift_weighs sum =
         let p = ap weight dist_known in
         let q = ap weight cost_known in
         omega (arith, ints, sum)
 
-    shift_within : AreWithin (far_at t + COST_LIMIT) (kind.meaning z)
-    shift_within = bound (far_at t) COST_LIMIT (dist_within (far_at t) (omega arith))
-        (cost_within COST_LIMIT (omega arith)) (omega (arith, hand.lent.few, hand.time))
+    module _ (bound : (b b' : ℕ) → AreWithin b (kind.meaning x) → AreWithin b' (kind.meaning y)
+        → b + b' ≤ RAIL → AreWithin (b + b') (kind.meaning z)) where
+      shift_within : AreWithin (far_at t + COST_LIMIT) (kind.meaning z)
+      shift_within = bound (far_at t) COST_LIMIT (dist_within (far_at t) (omega arith))
+          (cost_within COST_LIMIT (omega arith)) (omega (arith, hand.lent.few, hand.time))
 
-    modest : {offer : Offer K} → offer.from ≡ l → offer.costs.now ≡ part_of (length rows) l costs
-        → offer.shift ≡ z → ((c : ℕ) → has offer.to c ≡ true → holds rows l c ≡ true)
-        → IsModest kind offer
-    modest from row shift to = record {
-      few = subst (λ (zs : List K). length zs ≤ 64) (sym row)
-          (omega (arith, row_length costs (length rows) l hl hand.lent.square, hand.lent.few));
-      block = omega (arith, from, hl, hand.lent.few);
-      costs = λ c t. subst (λ zs. AreWithin COST_LIMIT (columns_at kind zs c)) (sym row)
-          (part_modest hand.lent l hl c (to c t));
-      shift = subst (λ (u : K). AreWithin SHIFT_LIMIT (kind.meaning u)) (sym shift)
-          (within_more (far_at t + COST_LIMIT) SHIFT_LIMIT (kind.meaning z)
-          (omega (arith, hand.lent.few, hand.time)) shift_within);
-    }
+      shift_limited : AreWithin SHIFT_LIMIT (kind.meaning z)
+      shift_limited = within_more (far_at t + COST_LIMIT) SHIFT_LIMIT (kind.meaning z)
+          (omega (arith, hand.lent.few, hand.time)) shift_within
 
-pub exact_difference-requires : goal.exact_difference-requires
-exact_difference-requires g c =
+-- the right block that is taken is had, so the turn goes on
+at_hand : (g : given.Over) (c : After-index-row-a g) → IsAtHand g.K.Cost c.args.rows.now
+    c.args.costs.now c.args.holders.now c.loop-t.dist c.in-Some.near.block c.loop-t.t
+    c.index-dist-l.result c.index-row-a.result
+at_hand g c =
     let a = c.in-Some.near.block in
-    let few = c.requires.lent.few in
-    let w = rw c.in-Some.is at (chosen c.loop-t.invariant c.nearer.result c.nearer.ensures) in
     let held = sym c.contains.ensures ∙ c.if-not-contains.false in
-    let hand : IsAtHand g.K.Cost c.args.rows.now c.args.costs.now c.args.holders.now c.loop-t.dist
-    c.in-Some.near.block c.loop-t.t c.index-dist-l.result c.index-row-a.result = record {
+    let w = rw c.in-Some.is at (chosen c.loop-t.invariant c.nearer.result c.nearer.ensures) in
+    record {
       lent = c.requires.lent;
       owners = c.requires.owners;
       long = c.loop-t.auto.dist ∙ c.requires.dists;
@@ -199,33 +196,24 @@ exact_difference-requires g c =
       far = c.loop-t.invariant.near a w.come_to held;
       dist_read = c.index-dist-l.is;
       cost_read = c.index-row-a.is;
-    } in
+    }
+
+pub exact_difference-requires : goal.exact_difference-requires
+exact_difference-requires g c =
+    let hand = at_hand g (goal.at.exact_difference-requires g c).After-index-row-a in
     record {
-      first = dist_within hand HALF_RAIL (omega (arith, few));
+      first = dist_within hand HALF_RAIL (omega (arith, c.requires.lent.few));
       second = cost_within hand HALF_RAIL (omega arith);
     }
 
 pub offer_free-free-requires-clause-modest : goal.offer_free-free-requires-clause-modest
 offer_free-free-requires-clause-modest g c =
-    let a = c.in-Some.near.block in
-    let w = rw c.in-Some.is at (chosen c.loop-t.invariant c.nearer.result c.nearer.ensures) in
-    let held = sym c.contains.ensures ∙ c.if-not-contains.false in
-    let hand : IsAtHand g.K.Cost c.args.rows.now c.args.costs.now c.args.holders.now c.loop-t.dist
-    c.in-Some.near.block c.loop-t.t c.index-dist-l.result c.index-row-a.result = record {
-      lent = c.requires.lent;
-      owners = c.requires.owners;
-      long = c.loop-t.auto.dist ∙ c.requires.dists;
-      time = c.loop-t-test.true;
-      had = held;
-      own = c.requires.own a held;
-      far = c.loop-t.invariant.near a w.come_to held;
-      dist_read = c.index-dist-l.is;
-      cost_read = c.index-row-a.is;
-    } in
-    modest hand c.exact_difference.result c.exact_difference.ensures.sum
-    c.exact_difference.ensures.bound refl refl refl
-    (λ j r. (and_parts (holds c.args.rows.now (at c.args.holders.now.owner a) j)
-    (not (has c.insert.new.self j)) (sym (c.difference-to.ensures j) ∙ r)).0)
+    let l = at c.args.holders.now.owner c.in-Some.near.block in
+    let hand = at_hand g (goal.at.offer_free-free-requires-clause-modest g c).After-index-row-a in
+    row_modest c.requires.lent l (hl hand) refl refl
+    (shift_limited hand c.exact_difference.result c.exact_difference.ensures.bound)
+    (λ j r. (and_parts (holds c.args.rows.now l j) (not (has c.insert.new.self j))
+    (sym (c.difference-to.ensures j) ∙ r)).0)
 
 pub offer_free-free-requires-clause-inside : goal.offer_free-free-requires-clause-inside
 offer_free-free-requires-clause-inside g c =
@@ -233,8 +221,12 @@ offer_free-free-requires-clause-inside g c =
     let hl = c.requires.owners.below c.in-Some.near.block
     (sym c.contains.ensures ∙ c.if-not-contains.false) in
     let long = row_length c.args.costs.now (length c.args.rows.now) l hl c.requires.lent.square in
-    λ j r. omega (arith, long, c.requires.lent.inside l j hl (and_parts (holds c.args.rows.now l j)
-    (not (has c.insert.new.self j)) (sym (c.difference-to.ensures j) ∙ r)).0)
+    λ j r. omega (
+      arith,
+      long,
+      c.requires.lent.inside l j hl (and_parts (holds c.args.rows.now l j)
+          (not (has c.insert.new.self j)) (sym (c.difference-to.ensures j) ∙ r)).0,
+    )
 
 pub offer_free-free-requires-clause-known : goal.offer_free-free-requires-clause-known
 offer_free-free-requires-clause-known g c = free_near g.K.Cost c.args.holders.now c.args.right.now
@@ -243,25 +235,12 @@ offer_free-free-requires-clause-known g c = free_near g.K.Cost c.args.holders.no
 
 pub offer_held-next-requires-clause-modest : goal.offer_held-next-requires-clause-modest
 offer_held-next-requires-clause-modest g c =
-    let a = c.in-Some.near.block in
-    let w = rw c.in-Some.is at (chosen c.loop-t.invariant c.nearer.result c.nearer.ensures) in
-    let held = sym c.contains.ensures ∙ c.if-not-contains.false in
-    let hand : IsAtHand g.K.Cost c.args.rows.now c.args.costs.now c.args.holders.now c.loop-t.dist
-    c.in-Some.near.block c.loop-t.t c.index-dist-l.result c.index-row-a.result = record {
-      lent = c.requires.lent;
-      owners = c.requires.owners;
-      long = c.loop-t.auto.dist ∙ c.requires.dists;
-      time = c.loop-t-test.true;
-      had = held;
-      own = c.requires.own a held;
-      far = c.loop-t.invariant.near a w.come_to held;
-      dist_read = c.index-dist-l.is;
-      cost_read = c.index-row-a.is;
-    } in
-    modest hand c.exact_difference.result c.exact_difference.ensures.sum
-    c.exact_difference.ensures.bound refl refl refl
-    (λ j r. (and_parts (holds c.args.rows.now (at c.args.holders.now.owner a) j)
-    (not (has c.insert.new.self j)) (sym (c.difference-to.ensures j) ∙ r)).0)
+    let l = at c.args.holders.now.owner c.in-Some.near.block in
+    let hand = at_hand g (goal.at.offer_held-next-requires-clause-modest g c).After-index-row-a in
+    row_modest c.requires.lent l (hl hand) refl refl
+    (shift_limited hand c.exact_difference.result c.exact_difference.ensures.bound)
+    (λ j r. (and_parts (holds c.args.rows.now l j) (not (has c.insert.new.self j))
+    (sym (c.difference-to.ensures j) ∙ r)).0)
 
 pub offer_held-next-requires-clause-inside : goal.offer_held-next-requires-clause-inside
 offer_held-next-requires-clause-inside g c =
@@ -300,24 +279,13 @@ pub loop-t-preserved : goal.loop-t-preserved
 loop-t-preserved g c =
     let a = c.in-Some.near.block in
     let few = c.requires.lent.few in
-    let w = rw c.in-Some.is at (chosen c.loop-t.invariant c.nearer.result c.nearer.ensures) in
+    let w = taken_now g (goal.at.loop-t-preserved g c).After-insert in
     let held = sym c.contains.ensures ∙ c.if-not-contains.false in
     let below : c.in-Some.near.block < length c.args.rows.now =
     c.loop-t.invariant.inside a w.come_to in
     let more = inserted (has c.loop-t.taken.reached) (has c.insert.new.self) a (omega (arith, few))
     c.insert.ensures in
-    let hand : IsAtHand g.K.Cost c.args.rows.now c.args.costs.now c.args.holders.now c.loop-t.dist
-    c.in-Some.near.block c.loop-t.t c.index-dist-l.result c.index-row-a.result = record {
-      lent = c.requires.lent;
-      owners = c.requires.owners;
-      long = c.loop-t.auto.dist ∙ c.requires.dists;
-      time = c.loop-t-test.true;
-      had = held;
-      own = c.requires.own a held;
-      far = c.loop-t.invariant.near a w.come_to held;
-      dist_read = c.index-dist-l.is;
-      cost_read = c.index-row-a.is;
-    } in
+    let hand = at_hand g (goal.at.loop-t-preserved g c).After-index-row-a in
     turned c.loop-t.invariant w c.insert.new.self more few (record {
       lent = c.requires.lent;
       time = c.loop-t-test.true;
@@ -326,17 +294,15 @@ loop-t-preserved g c =
       from = refl;
       to = c.difference-to.ensures;
       row = refl;
-      shift = shift_weighs hand c.exact_difference.result c.exact_difference.ensures.sum
-          c.exact_difference.ensures.bound;
-      shift_near = shift_within hand c.exact_difference.result c.exact_difference.ensures.sum
-          c.exact_difference.ensures.bound;
+      shift = shift_weighs hand c.exact_difference.result c.exact_difference.ensures.sum;
+      shift_near = shift_within hand c.exact_difference.result c.exact_difference.ensures.bound;
       joined = c.union-seen.ensures;
       offered_free = c.offer_free-free.ensures;
       made = c.offer_held-next.ensures.offered;
       bound = c.offer_held-next.ensures.bound;
-      next_held = found_in g.K.Cost (has c.difference-rest.result) (waiting (has c.args.holders.now.held)
-          (has c.union-seen.result) (has c.insert.new.self)) c.args.right.now
-          (distances g.K.Cost c.args.holders.now c.offer_held-next.new.dist)
+      next_held = found_in g.K.Cost (has c.difference-rest.result)
+          (waiting (has c.args.holders.now.held) (has c.union-seen.result) (has c.insert.new.self))
+          c.args.right.now (distances g.K.Cost c.args.holders.now c.offer_held-next.new.dist)
           (distances g.K.Cost c.args.holders.now c.offer_held-next.new.dist)
           c.offer_held-next.result (λ j. sym (c.difference-rest.ensures j
           ∙ ap (λ z. z && not (has c.insert.new.self j)) (c.intersection.ensures j))) (λ j _. refl)

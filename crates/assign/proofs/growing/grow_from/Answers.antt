@@ -1,24 +1,26 @@
 -- The search starts at the costs of left block k.
-use Rattle.std.proofs.Common.{◌≡◌, ℕ, length, pos, true, false, ◌&&◌, sym, refl, ap, ◌∙◌, subst, arith}
+use Rattle.std.proofs.Common.{◌≡◌, ℕ, pos, false, ◌&&◌, sym, refl, ap, ◌∙◌, subst, arith, Option}
+use Rattle.std.proofs.Common.{get_or}
 use Rattle.std.proofs.Math.Bool.{and-true}
 use Rattle.std.proofs.lemmas.Bool.{both_ways}
 use Rattle.cost.specs.Columns.{AreWithin}
 use Rattle.cost.proofs.Exact.{zeros_within}
 use Rattle.cost.specs.Weights.{weight}
 use Rattle.cost.proofs.Weights.{weight_zeros}
-use Rattle.blockset.specs.Has.{has}
+use Rattle.blockset.specs.Has.{no_blocks, has}
 use Rattle.pairing.specs.Rows.{holds}
-use Rattle.tables.proofs.Filling.{row_length}
 use Rattle.assign.specs.declared.limits.TheConstants.{SHIFT_LIMIT}
 use Rattle.assign.specs.Weighed.{graph}
 use Rattle.assign.specs.Offers.{distances}
 use Rattle.assign.specs.Search.{from_row}
-use Rattle.assign.specs.Trees.{waiting}
-use Rattle.assign.proofs.Entries.{part_modest}
+use Rattle.assign.specs.Trees.{waiting, HasFree, Begins}
+use Rattle.assign.specs.declared.tree.Nearby.{Nearby}
+use Rattle.assign.proofs.Entries.{row_modest}
 use Rattle.assign.proofs.Parts.{found_in}
-use Rattle.assign.proofs.Starting.{begins_row, free_row}
+use Rattle.assign.proofs.Starting.{started_row}
 use Rattle.assign.proofs.growing.grow_from.Given as given
 use Rattle.assign.proofs.growing.grow_from.Goals as goal
+use Rattle.assign.proofs.growing.grow_from.Goals.{After-offer_held-next}
 
 zero_weighs : (g : given.Over) (x : g.row.K.Denot) → x ≡ g.K.Cost.zero
     → weight (g.K.Cost.meaning x) ≡ pos 0
@@ -32,28 +34,41 @@ zero-within g b x e =
     (zeros_within b g.K.Cost.columns)
 
 pub offer_free-free-requires-clause-modest : goal.offer_free-free-requires-clause-modest
-offer_free-free-requires-clause-modest g c =
-    let k = c.args.k in
-    let long = row_length c.args.costs.now (length c.args.rows.now) k c.requires.room
-    c.requires.lent.square in
-    record {
-      few = omega (arith, long, c.requires.lent.few);
-      block = omega (arith, c.requires.room, c.requires.lent.few);
-      costs = part_modest c.requires.lent k c.requires.room;
-      shift = zero-within g SHIFT_LIMIT c.zero.result c.zero.ensures;
-    }
+offer_free-free-requires-clause-modest g c = row_modest c.requires.lent c.args.k
+    c.requires.room refl refl (zero-within g SHIFT_LIMIT c.zero.result c.zero.ensures) (λ j t. t)
 
 pub offer_held-next-requires-clause-modest : goal.offer_held-next-requires-clause-modest
-offer_held-next-requires-clause-modest g c =
-    let k = c.args.k in
-    let long = row_length c.args.costs.now (length c.args.rows.now) k c.requires.room
-    c.requires.lent.square in
-    record {
-      few = omega (arith, long, c.requires.lent.few);
-      block = omega (arith, c.requires.room, c.requires.lent.few);
-      costs = part_modest c.requires.lent k c.requires.room;
-      shift = zero-within g SHIFT_LIMIT c.zero.result c.zero.ensures;
-    }
+offer_held-next-requires-clause-modest g c = row_modest c.requires.lent c.args.k
+    c.requires.room refl refl (zero-within g SHIFT_LIMIT c.zero.result c.zero.ensures) (λ j t. t)
+
+-- left block k has made its offer, and the search begins with what came of it
+started : (g : given.Over) (c : After-offer_held-next g)
+    → HasFree g.K.Cost c.args.holders.now c.args.right.now (holds c.args.rows.now c.args.k)
+    c.offer_free-free.result
+    × ((next : Option (Nearby g.row.K.Denot)) → Begins g.K.Cost c.args.rows.now c.args.costs.now
+    c.args.holders.now c.args.right.now
+    (from_row (graph g.K.Cost c.args.rows.now c.args.costs.now) c.args.k)
+    (record {
+      seen = get_or c.args.rows.now c.args.k no_blocks;
+      via = c.offer_held-next.new.via;
+      free = c.offer_free-free.result;
+      next = next;
+    })
+    c.offer_held-next.new.dist)
+started g c = started_row (record {
+  lent = c.requires.lent;
+  room = c.requires.room;
+  from = refl;
+  row = refl;
+  to = λ j. refl;
+  seen = λ j. refl;
+  zero = zero_weighs g c.zero.result c.zero.ensures;
+  nothing = zero-within g 0 c.zero.result c.zero.ensures;
+  empty = c.empty-none.ensures;
+  none_before = refl;
+  found = c.offer_free-free.ensures;
+  made = c.offer_held-next.ensures.offered;
+})
 
 pub grow-requires-clause-near : goal.grow-requires-clause-near
 grow-requires-clause-near g c = λ j r h. c.offer_held-next.ensures.bound 0 j
@@ -63,20 +78,7 @@ grow-requires-clause-near g c = λ j r h. c.offer_held-next.ensures.bound 0 j
 
 pub grow-requires-clause-free : goal.grow-requires-clause-free
 grow-requires-clause-free g c =
-    free_row (record {
-      lent = c.requires.lent;
-      room = c.requires.room;
-      from = refl;
-      row = refl;
-      to = λ j. refl;
-      seen = λ j. refl;
-      zero = zero_weighs g c.zero.result c.zero.ensures;
-      nothing = zero-within g 0 c.zero.result c.zero.ensures;
-      empty = c.empty-none.ensures;
-      none_before = refl;
-      found = c.offer_free-free.ensures;
-      made = c.offer_held-next.ensures.offered;
-    })
+    (started g (goal.at.grow-requires-clause-free g c).After-offer_held-next).0
 
 pub grow-requires-clause-next : goal.grow-requires-clause-next
 grow-requires-clause-next g c = found_in g.K.Cost (has c.intersection-rest.result)
@@ -88,17 +90,6 @@ grow-requires-clause-next g c = found_in g.K.Cost (has c.intersection-rest.resul
 
 pub returns-clause-grown : goal.returns-clause-grown
 returns-clause-grown g c = c.grow.ensures.grown
-    (from_row (graph g.K.Cost c.args.rows.now c.args.costs.now) c.args.k) (begins_row (record {
-      lent = c.requires.lent;
-      room = c.requires.room;
-      from = refl;
-      row = refl;
-      to = λ j. refl;
-      seen = λ j. refl;
-      zero = zero_weighs g c.zero.result c.zero.ensures;
-      nothing = zero-within g 0 c.zero.result c.zero.ensures;
-      empty = c.empty-none.ensures;
-      none_before = refl;
-      found = c.offer_free-free.ensures;
-      made = c.offer_held-next.ensures.offered;
-    }) c.offer_held-next.result)
+    (from_row (graph g.K.Cost c.args.rows.now c.args.costs.now) c.args.k)
+    ((started g (goal.at.returns-clause-grown g c).After-offer_held-next).1
+    c.offer_held-next.result)

@@ -1,5 +1,6 @@
 -- The left blocks before l have made their offers.
-use Rattle.std.proofs.Common.{length}
+use Rattle.std.proofs.Common.{◌&&◌, length}
+use Rattle.blockset.specs.Has.{has}
 use Rattle.pairing.specs.Rows.{holds}
 use Rattle.tables.specs.Said.{AreValuesWithin}
 use Rattle.cost.specs.declared.TheConstants.{COST_LIMIT}
@@ -12,7 +13,9 @@ invariant-loop-l g l =
     let kind = g.K.Cost in
     let n = length l.rows in
     record {
-      cheapest : AreCheapest l.l n (holds l.rows) (cost_weight kind n l.costs)
+      cheapest : AreCheapest l.l n
+          (λ m c. holds l.rows m c && (has l.fn.from m && has l.fn.to c))
+          (cost_weight kind n l.costs)
           (record { priced = l.priced; owner = l.owner }) (weight_at kind l.right);
       bound : AreValuesWithin kind COST_LIMIT n l.right;
     }
