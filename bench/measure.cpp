@@ -8,6 +8,15 @@
 //                                contender tells what a call took at least so far, then `done`
 //     count NAME N               makes all calls once for callgrind, a dump for each contender
 #include "suites.hpp"
+
+// Where the code lies changes a time by up to a tenth, so the program is built with its code in
+// several places.
+#ifdef PLACE
+#define TEXT_OF(x) #x
+#define TEXT(x) TEXT_OF(x)
+asm(".text\n.skip " TEXT(PLACE) ", 0x90\n");
+#endif
+
 #include <iostream>
 #include <map>
 #if __has_include(<valgrind/callgrind.h>)

@@ -92,9 +92,19 @@ def suites():
                                                                       ("free", LARGE)]
 
 
-def times(command, folder, rounds, sheets):
-    """The least times in microseconds, by class, number of blocks and what was timed. All suites
-    take turns too, since some of the aims compare classes and sizes."""
+def times(programs, folder, rounds, sheets):
+    """The least times in microseconds over the programs, which differ in where their code lies, by
+    class, number of blocks and what was timed."""
+    least = {}
+    for program in programs:
+        for what, time in times_of([program], folder, rounds, sheets).items():
+            least[what] = min(time, least.get(what, time))
+    return without_opening(least)
+
+
+def times_of(command, folder, rounds, sheets):
+    """The same of one program. All suites take turns too, since some of the aims compare classes
+    and sizes."""
     program, scipy, found = Program(command, folder), {}, {}
     for name, n in suites():
         total = program.suite(name, n, sheets)
@@ -107,7 +117,7 @@ def times(command, folder, rounds, sheets):
                 least["scipy"] = scipy[name, n].round()
             found.update({(name, n, what): time for what, time in least.items()})
     program.end()
-    return without_opening(found)
+    return found
 
 
 def instructions(command, folder):

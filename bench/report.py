@@ -3,13 +3,15 @@ and the chart.
 
     report.py FOLDER [--rounds N] [--sheets N] [--page]
 
-FOLDER holds the program `measure`; the numbers go to FOLDER/numbers.tsv and the table of them to
-FOLDER/table.md. With --page all that is told of them is put into docs/benchmarks.md too: how the
-calls stand beside their aims, where others are faster, the table, and what was measured before. The
-status is 1 if an aim is missed. Run it at the top of the repository, by bench/run.
+FOLDER holds the programs `measure..`, which differ in where their code lies; the numbers go to
+FOLDER/numbers.tsv and the table of them to FOLDER/table.md. With --page all that is told of them is
+put into docs/benchmarks.md too: how the calls stand beside their aims, where others are faster, the
+table, and what was measured before. The status is 1 if an aim is missed. Run it at the top of the
+repository, by bench/run.
 """
 import argparse
 import csv
+import glob
 import math
 import os
 import re
@@ -281,9 +283,9 @@ def arguments():
 
 def main():
     chosen = arguments()
-    command = [os.path.join(chosen.folder, "measure")]
-    times = measuring.times(command, chosen.folder, chosen.rounds, chosen.sheets)
-    counts = measuring.instructions(command, chosen.folder) if shutil.which("valgrind") else {}
+    programs = sorted(glob.glob(os.path.join(chosen.folder, "measure*")))
+    times = measuring.times(programs, chosen.folder, chosen.rounds, chosen.sheets)
+    counts = measuring.instructions(programs[:1], chosen.folder) if shutil.which("valgrind") else {}
     now, before = Numbers(times, counts), Numbers.read(BEFORE)
     now.write(os.path.join(chosen.folder, "numbers.tsv"))
     parts, judge = page_parts(now, before)
