@@ -1,14 +1,14 @@
 -- The bits of a number: of masks and shifts, the lowest one, and how many there are.
 -- Idea: a number is its last bit and half of it, so an induction over the place of the bit, or over
 -- the width, halves once.
-use Rattle.std.proofs.Common.{◌≡◌, ℕ, zero, suc, ◌-◌, ◌/◌, ◌%◌, ◌^◌, ◌<◌, ◌≤◌, min, max, true}
-use Rattle.std.proofs.Common.{false, cond, not, ◌&&◌, ◌||◌, eqb, ltb, sym, refl, ap, ◌∙◌, pow-suc}
-use Rattle.std.proofs.Common.{arith}
+use Rattle.std.proofs.Common.{◌≡◌, ℕ, zero, suc, ◌-◌, ◌/◌, ◌%◌, ◌^◌, ◌<◌, ◌≤◌, min, max, Bool}
+use Rattle.std.proofs.Common.{true, false, cond, not, ◌&&◌, ◌||◌, eqb, ltb, sym, refl, ap, ◌∙◌}
+use Rattle.std.proofs.Common.{pow-suc, arith}
 use lib.Bits.{bit_and, bit_or, and_step, or_step}
 use lib.Count.{ones, ones_step, count_trailing_zeros, under}
 use Rattle.std.proofs.lemmas.Nat.{pow_pos, shr-shr}
 use Rattle.std.proofs.lemmas.Bool.Decides.{nat_tests}
-use Rattle.std.proofs.lemmas.Bool.{eqb-false, ne_eqb, le-ltb, lt-ltb}
+use Rattle.std.proofs.lemmas.Bool.{both_ways, eqb-true, eqb-false, ne_eqb, le-ltb, lt-ltb}
 use Rattle.blockset.specs.Sets.{bit, members}
 
 low_or : (x y : ℕ) → x < 2 → y < 2 → eqb (max x y) 1 ≡ (eqb x 1 || eqb y 1)
@@ -134,6 +134,35 @@ lowest_lt (suc w) m h ne =
         → under d (count_trailing_zeros w (m / 2)) < suc w
     under_lt zero ih = omega (arith, ih refl)
     under_lt (suc d) ih = omega arith
+
+both : (b : Bool) → (b && b) ≡ (b && true)
+both true = refl
+both false = refl
+
+-- taking 1 away lets go of the lowest bit, sets those below it and leaves those above
+and_before : (m t i : ℕ) → bit m t ≡ true → ((j : ℕ) → j < t → bit m j ≡ false)
+    → (bit m i && bit (m - 1) i) ≡ (bit m i && not (eqb i t))
+unfolding bit
+and_before m zero zero s b =
+    let odd : m % 2 ≡ 1 = eqb-true (m % 2) 1 s in
+    let e : (m - 1) % 2 ≡ 0 = omega arith in
+    rw e refl
+and_before m zero (suc i) s b =
+    let odd : m % 2 ≡ 1 = eqb-true (m % 2) 1 s in
+    let e : (m - 1) / 2 ≡ m / 2 = omega arith in
+    rw (e, ne_eqb (suc i) 0 (λ z. omega arith)) (both (bit (m / 2) i))
+and_before m (suc t) zero s b = rw (b 0 (omega arith)) refl
+and_before m (suc t) (suc i) s b =
+    let even : m % 2 ≡ 1 → ⊥ = eqb-false (m % 2) 1 (b 0 (omega arith)) in
+    let some : m / 2 ≡ 0 → ⊥ =
+    λ z. both_ways (bit (m / 2) t) (ap (λ x. bit x t) z ∙ bit-zero t) s in
+    let e : (m - 1) / 2 ≡ m / 2 - 1 = omega (arith, some) in
+    rw e (and_before (m / 2) t i s (λ j h. b (suc j) (omega arith)) ∙ grind (arith, nat_tests))
+
+-- a number and the one before it: all its bits but the lowest
+pub without_lowest : (m t i : ℕ) → bit m t ≡ true → ((j : ℕ) → j < t → bit m j ≡ false)
+    → bit (bit_and m (m - 1)) i ≡ (bit m i && not (eqb i t))
+without_lowest m t i s b = bit-and m (m - 1) i ∙ and_before m t i s b
 
 pub ones_members : (w m : ℕ) → m < 2 ^ w → ones m ≡ members w (bit m)
 unfolding bit ones members

@@ -99,6 +99,14 @@ impl BlockSet {
         }
     }
 
+    /// The set without its least block. The number of that block is not waited for: so a loop over
+    /// a set can take the next block while it works on this one.
+    fn without_least(self) -> Self
+        ensures { (c j : ℕ) → IsLeast self c → has result j ≡ (has self j && not (j == c)) }
+    {
+        BlockSet(self.0 & self.0.wrapping_sub(1))
+    }
+
     pub fn union(self, other: Self) -> Self
         ensures { (j : ℕ) → has result j ≡ (has self j || has other j) }
     {
@@ -182,7 +190,7 @@ impl Iterator for Blocks {
 
     fn next(&mut self) -> Option<usize> {
         let least = self.rest.least()?;
-        self.rest.remove(least);
+        self.rest = self.rest.without_least();
         Some(least)
     }
 }
