@@ -4,7 +4,7 @@
 -- those that have it the least at left block 1, and so on. After p comes a pairing that agrees with
 -- p up to some left block and is greater there; of these the first one differs from p as late as
 -- possible, is as little greater there as possible, and is the first of those that begin so.
-use Rattle.std.proofs.Common.{◌≡◌, ℕ, zero, suc, ◌+◌, ◌<◌, ◌≤◌, ◌⊎◌, Bool, false, ◌||◌, List}
+use Rattle.std.proofs.Common.{◌≡◌, ℕ, zero, suc, ◌+◌, ◌<◌, ◌≤◌, ◌⊎◌, Bool, true, false, ◌||◌, List}
 use Rattle.std.proofs.Common.{[], ◌∷◌, length, sym}
 use Rattle.std.proofs.Common.{refl, ap, ◌∙◌, inl, inr, arith}
 use Rattle.std.proofs.lemmas.List.{ext_get_or}
@@ -92,9 +92,6 @@ module _ {rows : List BlockSet} {low l : ℕ} {start p : List ℕ} (s : Settling
       ];
     }
 
-    pub settle_never : {p' : List ℕ} → IsUnimproved rows l 0 p p' → ⊥
-    settle_never w = omega (arith, w.none p s.pairs (λ i h. refl))
-
     pub settled : l ≡ length rows → IsFirstFrom rows low start p
     settled e = record {
       pairs = s.pairs;
@@ -107,6 +104,10 @@ module _ {rows : List BlockSet} {low l : ℕ} {start p : List ℕ} (s : Settling
             (v.0, omega (arith, v.1), v.2, v.3))
       ];
     }
+
+-- no left block from k on may have the right block
+abbrev pub IsInNoneFrom : ℕ → List BlockSet → ℕ → Type 0
+IsInNoneFrom k rows block = (m : ℕ) → k ≤ m → m < length rows → holds rows m block ≡ true → ⊥
 
 module _ (rows : List BlockSet) (p : List ℕ) (h : IsPerfectOver rows p) where
   less : (q : List ℕ) → IsPerfectOver rows q → IsBefore p q → IsLess (length rows) p q
@@ -167,26 +168,37 @@ module _ (rows : List BlockSet) (p : List ℕ) (h : IsPerfectOver rows p) where
         top = s.kept l (omega arith)
 
     -- Where no later left block may have the right block of left block l, every pairing that agrees
-    -- with p before l gives it to l, since no other left block can have it; so l cannot have a
-    -- greater one.
+    -- with p before l gives it to l, since no other left block can have it.
+    keeps : IsInNoneFrom (l + 1) rows (at p l) → (q : List ℕ) → IsPerfectOver rows q
+        → AgreeBelow l p q → at q l ≡ at p l
+    keeps never q g a =
+        let o = onto (length rows) (holds rows) q g (at p l) (h.below l inside) in
+        elim (cases_order o.0 l) [
+          | inl same ↦ ap (at q) (sym same) ∙ o.2
+          | inr other ↦ elim other [
+            | inl earlier ↦ (let e = h.once o.0 l o.1 inside (sym (a o.0 earlier) ∙ o.2) in
+                absurd (omega arith))
+            | inr more ↦ absurd (never o.0 (omega arith) o.1
+                (ap (holds rows o.0) (sym o.2) ∙ g.standing o.0 o.1))
+          ]
+        ]
+
+    -- so l cannot have a greater one,
     pub unwanted : (wanted : ℕ → Bool) → HasWantedFrom (l + 1) rows wanted
         → wanted (at p l) ≡ false → IsUnimproved rows l (at p l + 1) p p
     unwanted wanted w free =
-        record { same = refl; none = λ q g a. omega (arith, keeps q g a) }
-      where
-        keeps : (q : List ℕ) → IsPerfectOver rows q → AgreeBelow l p q → at q l ≡ at p l
-        keeps q g a =
-            let o = onto (length rows) (holds rows) q g (at p l) (h.below l inside) in
-            elim (cases_order o.0 l) [
-              | inl same ↦ ap (at q) (sym same) ∙ o.2
-              | inr other ↦ elim other [
-                | inl earlier ↦ (let e = h.once o.0 l o.1 inside (sym (a o.0 earlier) ∙ o.2) in
-                    absurd (omega arith))
-                | inr more ↦ (let held = ap (holds rows o.0) (sym o.2) ∙ g.standing o.0 o.1 in
-                    absurd (both_ways (wanted (at p l)) free
-                    (w o.0 (at p l) (omega arith) o.1 held)))
-              ]
-            ]
+        let never : IsInNoneFrom (l + 1) rows (at p l) = λ m i j e.
+        both_ways (wanted (at p l)) free (w m (at p l) i j e) in
+        record { same = refl; none = λ q g a. omega (arith, keeps never q g a) }
+
+    -- nor a less one
+    pub lowest : IsInNoneFrom (l + 1) rows (at p l) → IsImproved rows l 0 p p
+    lowest never = record {
+      pairs = h;
+      kept = λ i j. refl;
+      above = omega arith;
+      least = λ q g a f. omega (arith, keeps never q g a);
+    }
 
 -- what one left block more may be paired with is wanted too
 pub wanted_more : (rows : List BlockSet) (l : ℕ) (wanted new : ℕ → Bool)

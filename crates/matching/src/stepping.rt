@@ -1,7 +1,9 @@
 //! Through the perfect pairings in dictionary order: to the first one, and from one to the next.
 
-ghost use Rattle.std.specs.Prelude.{◌≡◌, ◌+◌, ◌<◌, ◌≤◌, ◌↔◌, length, MatchBool, IsOk, IfOk};
+ghost use Rattle.std.specs.Prelude.{◌≡◌, ℕ, ◌+◌, ◌<◌, ◌≤◌, ◌↔◌, length, MatchBool, IsOk, IfOk};
 ghost use Rattle.std.specs.Prelude.{IfErr, OnOk, OnErr};
+ghost use Rattle.std.specs.List.{list_any};
+ghost use Rattle.std.specs.Prelude.{drop};
 ghost use Rattle.blockset.specs.declared.TheConstants.{MOST_BLOCKS};
 ghost use Rattle.blockset.specs.Has.{has};
 ghost use Rattle.pairing.specs.Grid.{at};
@@ -108,8 +110,49 @@ fn raise(
     improve(rows, p, holders, l, own + 1)
 }
 
+/// All right blocks of these rows. There is no branch in the loop, so that it takes several rows at
+/// a time.
+fn union_of(rows: &[BlockSet]) -> BlockSet
+    ensures { (r : ℕ) → has result r ≡ list_any (λ row. has row r) rows.now }
+{
+    let mut all = BlockSet::empty();
+    for row in rows {
+        all = all.union(*row);
+    }
+    all
+}
+
+/// All right blocks of the rows from `low` on.
+// As a function of its own it needs no room on the stack while a left block is searched for.
+#[inline(never)]
+fn union_from(rows: &[BlockSet], low: usize) -> BlockSet
+    requires { low ≤ length rows.now }
+    ensures { (r : ℕ) → has result r ≡ list_any (λ row. has row r) (drop low rows.now) }
+{
+    union_of(&rows[low..])
+}
+
+/// Sends left block `l` to the least right block that it can have while the left blocks before it
+/// keep theirs. Where its own stands in no row of a later left block, no other left block can have
+/// it, so it stays, and nothing is searched. To see that takes one union for each later row, which
+/// is far less than a search.
+fn lower(rows: &[BlockSet], p: &mut [u16], holders: &mut Holders, l: usize)
+    requires small { length rows.now ≤ MOST_BLOCKS }
+    requires pairs { IsPerfectOver rows.now p.old }
+    requires inside { l < length rows.now }
+    requires held { AreHoldersFrom (l + 1) p.old holders.old }
+    ensures improved { IsImproved rows.now l 0 p.old p.new }
+    ensures held { AreHoldersFrom (l + 1) p.new holders.new }
+{
+    let own = p[l] as usize;
+    if union_from(rows, l + 1).contains(own) {
+        improve(rows, p, holders, l, 0);
+    }
+}
+
 /// Makes `p` the first of the pairings that agree with it below `low`, by at most n searches: one
-/// for each left block from `low` on. The holders tell of those when it begins.
+/// for each left block from `low` on. A left block whose right block no later one may have is
+/// passed over. The holders tell of the left blocks from `low` on when it begins.
 fn make_first_from(rows: &[BlockSet], p: &mut [u16], holders: &mut Holders, low: usize)
     requires small { length rows.now ≤ MOST_BLOCKS }
     requires pairs { IsPerfectOver rows.now p.old }
@@ -119,7 +162,7 @@ fn make_first_from(rows: &[BlockSet], p: &mut [u16], holders: &mut Holders, low:
 {
     for l in low..rows.len() {
         holders.take_out(p, l);
-        improve(rows, p, holders, l, 0);
+        lower(rows, p, holders, l);
     }
 }
 

@@ -1,21 +1,14 @@
 -- Each left block in turn is a step of proofs/Order.antt.
-use Rattle.std.proofs.Common.{inl, inr, arith}
-use Rattle.std.proofs.lemmas.Bool.{cases_Bool}
-use Rattle.std.proofs.lemmas.Bool.Decides.{when_true, when_false}
-use Rattle.matching.proofs.Order.{settle_more, settle_never, settled}
+use Rattle.std.proofs.Common.{arith}
+use Rattle.matching.proofs.Order.{settle_more, settled}
 use Rattle.matching.proofs.stepping.make_first_from.Goals as goal
 
 pub loop-l-preserved : goal.loop-l-preserved
-loop-l-preserved c =
-    let s = c.loop-l.invariant.settling in
-    let improved = c.improve.ensures.improved in
-    record {
-      settling = elim (cases_Bool c.improve.result) [
-        | inl e ↦ settle_more s (omega arith) (omega arith) (when_true _ _ e improved)
-        | inr e ↦ absurd (settle_never s (when_false _ _ e improved))
-      ];
-      holders = c.improve.ensures.held;
-    }
+loop-l-preserved c = record {
+  settling = settle_more c.loop-l.invariant.settling (omega arith) (omega arith)
+      c.lower.ensures.improved;
+  holders = c.lower.ensures.held;
+}
 
 pub take_out-requires : goal.take_out-requires
 take_out-requires c =
