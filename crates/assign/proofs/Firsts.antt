@@ -26,11 +26,15 @@ pub record AreSolved {K : Type 0} (kind : Ghosts K) (t : Lent K) : Type 0 where
   pub usable : IsUsable kind t
   pub solved : HasOptimum kind t
 
+pub are_solved : {K : Type 0} {kind : Ghosts K} {t : Lent K} → IsUsable kind t
+    → HasOptimum kind t → AreSolved kind t
+are_solved usable solved = record { usable = usable; solved = solved }
+
 pub solved_still : {K : Type 0} (kind : Ghosts K) (t : Lent K) (p : List ℕ) (l r : List K)
     → IsUsable kind t × HasOptimum kind (written t p l r) → length p ≡ length t.partners
     → length l ≡ length t.left → length r ≡ length t.right → AreSolved kind (written t p l r)
 solved_still kind t p l r w ep el er =
-    record { usable = usable_still kind t p l r w.0 ep el er; solved = w.1 }
+    are_solved (usable_still kind t p l r w.0 ep el er) w.1
 
 -- valid prices that lie near make usable tables hold together
 together : {K : Type 0} (kind : Ghosts K) (t : Lent K) → IsUsable kind t → HasFirstOptimum kind t

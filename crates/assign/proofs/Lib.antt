@@ -28,4 +28,5 @@ pub mod Firsts
 pub mod Looking
 pub mod Nearer
 pub mod Parts
+pub mod Noting
 pub mod Owners

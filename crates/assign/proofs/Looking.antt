@@ -1,12 +1,12 @@
--- One look at each right block of a set: it is offered a way, and how far it is beyond its price
--- then.
+-- One look at each right block that an offer goes to: it is offered a way, and how far it is beyond
+-- its price then.
 -- Idea: the right blocks that are still to be looked at are as they were; one that is offered its
 -- way changes no other.
 use Rattle.std.proofs.Common.{◌≡◌, ℕ, ◌+◌, ◌≤◌, Bool, true, false, not, ◌&&◌, eqb, List, ℤ}
 use Rattle.std.proofs.Common.{◌<◌, length, get_or, ◌-ℤ◌}
 use Rattle.std.proofs.Common.{sym, refl, ap, ◌∙◌, subst, inl, inr, ⊎_elim, arith}
 use Rattle.std.proofs.lemmas.Int.{ints}
-use Rattle.std.proofs.lemmas.Bool.{cases_eq, both_ways, and_left}
+use Rattle.std.proofs.lemmas.Bool.{cases_eq, both_ways}
 use Rattle.cost.specs.declared.TheConstants.{COST_LIMIT, RAIL}
 use Rattle.cost.specs.declared.Cost.{Ghosts}
 use Rattle.cost.specs.Columns.{AreWithin}
@@ -19,25 +19,21 @@ use Rattle.assign.proofs.Entries.{read_within}
 use Rattle.blockset.proofs.Removing.{still_in, gone}
 
 -- an offer is the same where all that it speaks of is the same
-pub offered_like : (shift : ℤ) (cost : ℕ → ℤ) (from : ℕ) (to to' reached reached' : ℕ → Bool)
-    (d e : ℕ → ℤ) (via via' : ℕ → ℕ) (d' e' : ℕ → ℤ) (w w' : ℕ → ℕ) (c : ℕ)
-    → to' c ≡ to c → (to c ≡ true → reached c ≡ reached' c)
+offered_like : (shift : ℤ) (cost : ℕ → ℤ) (from : ℕ) (to reached : ℕ → Bool) (d e : ℕ → ℤ)
+    (via via' : ℕ → ℕ) (d' e' : ℕ → ℤ) (w w' : ℕ → ℕ) (c : ℕ)
     → e c ≡ d c → via' c ≡ via c → e' c ≡ d' c → w' c ≡ w c
     → Offered shift cost from to reached d via d' w c
-    → Offered shift cost from to' reached' e via' e' w' c
-offered_like shift cost from to to' reached reached' d e via via' d' e' w w' c et er ed ev ed' ew
-    h = record {
-      others = λ f. let x = h.others (sym et ∙ f) in
-          (ed' ∙ x.0 ∙ sym ed, ew ∙ x.1 ∙ sym ev);
-      change = λ t. let s = sym et ∙ t in ⊎_elim
-          (λ x. inl (sym (er s) ∙ x.0, ed' ∙ x.1 ∙ sym ed, ew ∙ x.2 ∙ sym ev))
-          (λ x. inr (ed' ∙ x.0, ew ∙ x.1)) (h.change s);
-      most = λ t. let x = h.most (sym et ∙ t) in omega (arith, ints);
-      less = λ t r. let s = sym et ∙ t in let x = h.less s (er s ∙ r) in omega (arith, ints);
-    }
+    → Offered shift cost from to reached e via' e' w' c
+offered_like shift cost from to reached d e via via' d' e' w w' c ed ev ed' ew h = record {
+  others = λ f. let x = h.others f in (ed' ∙ x.0 ∙ sym ed, ew ∙ x.1 ∙ sym ev);
+  change = λ t. ⊎_elim (λ x. inl (x.0, ed' ∙ x.1 ∙ sym ed, ew ∙ x.2 ∙ sym ev))
+      (λ x. inr (ed' ∙ x.0, ew ∙ x.1)) (h.change t);
+  most = λ t. let x = h.most t in omega (arith, ints);
+  less = λ t r. let x = h.less t r in omega (arith, ints);
+}
 
 -- what is offered nothing stays as it is
-pub offered_none : (shift : ℤ) (cost : ℕ → ℤ) (from : ℕ) (to reached : ℕ → Bool) (d : ℕ → ℤ)
+offered_none : (shift : ℤ) (cost : ℕ → ℤ) (from : ℕ) (to reached : ℕ → Bool) (d : ℕ → ℤ)
     (via : ℕ → ℕ) (c : ℕ) → to c ≡ false → Offered shift cost from to reached d via d via c
 offered_none shift cost from to reached d via c f = record {
   others = λ _. (refl, refl);
@@ -46,7 +42,7 @@ offered_none shift cost from to reached d via c f = record {
   less = λ t. absurd (both_ways (to c) f t);
 }
 
-module _ (shift : List ℤ) (cost : ℕ → List ℤ) (from : ℕ) (set to : ℕ → Bool) (d : ℕ → List ℤ)
+module _ (shift : List ℤ) (cost : ℕ → List ℤ) (from : ℕ) (to : ℕ → Bool) (d : ℕ → List ℤ)
     (via : ℕ → ℕ) where
   -- how far the distance of c can be, if it was not farther before
   abbrev pub NoFarther : (d d' : ℕ → List ℤ) → ℕ → Type 0
@@ -54,50 +50,49 @@ module _ (shift : List ℤ) (cost : ℕ → List ℤ) (from : ℕ) (set to : ℕ
       → AreWithin (b + COST_LIMIT) (d c)
       → AreWithin (b + COST_LIMIT) (d' c)
 
+  -- what comes of the offer for c
+  abbrev pub Comes : (d : ℕ → List ℤ) (via : ℕ → ℕ) (d' : ℕ → List ℤ) (via' : ℕ → ℕ) → ℕ → Type 0
+  Comes d via d' via' = Offered (weight shift) (λ c. weight (cost c)) from to (λ _. true)
+      (λ c. weight (d c)) via (λ c. weight (d' c)) via'
+
   pub record Looking (rest : ℕ → Bool) (d' : ℕ → List ℤ) (via' : ℕ → ℕ) : Type 0 where
     pub waits : (c : ℕ) → rest c ≡ true → (d' c ≡ d c) × (via' c ≡ via c)
-    pub outside : (c : ℕ) → set c ≡ false → d' c ≡ d c
-    pub done : (c : ℕ) → rest c ≡ false → Offered (weight shift) (λ c. weight (cost c)) from
-        (λ k. set k && to k) (λ _. true) (λ c. weight (d c)) via (λ c. weight (d' c)) via' c
+    pub outside : (c : ℕ) → to c ≡ false → d' c ≡ d c
+    pub done : (c : ℕ) → rest c ≡ false → Comes d via d' via' c
     pub near : (c : ℕ) → NoFarther d d' c
 
-  pub looking_none : Looking set d via
+  pub looking_none : Looking to d via
   looking_none = record {
     waits = λ c t. (refl, refl);
     outside = λ c f. refl;
-    done = λ c f. offered_none (weight shift) (λ c. weight (cost c)) from (λ k. set k && to k)
-        (λ _. true) (λ c. weight (d c)) via c (and_left (set c) (to c) f);
+    done = λ c f. offered_none (weight shift) (λ c. weight (cost c)) from to (λ _. true)
+        (λ c. weight (d c)) via c f;
     near = λ c b s le w. w;
   }
 
   pub looking_one : (rest rest' : ℕ → Bool) (c : ℕ)
-      → ((j : ℕ) → rest' j ≡ (rest j && not (eqb j c))) → rest c ≡ true → set c ≡ true
+      → ((j : ℕ) → rest' j ≡ (rest j && not (eqb j c))) → rest c ≡ true → to c ≡ true
       → (d' : ℕ → List ℤ) (via' : ℕ → ℕ) → Looking rest d' via'
       → (d'' : ℕ → List ℤ) (via'' : ℕ → ℕ)
       → ((j : ℕ) → (j ≡ c → ⊥) → (d'' j ≡ d' j) × (via'' j ≡ via' j))
-      → Offered (weight shift) (λ c. weight (cost c)) from to (λ _. true) (λ c. weight (d' c)) via'
-      (λ c. weight (d'' c)) via'' c
-      → NoFarther d' d'' c → Looking rest' d'' via''
+      → Comes d' via' d'' via'' c → NoFarther d' d'' c → Looking rest' d'' via''
   looking_one rest rest' c removed waiting member d' via' h d'' via'' others here near =
       let w = h.waits c waiting in
       record {
         waits = λ j t. let s = still_in rest rest' c removed j t in let x = others j s.1 in
             let y = h.waits j s.0 in (x.0 ∙ y.0, x.1 ∙ y.1);
-        outside = λ j f. (others j (λ e. both_ways (set j) f
-            (subst (λ (z : ℕ). set z ≡ true) (sym e) member))).0 ∙ h.outside j f;
+        outside = λ j f. (others j (λ e. both_ways (to j) f
+            (subst (λ (z : ℕ). to z ≡ true) (sym e) member))).0 ∙ h.outside j f;
         done = λ j f. ⊎_elim
-            (λ (e : j ≡ c). subst (Offered (weight shift) (λ c. weight (cost c)) from
-            (λ k. set k && to k) (λ _. true) (λ c. weight (d c)) via (λ c. weight (d'' c)) via'')
-            (sym e)
-            (offered_like (weight shift) (λ c. weight (cost c)) from to (λ k. set k && to k)
-            (λ _. true) (λ _. true) (λ c. weight (d' c)) (λ c. weight (d c)) via' via
-            (λ c. weight (d'' c)) (λ c. weight (d'' c)) via'' via'' c (ap (λ z. z && to c) member)
-            (λ _. refl) (ap weight (sym w.0)) (sym w.1) refl refl here))
+            (λ (e : j ≡ c). subst (Comes d via d'' via'') (sym e)
+            (offered_like (weight shift) (λ c. weight (cost c)) from to (λ _. true)
+            (λ c. weight (d' c)) (λ c. weight (d c)) via' via (λ c. weight (d'' c))
+            (λ c. weight (d'' c)) via'' via'' c (ap weight (sym w.0)) (sym w.1) refl refl here))
             (λ (ne : j ≡ c → ⊥). let x = others j ne in
-            offered_like (weight shift) (λ c. weight (cost c)) from (λ k. set k && to k)
-            (λ k. set k && to k) (λ _. true) (λ _. true) (λ c. weight (d c)) (λ c. weight (d c))
-            via via (λ c. weight (d' c)) (λ c. weight (d'' c)) via' via'' j refl (λ _. refl) refl
-            refl (ap weight x.0) x.1 (h.done j (gone rest rest' c removed j f ne)))
+            offered_like (weight shift) (λ c. weight (cost c)) from to (λ _. true)
+            (λ c. weight (d c)) (λ c. weight (d c)) via via (λ c. weight (d' c))
+            (λ c. weight (d'' c)) via' via'' j refl refl (ap weight x.0) x.1
+            (h.done j (gone rest rest' c removed j f ne)))
             (cases_eq j c);
         near = λ j b s le old. ⊎_elim
             (λ (e : j ≡ c). subst (λ (z : ℕ). AreWithin (b + COST_LIMIT) (d'' z)) (sym e)

@@ -1,12 +1,14 @@
--- The nearest right block of a set, from the nearest of its free and of its held ones.
+-- The nearest right block of a set, from the nearest of its free and of its held ones, or from the
+-- nearest of any part of it and of the others.
 -- Idea: each right block of the set is free or held, and so at least as far as the nearest of its
--- part. The free one is taken unless the held one is nearer.
+-- part. The free one is taken unless the held one is nearer. Any part stands for the free ones.
 use Rattle.std.proofs.Common.{◌≡◌, ℕ, Bool, true, false, not, ◌&&◌, ℤ, ◌+ℤ◌, ◌≤ℤ◌, ◌<ℤ◌}
-use Rattle.std.proofs.Common.{List, sym, ◌∙◌, subst, ⊎_elim, arith, Option, Some, None}
+use Rattle.std.proofs.Common.{List, refl, sym, ◌∙◌, subst, ⊎_elim, arith, Option, Some, None}
 use Rattle.std.proofs.Common.{MatchOption, inl, inr}
 use Rattle.std.proofs.lemmas.Int.{ints}
 use Rattle.std.proofs.lemmas.Bool.{and_parts, and_from, cases_Bool, both_ways, not-true}
 use Rattle.std.proofs.lemmas.Bool.{not_from_false}
+use Rattle.std.proofs.Math.Bool.{and-false}
 use Rattle.cost.specs.declared.Cost.{Ghosts}
 use Rattle.cost.specs.Weights.{weight}
 use Rattle.assign.specs.declared.tree.Nearby.{Nearby}
@@ -101,3 +103,29 @@ module _ {K : Type 0} (kind : Ghosts K) (set held free other : ℕ → Bool)
       (λ z. MatchOption z ((c : ℕ) → set c ≡ false) Found) (sym e.0)
       (other_found b h (λ c s n. omega
       (arith, ints, e.1, f.key, h.key, f.nearest.least c (in_free c s n))))
+
+-- a part of the set and the others of it: nothing more is asked than which one is nearest
+module _ {K : Type 0} (kind : Ghosts K) (set part other : ℕ → Bool)
+    (within : (j : ℕ) → part j ≡ true → set j ≡ true)
+    (other_is : (j : ℕ) → other j ≡ (set j && not (part j))) (right : List K)
+    (d : ℕ → List ℤ) where
+  part_is : (j : ℕ) → part j ≡ (set j && not (not (part j)))
+  part_is j = ⊎_elim
+      (λ (t : part j ≡ true). rw (t, within j t) refl)
+      (λ (f : part j ≡ false). rw f (sym (and-false (set j))))
+      (cases_Bool (part j))
+
+  nearest_of : (r : Option (Nearby K)) → MatchOption r ((c : ℕ) → set c ≡ false)
+      (λ near. NearestWithKey kind set right d near × FreeFirst set (λ j. not (part j))
+      (weight_at kind right) (λ c. weight (d c)) near.block)
+      → MatchOption r ((c : ℕ) → set c ≡ false) (NearestWithKey kind set right d)
+  nearest_of None h = h
+  nearest_of (Some a) h = h.0
+
+  pub nearest_parts : (a b r : Option (Nearby K))
+      → MatchOption a ((c : ℕ) → part c ≡ false) (NearestWithKey kind part right d)
+      → MatchOption b ((c : ℕ) → other c ≡ false) (NearestWithKey kind other right d)
+      → Nearer kind a b r
+      → MatchOption r ((c : ℕ) → set c ≡ false) (NearestWithKey kind set right d)
+  nearest_parts a b r f h e = nearest_of r (nearer_found kind set (λ j. not (part j)) part other
+      part_is other_is right d a b r f h e)

@@ -29,12 +29,12 @@ module _ (offered held reached to fresh known : ℕ → Bool)
     (to_is : (j : ℕ) → to j ≡ (offered j && held j))
     (fresh_is : (j : ℕ) → fresh j ≡ (to j && not (reached j)))
     (known_is : (j : ℕ) → known j ≡ (to j && reached j)) (c : ℕ) where
-  pub offered_parts : (rest : ℕ → Bool) → (offered c ≡ true → held c ≡ true → rest c ≡ true)
-      → {shift : ℤ} {cost : ℕ → ℤ} {from : ℕ} {d d₁ d₂ : ℕ → ℤ} {via via₁ via₂ : ℕ → ℕ}
+  pub offered_parts : {shift : ℤ} {cost : ℕ → ℤ} {from : ℕ} {d d₁ d₂ : ℕ → ℤ}
+      {via via₁ via₂ : ℕ → ℕ}
       → Offered shift cost from fresh (λ _. false) d via d₁ via₁ c
-      → Offered shift cost from (λ k. rest k && known k) (λ _. true) d₁ via₁ d₂ via₂ c
+      → Offered shift cost from known (λ _. true) d₁ via₁ d₂ via₂ c
       → Offered shift cost from (λ k. offered k && held k) reached d via d₂ via₂ c
-  offered_parts rest waiting first second =
+  offered_parts first second =
       let e = to_is c in
       let a = fresh_is c in
       let b = known_is c in

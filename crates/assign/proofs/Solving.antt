@@ -2,6 +2,7 @@
 -- Idea: the distances are the greatest prices, valid prices prove the pairing optimum, and values
 -- within PRICE_LIMIT lie on the rail.
 use Rattle.std.proofs.Common.{◌≡◌, ℕ, ◌<◌, true, false, ltb, List, length, sym, refl, ◌∙◌, subst}
+use Rattle.std.proofs.Common.{Ok}
 use Rattle.std.proofs.lemmas.Nat.{mul-add-lt}
 use Rattle.std.proofs.lemmas.Bool.{and_parts, ltb-true}
 use Rattle.cost.specs.declared.Cost.{Ghosts}
@@ -17,7 +18,9 @@ use Rattle.tables.proofs.Alike.{rows_alike, unpaired_rows}
 use Rattle.tables.proofs.Orderly.{near_value, sane_in_order}
 use Rattle.assign.specs.Weighed.{SearchTables}
 use Rattle.assign.specs.Prices.{IsSolution}
-use Rattle.assign.specs.Answer.{HasOptimum}
+use Rattle.assign.specs.Answer.{HasOptimum, Answers, Solves}
+use Rattle.assign.specs.declared.Outcome.{Outcome}
+use Rattle.assign.specs.declared.Outcome.TheVariants.{Optimal, Unmatched}
 use Rattle.assign.specs.Search.{pairing}
 use Rattle.assign.proofs.Ending.{HasPriced, optimum, greatest}
 
@@ -127,3 +130,23 @@ module _ {K : Type 0} {kind : Ghosts K} {t : Lent K} {rows : List BlockSet}
       → IsSolution kind rows t.costs t.partners t.left t.right → HasOptimum kind t
   solved_of wide s = subst (λ k. HasOptimum kind (record t { size = k })) long
       (solved t rows own wide s)
+
+-- what is answered of the tables' own rows is answered of the tables
+pub answered : {K : Type 0} (kind : Ghosts K) (t : Lent K) (rows : List BlockSet)
+    → length rows ≡ t.size → HasRows kind t rows
+    → ((x : K) → length (kind.meaning x) ≡ kind.columns) → (p : List ℕ) (l r : List K)
+    → length p ≡ length t.partners → length l ≡ length t.left → length r ≡ length t.right
+    → (o : Outcome) → Solves kind rows t.costs t.partners t.left t.right p l r o
+    → Answers kind t (written t p l r) (HasOptimum kind (written t p l r)) (Ok o)
+answered kind t rows long given wide p l r ep el er Optimal done = (
+  given.usable,
+  solved_of long (record {
+    usable = usable_still kind t p l r given.usable ep el er;
+    made = given.made;
+  }) wide done,
+)
+answered kind t rows long given wide p l r ep el er (Unmatched s) none = (
+  given.usable,
+  unpaired_of long given s.crowd s.short none.0,
+  rw (none.1, none.2, none.3) refl,
+)

@@ -4,8 +4,7 @@
 -- left block offers all the distance 0, and cleared tables tell that.
 use Rattle.std.proofs.Common.{◌≡◌, ℕ, ◌+◌, ◌<◌, Bool, true, false, ◌&&◌, List, length, replicate}
 use Rattle.std.proofs.Common.{ℤ, pos, ◌+ℤ◌, Option, Some, None, IfSome, MatchOption, is_some, sym}
-use Rattle.std.proofs.Common.{refl, ap}
-use Rattle.std.proofs.Common.{◌∙◌, ⊎_elim, arith}
+use Rattle.std.proofs.Common.{refl, ap, ◌∙◌, subst, ⊎_elim, arith}
 use Rattle.std.proofs.Math.Bool.{and-false}
 use Rattle.std.proofs.lemmas.Int.{ints}
 use Rattle.std.proofs.lemmas.Bool.{both_ways, and_from, cases_Bool}
@@ -157,14 +156,19 @@ module _ {K : Type 0} {kind : Ghosts K} {rows : List BlockSet} {costs : List K}
 -- the imagined left block, in cleared tables
 pub begins_all : {K : Type 0} (kind : Ghosts K) (rows : List BlockSet) (costs : List K)
     (holders : Holders) (right dist : List K) (all : BlockSet) (via : List ℕ)
-    (next : Option (Nearby K)) → ((c : ℕ) → c < length rows → has all c ≡ true)
+    (free next : Option (Nearby K)) → ((c : ℕ) → c < length rows → has all c ≡ true)
     → ((c : ℕ) → has holders.held c ≡ true → weight (distances kind holders dist c) ≡ pos 0)
-    → ((c : ℕ) → at via c ≡ 0)
+    → ((c : ℕ) → at via c ≡ 0) → free ≡ None
     → Begins kind rows costs holders right from_all
-    (record { seen = all; via = via; free = None; next = next }) dist
-begins_all kind rows costs holders right dist all via next whole zero none = (
+    (record { seen = all; via = via; free = free; next = next }) dist
+begins_all kind rows costs holders right dist all via free next whole zero none no_free = (
   λ _. pos 0,
   λ _. 0,
-  record { dist = λ c r h. sym (zero c h); via = λ c r h. sym (none c); nearest = tt },
+  record {
+    dist = λ c r h. sym (zero c h);
+    via = λ c r h. sym (none c);
+    nearest = subst (λ z. IfSome z (IsNearestFree kind holders right (has all) via (λ _. pos 0)
+        (λ _. 0))) (sym no_free) tt;
+  },
   λ out p kept. started_at kept from_all (has all) (λ _. 0) whole (λ c. tt),
 )

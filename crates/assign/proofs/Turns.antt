@@ -29,14 +29,13 @@ use Rattle.matching.specs.declared.chains.Holders.{Holders}
 use Rattle.matching.specs.declared.chains.Reach.{Reach}
 use Rattle.assign.specs.declared.limits.TheConstants.{DISTANCE_LIMIT, SHIFT_LIMIT}
 use Rattle.assign.specs.declared.search.Offer.{Offer}
-use Rattle.assign.specs.declared.tree.Begun.{Begun}
 use Rattle.assign.specs.declared.tree.Nearby.{Nearby}
 use Rattle.assign.specs.declared.tree.Tree.{Tree}
 use Rattle.assign.specs.Weighed.{weight_at, cost_weight, graph, SearchTables}
 use Rattle.assign.specs.Offers.{IsOffered, IsFreeOffered, NearestWithKey, Nearer, distances}
 use Rattle.assign.specs.Search.{Start, pairing, course, Grown, Ends}
-use Rattle.assign.specs.Trees.{stage, block_of, waiting, IsFreeSeen, HasFree, HasNext, Tells}
-use Rattle.assign.specs.Trees.{Searches, Begins, HasCome, HasEnded}
+use Rattle.assign.specs.Trees.{Begun, begun_in, IsUntaken, stage, block_of, waiting, IsFreeSeen}
+use Rattle.assign.specs.Trees.{HasFree, HasNext, Tells, Searches, Begins, HasCome, HasEnded}
 use Rattle.assign.proofs.Entries.{part_of, part_is}
 use Rattle.assign.proofs.Stages.{stage_taken, stage_reached, stage_none, untaken_is, reached_is}
 use Rattle.assign.proofs.Dijkstra.{Eased, took, looked}
@@ -182,7 +181,7 @@ module _ {K : Type 0} {kind : Ghosts K} {rows : List BlockSet} {costs : List K}
     chosen r e = choose free next r refl turning.nearest_free turning.nearest_held e
 
     -- nothing is left to take: the search has come to no free right block
-    abbrev HasStopped : Tree K → Type 0
+    abbrev pub HasStopped : Tree K → Type 0
     HasStopped tree = ((start : Start)
         → Begins kind rows costs holders right start begun dist₀
         → HasCome kind rows costs holders right start tree dist)
@@ -530,37 +529,43 @@ module _ {K : Type 0} {kind : Ghosts K} {rows : List BlockSet} {costs : List K}
           no_goal = no_goal;
         }
 
-  -- at first no right block is taken
-  pub turning_none : (none : BlockSet) → ((c : ℕ) → has none c ≡ false)
-      → ((c : ℕ) → has begun.seen c ≡ true → c < length rows)
-      → ((c : ℕ) → has begun.seen c ≡ true → has holders.held c ≡ true
-      → AreWithin COST_LIMIT (distances kind holders dist₀ c))
-      → HasFree kind holders right (has begun.seen) begun.free
-      → HasNext kind holders right dist₀ (has begun.seen) (λ _. false) begun.next
-      → Turning kind rows costs holders right begun dist₀ begun.seen
-      (record { reached = none; from = begun.via; rank = replicate 64 0; goal = None }) begun.free
-      begun.next dist₀ 0
-  turning_none none empty inside near free next =
-      let same : (λ (_ : ℕ). false) ≡ has none = sym (fun_ext empty) in
-      record {
-        grown = λ start begins. subst (λ taken. Searches kind rows costs holders right dist₀
-            (has begun.seen) begun.via begun.free
-            (stage taken (has begun.seen) (replicate 64 0))
-            (λ q s. Grown (graph kind rows costs) q start s 0 (length rows))) same begins;
-        left = omega (
-          arith,
-          members_like (length rows) (λ _. true) (λ j. not (has none j))
-              (λ c h. not_from_false (has none c) (empty c)),
-          members_all (length rows),
-        );
-        inside = inside;
-        among = λ c m. absurd (both_ways (has none c) (empty c) m);
-        held = λ c m. absurd (both_ways (has none c) (empty c) m);
-        near = λ c r h. within_more COST_LIMIT (far_at 0) (distances kind holders dist₀ c)
-            (omega arith) (near c r h);
-        nearest_free = free;
-        nearest_held = subst (λ taken. HasNext kind holders right dist₀ (has begun.seen) taken
-            begun.next) same next;
-        ranks = refl;
-        no_goal = refl;
-      }
+-- at first no right block is taken
+pub turning_none : {K : Type 0} {kind : Ghosts K} {rows : List BlockSet} {costs : List K}
+    {holders : Holders} {right : List K} {dist₀ : List K} (tree : Tree K)
+    (next : Option (Nearby K)) → IsUntaken tree.taken
+    → ((c : ℕ) → has tree.seen c ≡ true → c < length rows)
+    → ((c : ℕ) → has tree.seen c ≡ true → has holders.held c ≡ true
+    → AreWithin COST_LIMIT (distances kind holders dist₀ c))
+    → HasFree kind holders right (has tree.seen) tree.free
+    → HasNext kind holders right dist₀ (has tree.seen) (λ _. false) next
+    → Turning kind rows costs holders right (begun_in tree next) dist₀ tree.seen tree.taken
+    tree.free next dist₀ 0
+turning_none {K} {kind} {rows} {costs} {holders} {right} {dist₀} tree next fresh inside near free
+    waits =
+    let empty = fresh.none in
+    let taken = has tree.taken.reached in
+    let same : (λ (_ : ℕ). false) ≡ taken = sym (fun_ext empty) in
+    record {
+      grown = λ start begins. subst (λ rank. Searches kind rows costs holders right dist₀
+          (has tree.seen) tree.taken.from tree.free (stage taken (has tree.seen) rank)
+          (λ q s. Grown (graph kind rows costs) q start s 0 (length rows))) (sym fresh.ranks)
+          (subst (λ z. Searches kind rows costs holders right dist₀
+          (has tree.seen) tree.taken.from tree.free (stage z (has tree.seen) (replicate 64 0))
+          (λ q s. Grown (graph kind rows costs) q start s 0 (length rows))) same begins);
+      left = omega (
+        arith,
+        members_like (length rows) (λ _. true) (λ j. not (taken j))
+            (λ c h. not_from_false (taken c) (empty c)),
+        members_all (length rows),
+      );
+      inside = inside;
+      among = λ c m. absurd (both_ways (taken c) (empty c) m);
+      held = λ c m. absurd (both_ways (taken c) (empty c) m);
+      near = λ c r h. within_more COST_LIMIT (far_at 0) (distances kind holders dist₀ c)
+          (omega arith) (near c r h);
+      nearest_free = free;
+      nearest_held = subst (λ z. HasNext kind holders right dist₀ (has tree.seen) z next) same
+          waits;
+      ranks = ap length fresh.ranks;
+      no_goal = fresh.no_goal;
+    }

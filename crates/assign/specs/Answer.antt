@@ -1,8 +1,10 @@
 -- What a call that pairs by cost answers, and what it leaves in the tables, at every input.
-use Rattle.std.specs.Prelude.{◌≡◌, Ok, Err, Result}
+use Rattle.std.specs.Prelude.{◌≡◌, ℕ, List, length, Ok, Err, Result}
 use Rattle.cost.specs.declared.TheConstants.{PRICE_LIMIT}
 use Rattle.cost.specs.declared.Cost.{Ghosts}
+use Rattle.blockset.specs.declared.BlockSet.{BlockSet}
 use Rattle.pairing.specs.Grid.{IsOptimum}
+use Rattle.pairing.specs.Rows.{holds}
 use Rattle.pairing.specs.Optima.{optima}
 use Rattle.pairing.specs.Prices.{AreGreatest}
 use Rattle.pairing.specs.Largest.{HasNoPerfect}
@@ -10,6 +12,7 @@ use Rattle.matching.specs.Answers.{IsNth}
 use Rattle.tables.specs.Said.{AreValuesWithin}
 use Rattle.tables.specs.Lent.{Lent, grid, left_price, right_price, IsUsable, IsUnusable}
 use Rattle.tables.specs.declared.flaw.Flaw.{Flaw}
+use Rattle.assign.specs.Prices.{IsSolution}
 use Rattle.assign.specs.declared.Outcome.{Outcome}
 use Rattle.assign.specs.declared.Outcome.TheVariants.{Optimal, Unmatched}
 
@@ -29,6 +32,13 @@ module _ {K : Type 0} (kind : Ghosts K) where
   pub record HasFirstOptimum (t : Lent K) : Type 0 where
     pub first : IsNth (optima (grid kind t)) 0 t.partners
     pub prices : HasGreatestPrices t
+
+  -- the search over rows is done; or no pairing over them is perfect, and nothing is written
+  abbrev pub Solves : (rows : List BlockSet) (costs : List K) (p : List ℕ) (l r : List K)
+      (p' : List ℕ) (l' r' : List K) → Outcome → Type 0
+  Solves rows costs p l r p' l' r' Optimal = IsSolution kind rows costs p' l' r'
+  Solves rows costs p l r p' l' r' (Unmatched s) =
+      HasNoPerfect (length rows) (holds rows) s.crowd s.short × (p' ≡ p) × (l' ≡ l) × (r' ≡ r)
 
   -- the call is done; or no pairing is perfect, and the crowd set and its shortage say why; or the
   -- tables are unusable. In the last two cases they are as they were

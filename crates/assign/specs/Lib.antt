@@ -1,5 +1,6 @@
 pub mod Weighed
 pub mod Search
+pub mod Noted
 pub mod Offers
 pub mod Trees
 pub mod Pairs

@@ -8,18 +8,49 @@ use Rattle.cost.specs.Columns.{AreWithin}
 use Rattle.cost.specs.Weights.{weight}
 use Rattle.blockset.specs.declared.TheConstants.{SET_WIDTH}
 use Rattle.blockset.specs.declared.BlockSet.{BlockSet}
-use Rattle.blockset.specs.Has.{has}
+use Rattle.blockset.specs.Has.{has, IsEmpty}
 use Rattle.pairing.specs.Grid.{at}
 use Rattle.tables.specs.Said.{columns_at}
 use Rattle.matching.specs.declared.chains.Holders.{Holders}
+use Rattle.matching.specs.declared.chains.Reach.{Reach}
 use Rattle.assign.specs.declared.limits.TheConstants.{DISTANCE_LIMIT, INNER_PRICE_LIMIT}
 use Rattle.assign.specs.declared.tree.Nearby.{Nearby}
-use Rattle.assign.specs.declared.tree.Begun.{Begun}
 use Rattle.assign.specs.declared.tree.Tree.{Tree}
 use Rattle.assign.specs.Weighed.{weight_at, graph}
 use Rattle.assign.specs.Offers.{distances, NearestWithKey}
 use Rattle.assign.specs.Search.{Pairing, pairing, Start, Course, course, Kept, Grown}
 use Rattle.assign.specs.Search.{Ends}
+
+-- what a search has come to before its first turn: the right blocks, had or free; the left block
+-- that each was reached from that is had, and the nearest free one; that one; and the nearest one
+-- that is had
+pub record Begun (K : Type 0) : Type 0 where
+  pub seen : BlockSet
+  pub via : List ℕ
+  pub free : Option (Nearby K)
+  pub next : Option (Nearby K)
+
+-- so it is in this tree, from which nothing is taken yet
+abbrev pub begun_in : {K : Type 0} → Tree K → Option (Nearby K) → Begun K
+begun_in tree next = record {
+  seen = tree.seen;
+  via = tree.taken.from;
+  free = tree.free;
+  next = next;
+}
+
+-- nothing is taken yet
+pub record IsUntaken (taken : Reach) : Type 0 where
+  pub none : IsEmpty taken.reached
+  pub ranks : taken.rank ≡ replicate SET_WIDTH 0
+  pub no_goal : taken.goal ≡ None
+
+-- a search that has come to nothing yet
+pub record IsFresh {K : Type 0} (tree : Tree K) : Type 0 where
+  pub unseen : IsEmpty tree.seen
+  pub untaken : IsUntaken tree.taken
+  pub from : tree.taken.from ≡ replicate SET_WIDTH 0
+  pub no_free : tree.free ≡ None
 
 -- how far a search has come with a right block, from what it has taken, at which turns, and seen
 abbrev pub stage : (taken seen : ℕ → Bool) (turn : List ℕ) → ℕ → ℕ

@@ -13,69 +13,77 @@ ghost use Rattle.pairing.specs.Grid.{at};
 ghost use Rattle.pairing.specs.Rows.{holds};
 ghost use Rattle.tables.specs.Said.{AreValuesWithin};
 ghost use Rattle.assign.specs.declared.limits.TheConstants.{INNER_PRICE_LIMIT};
-ghost use Rattle.assign.specs.Weighed.{SearchTables, graph};
+ghost use Rattle.assign.specs.Weighed.{SearchTables, graph, weight_at};
+ghost use Rattle.assign.specs.Noted.{AreNoted};
 ghost use Rattle.assign.specs.Offers.{distances, HaveOwners};
 ghost use Rattle.assign.specs.Search.{Start, from_row, from_all};
-ghost use Rattle.assign.specs.Trees.{HasFree, HasNext, Begins, HasCome, HasEnded};
+ghost use Rattle.assign.specs.Trees.{begun_in, IsUntaken, IsFresh, HasFree, HasNext};
+ghost use Rattle.assign.specs.Trees.{Begins, HasCome, HasEnded};
 
 use crate::search::{Offer, nearer, nearest, offer_free, offer_held};
 use crate::sums::exact_difference;
-use crate::tree::{Begun, Tree};
-use blockset::{BlockSet, SET_WIDTH};
+use crate::tree::{Nearby, Noted, Tree};
+use blockset::BlockSet;
 use cost::Cost;
-use matching::{Holders, Reach};
+use matching::Holders;
 
 /// Takes right blocks by their distance beyond their price, up to the first that is free. It goes
-/// on from what has been come to before the first turn, at the distances in `dist`.
+/// on from what `tree` has come to before the first turn, of which nothing is taken and `next` is
+/// the nearest one that is had, at the distances in `dist`. `noted` tells of each left block which
+/// free right blocks are near.
 pub fn grow<K: Cost>(
     costs: &[K],
     rows: &[BlockSet],
     holders: &Holders,
     right: &[K],
-    begun: Begun<K>,
+    next: Option<Nearby<K>>,
+    noted: &mut Noted,
+    tree: &mut Tree<K>,
     dist: &mut [K],
-) -> Tree<K>
+)
     requires lent { SearchTables K.Cost rows.now costs.now }
     requires rights { length right.now ≡ length rows.now }
     requires dists { length dist.old ≡ length rows.now }
-    requires inside { (c : ℕ) → has begun.seen c ≡ true → c < length rows.now }
+    requires fresh { IsUntaken tree.old.taken }
+    requires inside { (c : ℕ) → has tree.old.seen c ≡ true → c < length rows.now }
     requires owners { HaveOwners (length rows.now) holders.now }
     requires own { (c : ℕ) → has holders.now.held c ≡ true
         → holds rows.now (at holders.now.owner c) c ≡ true }
-    requires near { (c : ℕ) → has begun.seen c ≡ true → has holders.now.held c ≡ true
+    requires near { (c : ℕ) → has tree.old.seen c ≡ true → has holders.now.held c ≡ true
         → AreWithin COST_LIMIT (distances K.Cost holders.now dist.old c) }
     requires priced { AreValuesWithin K.Cost INNER_PRICE_LIMIT (length rows.now) right.now }
-    requires free { HasFree K.Cost holders.now right.now (has begun.seen) begun.free }
-    requires next { HasNext K.Cost holders.now right.now dist.old (has begun.seen) (λ _. false)
-        begun.next }
+    requires free { HasFree K.Cost holders.now right.now (has tree.old.seen) tree.old.free }
+    requires next { HasNext K.Cost holders.now right.now dist.old (has tree.old.seen) (λ _. false)
+        next }
+    requires noted { AreNoted K.Cost rows.now costs.now (has holders.now.held)
+        (weight_at K.Cost right.now) noted.old }
     ensures grown { (start : Start)
-        → Begins K.Cost rows.now costs.now holders.now right.now start begun dist.old
-        → HasCome K.Cost rows.now costs.now holders.now right.now start result dist.new }
-    ensures ended { HasEnded K.Cost (length rows.now) holders.now right.now dist.new result }
+        → Begins K.Cost rows.now costs.now holders.now right.now start (begun_in tree.old next)
+        dist.old
+        → HasCome K.Cost rows.now costs.now holders.now right.now start tree.new dist.new }
+    ensures ended { HasEnded K.Cost (length rows.now) holders.now right.now dist.new tree.new }
+    ensures noted { AreNoted K.Cost rows.now costs.now (has holders.now.held)
+        (weight_at K.Cost right.now) noted.new }
 {
     let n = rows.len();
-    let mut seen = begun.seen;
-    let mut free = begun.free;
-    let mut next = begun.next;
-    let mut taken = Reach {
-        reached: BlockSet::empty(),
-        from: begun.via,
-        rank: [0u8; SET_WIDTH],
-        goal: None,
-    };
+    let mut seen = tree.seen;
+    let mut free = tree.free;
+    let mut next = next;
     for t in 0..n {
         let Some(near) = nearer(free, next) else {
-            return Tree { seen, taken, free };
+            tree.keep(seen, free);
+            return;
         };
         let a = near.block;
-        taken.reached.insert(a);
-        taken.rank[a] = t as u8;
+        tree.taken.reached.insert(a);
+        tree.taken.rank[a] = t as u8;
         if !holders.held.contains(a) {
-            taken.goal = Some(a);
-            return Tree { seen, taken, free };
+            tree.taken.goal = Some(a);
+            tree.keep(seen, free);
+            return;
         }
         let l = holders.owner[a] as usize;
-        let to = rows[l].difference(taken.reached);
+        let to = rows[l].difference(tree.taken.reached);
         let row = &costs[l * n..l * n + n];
         let offer = Offer {
             from: l,
@@ -84,35 +92,45 @@ pub fn grow<K: Cost>(
             to,
         };
         let reached = seen;
-        seen = seen.union(to);
-        let rest = seen.intersection(holders.held).difference(taken.reached);
-        free = offer_free(&offer, holders.held, free, &mut taken.from, right);
-        next = offer_held(&offer, reached, rest, holders, &mut taken.from, dist, right);
+        seen = reached.union(to);
+        let rest = seen
+            .intersection(holders.held)
+            .difference(tree.taken.reached);
+        let via = &mut tree.taken.from;
+        free = offer_free(&offer, holders.held, free, noted, via, right);
+        next = offer_held(&offer, reached, rest, holders, via, dist, right);
     }
-    Tree { seen, taken, free }
+    tree.keep(seen, free);
 }
 
 /// Searches from left block `k` for the cheapest way to a free right block, whatever the distances
-/// were before.
+/// were before. `tree` has come to nothing yet, and holds the search in the end.
 pub fn grow_from<K: Cost>(
     k: usize,
     costs: &[K],
     rows: &[BlockSet],
     holders: &Holders,
     right: &[K],
+    noted: &mut Noted,
+    tree: &mut Tree<K>,
     dist: &mut [K],
-) -> Tree<K>
+)
     requires lent { SearchTables K.Cost rows.now costs.now }
     requires rights { length right.now ≡ length rows.now }
     requires dists { length dist.old ≡ length rows.now }
+    requires fresh { IsFresh tree.old }
     requires room { k < length rows.now }
     requires owners { HaveOwners (length rows.now) holders.now }
     requires own { (c : ℕ) → has holders.now.held c ≡ true
         → holds rows.now (at holders.now.owner c) c ≡ true }
     requires priced { AreValuesWithin K.Cost INNER_PRICE_LIMIT (length rows.now) right.now }
+    requires noted { AreNoted K.Cost rows.now costs.now (has holders.now.held)
+        (weight_at K.Cost right.now) noted.old }
     ensures grown { HasCome K.Cost rows.now costs.now holders.now right.now
-        (from_row (graph K.Cost rows.now costs.now) k) result dist.new }
-    ensures ended { HasEnded K.Cost (length rows.now) holders.now right.now dist.new result }
+        (from_row (graph K.Cost rows.now costs.now) k) tree.new dist.new }
+    ensures ended { HasEnded K.Cost (length rows.now) holders.now right.now dist.new tree.new }
+    ensures noted { AreNoted K.Cost rows.now costs.now (has holders.now.held)
+        (weight_at K.Cost right.now) noted.new }
 {
     let n = rows.len();
     let seen = rows[k];
@@ -122,50 +140,44 @@ pub fn grow_from<K: Cost>(
         shift: K::zero(),
         to: seen,
     };
-    let mut via = [0u8; SET_WIDTH];
-    let free = offer_free(&offer, holders.held, None, &mut via, right);
+    tree.seen = seen;
+    let via = &mut tree.taken.from;
+    tree.free = offer_free(&offer, holders.held, None, noted, via, right);
     let rest = seen.intersection(holders.held);
     let none = BlockSet::empty();
-    let next = offer_held(&offer, none, rest, holders, &mut via, dist, right);
-    let begun = Begun {
-        seen,
-        via,
-        free,
-        next,
-    };
-    grow(costs, rows, holders, right, begun, dist)
+    let next = offer_held(&offer, none, rest, holders, via, dist, right);
+    grow(costs, rows, holders, right, next, noted, tree, dist);
 }
 
 /// Searches from an imagined left block that offers all right blocks, each of which is had, the
-/// distance zero, which every left block has in `dist`.
+/// distance zero, which every left block has in `dist`. `tree` has come to nothing yet, and holds
+/// the search in the end.
 pub fn grow_all<K: Cost>(
     costs: &[K],
     rows: &[BlockSet],
     holders: &Holders,
     right: &[K],
+    tree: &mut Tree<K>,
     dist: &mut [K],
-) -> Tree<K>
+)
     requires lent { SearchTables K.Cost rows.now costs.now }
     requires rights { length right.now ≡ length rows.now }
+    requires fresh { IsFresh tree.old }
     requires cleared { dist.old ≡ replicate (length rows.now) K.zero }
     requires owners { HaveOwners (length rows.now) holders.now }
     requires own { (c : ℕ) → has holders.now.held c ≡ true
         → holds rows.now (at holders.now.owner c) c ≡ true }
     requires all { (c : ℕ) → c < length rows.now → has holders.now.held c ≡ true }
     requires priced { AreValuesWithin K.Cost INNER_PRICE_LIMIT (length rows.now) right.now }
-    ensures grown { HasCome K.Cost rows.now costs.now holders.now right.now from_all result
+    ensures grown { HasCome K.Cost rows.now costs.now holders.now right.now from_all tree.new
         dist.new }
-    ensures ended { HasEnded K.Cost (length rows.now) holders.now right.now dist.new result }
+    ensures ended { HasEnded K.Cost (length rows.now) holders.now right.now dist.new tree.new }
 {
     let seen = BlockSet::all(rows.len());
+    tree.seen = seen;
 
     // Where all distances are zero, those of right blocks are read as well as those of left ones.
     let next = nearest(seen, dist, right);
-    let begun = Begun {
-        seen,
-        via: [0u8; SET_WIDTH],
-        free: None,
-        next,
-    };
-    grow(costs, rows, holders, right, begun, dist)
+    let mut noted = Noted::nothing();
+    grow(costs, rows, holders, right, next, &mut noted, tree, dist);
 }

@@ -18,8 +18,7 @@ ghost use Rattle.pairing.specs.Largest.{HasNoPerfect};
 ghost use Rattle.pairing.specs.Rows.{holds};
 ghost use Rattle.tables.specs.Lent.{lent};
 ghost use Rattle.assign.specs.Weighed.{SearchTables};
-ghost use Rattle.assign.specs.Prices.{IsSolution};
-ghost use Rattle.assign.specs.Answer.{Answers, HasOptimum};
+ghost use Rattle.assign.specs.Answer.{Answers, HasOptimum, Solves};
 
 mod growing;
 mod limits;
@@ -77,14 +76,12 @@ pub fn optimum<K: Cost>(
         right,
     })?;
     let rows = PairRows::standing(n, standing);
-    if let Some(shortfall) = find_shortfall(rows.as_slice()) {
-        return Ok(Outcome::Unmatched(shortfall));
-    }
-    solve(costs, rows.as_slice(), partners, left, right);
-    Ok(Outcome::Optimal)
+    Ok(solve(costs, rows.as_slice(), partners, left, right))
 }
 
 /// Why no pairing over the rows is perfect, if none is.
+// As a function of its own its lists are gone from the stack when the searches begin.
+#[inline(never)]
 fn find_shortfall(rows: &[BlockSet]) -> Option<Shortfall>
     requires { length rows.now ≤ MOST_BLOCKS }
     ensures { MatchOption result
@@ -99,23 +96,30 @@ fn find_shortfall(rows: &[BlockSet]) -> Option<Shortfall>
     }
 }
 
-/// Pairs all left blocks at the least cost, and finds the greatest prices.
+/// Pairs all left blocks at the least cost, and finds the greatest prices. Where no pairing over
+/// the rows is perfect the answer says why, and nothing is written.
+// Inlined, it would have the compiler hold a second copy of the rows on the stack.
+#[inline(never)]
 fn solve<K: Cost>(
     costs: &[K],
     rows: &[BlockSet],
     partners: &mut [u16],
     left: &mut [K],
     right: &mut [K],
-)
+) -> Outcome
     requires lent { SearchTables K.Cost rows.now costs.now }
     requires partnered { length partners.old ≡ length rows.now }
     requires lefts { length left.old ≡ length rows.now }
     requires rights { length right.old ≡ length rows.now }
-    requires possible { (q : List ℕ) × IsPerfect (length rows.now) (holds rows.now) q }
-    ensures { IsSolution K.Cost rows.now costs.now partners.new left.new right.new }
+    ensures { Solves K.Cost rows.now costs.now partners.old left.old right.old partners.new left.new
+        right.new result }
 {
+    if let Some(shortfall) = find_shortfall(rows) {
+        return Outcome::Unmatched(shortfall);
+    }
     let first = begin(costs, rows, partners, right);
     let reduced = reduce_rows(costs, rows, first, partners, right);
     let holders = pair_rest(costs, rows, reduced, partners, left, right);
     price_greatest(costs, rows, partners, &holders, left, right);
+    Outcome::Optimal
 }

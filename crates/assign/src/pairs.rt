@@ -7,13 +7,14 @@ ghost use Rattle.blockset.specs.Has.{has};
 ghost use Rattle.pairing.specs.Grid.{at, IsPerfect};
 ghost use Rattle.pairing.specs.Rows.{holds};
 ghost use Rattle.tables.specs.Said.{AreValuesWithin};
-ghost use Rattle.assign.specs.Weighed.{SearchTables};
+ghost use Rattle.assign.specs.Weighed.{SearchTables, weight_at};
+ghost use Rattle.assign.specs.Noted.{AreNoted};
 ghost use Rattle.matching.specs.Exchange.{without};
 ghost use Rattle.assign.specs.Pairs.{so_far, IsPriced, AreChosen};
 
 use crate::growing::grow_from;
 use crate::prices::{clear, lower, price_cheapest};
-use crate::tree::{Cheapest, FirstPairs, Tree};
+use crate::tree::{Cheapest, FirstPairs, Noted, Tree};
 use blockset::{BlockSet, SET_WIDTH};
 use cost::Cost;
 use matching::{Holders, exchange};
@@ -92,7 +93,7 @@ pub fn begin<K: Cost>(
 }
 
 /// Pairs left block `k` too, along the cheapest way to a free right block. `left` holds the
-/// distances meanwhile.
+/// distances meanwhile, and `noted` what one search knows from another.
 pub fn pair_row<K: Cost>(
     k: usize,
     costs: &[K],
@@ -100,6 +101,7 @@ pub fn pair_row<K: Cost>(
     out: BlockSet,
     partners: &mut [u16],
     holders: &mut Holders,
+    noted: &mut Noted,
     left: &mut [K],
     right: &mut [K],
 )
@@ -108,26 +110,30 @@ pub fn pair_row<K: Cost>(
     requires lefts { length left.old ≡ length rows.now }
     requires rights { length right.old ≡ length rows.now }
     requires room { k < length rows.now }
+    requires noted { AreNoted K.Cost rows.now costs.now (has holders.old.held)
+        (weight_at K.Cost right.old) noted.old }
     requires unpaired { has out k ≡ true }
     requires possible { (q : List ℕ) × IsPerfect (length rows.now) (holds rows.now) q }
     requires paired { IsPriced K.Cost rows.now costs.now
         (so_far (has out) partners.old holders.old right.old) }
-    ensures { IsPriced K.Cost rows.now costs.now
+    ensures paired { IsPriced K.Cost rows.now costs.now
         (so_far (without (has out) k) partners.new holders.new right.new) }
+    ensures noted { AreNoted K.Cost rows.now costs.now (has holders.new.held)
+        (weight_at K.Cost right.new) noted.new }
 {
-    let Tree {
-        seen: _,
-        taken,
-        free,
-    } = grow_from(k, costs, rows, holders, right, left);
+    let mut tree = Tree::new();
+    grow_from(k, costs, rows, holders, right, noted, &mut tree, left);
+    let free = tree.free;
     if let Some(goal) = free {
-        let fallen = taken.reached.intersection(holders.held);
+        let fallen = tree.taken.reached.intersection(holders.held);
         lower(goal.key, fallen, holders, left, right);
-        exchange(partners, holders, out, &taken, goal.block);
+        exchange(partners, holders, out, &tree.taken, goal.block);
     }
 }
 
 /// Pairs the left blocks that are left out, one after the other.
+// As functions of their own this one and the last search lie on the stack one after the other.
+#[inline(never)]
 pub fn pair_rest<K: Cost>(
     costs: &[K],
     rows: &[BlockSet],
@@ -151,8 +157,19 @@ pub fn pair_rest<K: Cost>(
         mut out,
         mut holders,
     } = first;
+    let mut noted = Noted::nothing();
     while let Some(k) = out.least() {
-        pair_row(k, costs, rows, out, partners, &mut holders, left, right);
+        pair_row(
+            k,
+            costs,
+            rows,
+            out,
+            partners,
+            &mut holders,
+            &mut noted,
+            left,
+            right,
+        );
         out.remove(k);
     }
     holders

@@ -20,7 +20,7 @@ ghost use Rattle.assign.specs.Prices.{Topmost};
 use crate::growing::grow_all;
 use crate::search::{Offer, offer_all};
 use crate::sums::exact_difference;
-use crate::tree::Cheapest;
+use crate::tree::{Cheapest, Tree};
 use blockset::{BlockSet, SET_WIDTH};
 use cost::Cost;
 use matching::Holders;
@@ -148,6 +148,8 @@ fn are_zero<K: Cost>(right: &[K]) -> bool
 /// Makes the prices the greatest that go with a perfect pairing and have no right price above zero:
 /// the distances of a search from an imagined left block that every right block costs nothing with.
 /// Where every right price is zero already, none can be greater, and no search is needed.
+// As a function of its own it lies on the stack where the searches before it lay.
+#[inline(never)]
 pub fn price_greatest<K: Cost>(
     costs: &[K],
     rows: &[BlockSet],
@@ -169,7 +171,8 @@ pub fn price_greatest<K: Cost>(
 {
     clear(left);
     if !are_zero(right) {
-        grow_all(costs, rows, holders, right, left);
+        let mut tree = Tree::new();
+        grow_all(costs, rows, holders, right, &mut tree, left);
     }
     price_pairs(costs, rows, partners, left, right);
 }

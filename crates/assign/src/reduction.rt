@@ -169,10 +169,11 @@ pub fn reduce_row<K: Cost>(
     true
 }
 
-/// Lets the left blocks that are left out take right blocks, the least one first, for two steps for
-/// each left block. One that has nothing to bid for is set aside. No right block is let go, no
-/// price rises, and the first left block has its turn. How many are left out then is not promised:
-/// the searches pair all of them.
+/// Lets the left blocks that are left out take right blocks, the least one first, for two steps
+/// for each left block; for a fourth of these if more than three quarters of them are left out
+/// then. One that has nothing to bid for is set aside. No right block is let go, no price rises,
+/// and the first left block has its turn. How many are left out then is not promised: the searches
+/// pair all of them.
 pub fn reduce_rows<K: Cost>(
     costs: &[K],
     rows: &[BlockSet],
@@ -201,8 +202,13 @@ pub fn reduce_rows<K: Cost>(
         mut out,
         mut holders,
     } = first;
+    let n = rows.len();
     let mut aside = BlockSet::empty();
-    for _step in 0..2 * rows.len() {
+    for step in 0..2 * n {
+        // Most of them bid for the same few right blocks, and the prices fall by little each time.
+        if step > n / 2 && out.len() > n - n / 4 {
+            return FirstPairs { out, holders };
+        }
         let Some(l) = out.difference(aside).least() else {
             return FirstPairs { out, holders };
         };

@@ -17,10 +17,11 @@ ghost use Rattle.assign.specs.declared.limits.TheConstants.{DISTANCE_LIMIT, SHIF
 ghost use Rattle.assign.specs.declared.limits.TheConstants.{INNER_PRICE_LIMIT};
 ghost use Rattle.assign.specs.Weighed.{weight_at, BoundedOn};
 ghost use Rattle.assign.specs.Offers.{IsOffered, NearestWithKey, FreeFirst, KeyReach, NearestTwo};
+ghost use Rattle.assign.specs.Noted.{IsNoted, free_in};
 ghost use Rattle.assign.specs.Offers.{Nearer, IsModest, distances, HaveOwners, IsFreeOffered};
 
 use crate::sums::{exact_difference, exact_sum, is_less};
-use crate::tree::{Nearby, TwoNearest};
+use crate::tree::{Nearby, Noted, TwoNearest};
 use blockset::{BlockSet, SET_WIDTH};
 use cost::Cost;
 use matching::Holders;
@@ -198,12 +199,61 @@ pub fn nearest_free_first<K: Cost>(
     nearer(free, other)
 }
 
+/// The nearest of `vacant`, free right blocks that the offer goes to, by what is noted of its left
+/// block; where neither of the two that are noted is vacant, all are looked at, and noted anew.
+fn nearest_open<K: Cost>(
+    offer: &Offer<'_, K>,
+    vacant: BlockSet,
+    noted: &mut Noted,
+    right: &[K],
+) -> Option<Nearby<K>>
+    requires modest { IsModest K.Cost offer.now }
+    requires rights { length right.now ≡ length offer.now.costs.now }
+    requires among { (c : ℕ) → has vacant c ≡ true → has offer.now.to c ≡ true }
+    requires inside { (c : ℕ) → has vacant c ≡ true → c < length offer.now.costs.now }
+    requires priced { AreValuesWithin K.Cost INNER_PRICE_LIMIT (length offer.now.costs.now)
+        right.now }
+    requires noted { IsNoted (has vacant) (weight_at K.Cost right.now)
+        (weight_at K.Cost offer.now.costs.now) (at noted.old.near offer.now.from)
+        (at noted.old.next offer.now.from) }
+    ensures found { MatchOption result ((c : ℕ) → has vacant c ≡ false)
+        (NearestWithKey K.Cost (has vacant) right.now (columns_at K.Cost offer.now.costs.now)) }
+    ensures noted { IsNoted (has vacant) (weight_at K.Cost right.now)
+        (weight_at K.Cost offer.now.costs.now) (at noted.new.near offer.now.from)
+        (at noted.new.next offer.now.from) }
+    ensures others { (l : ℕ) → l ≢ offer.now.from → (at noted.new.near l ≡ at noted.old.near l)
+        × (at noted.new.next l ≡ at noted.old.next l) }
+{
+    if vacant.is_empty() {
+        return None;
+    }
+    let l = offer.from;
+    let near = noted.near[l] as usize;
+    if vacant.contains(near) {
+        let key = key_of(near, offer.costs, right);
+        return Some(Nearby { block: near, key });
+    }
+    let next = noted.next[l] as usize;
+    if vacant.contains(next) {
+        let key = key_of(next, offer.costs, right);
+        return Some(Nearby { block: next, key });
+    }
+    let Some(two) = two_nearest(vacant, offer.costs, right) else {
+        return nearest(vacant, offer.costs, right);
+    };
+    noted.near[l] = two.near.block as u8;
+    noted.next[l] = two.next.block as u8;
+    Some(two.near)
+}
+
 /// Makes an offer to the free ones of its right blocks: `free` is the nearest free right block
-/// before, and the answer the nearest one then. `via` tells where it is reached from.
+/// before, and the answer the nearest one then. `via` tells where it is reached from, and `noted`
+/// which free right blocks are near its left block.
 pub fn offer_free<K: Cost>(
     offer: &Offer<'_, K>,
     held: BlockSet,
     free: Option<Nearby<K>>,
+    noted: &mut Noted,
     via: &mut [u8; SET_WIDTH],
     right: &[K],
 ) -> Option<Nearby<K>>
@@ -213,11 +263,19 @@ pub fn offer_free<K: Cost>(
     requires priced { AreValuesWithin K.Cost INNER_PRICE_LIMIT (length offer.now.costs.now)
         right.now }
     requires known { IfSome free (λ near. AreWithin HALF_RAIL (K.meaning near.key)) }
-    ensures { MatchOption result ((free ≡ None) × (via.new ≡ via.old)
+    requires noted { IsNoted (free_in (has offer.now.to) (has held)) (weight_at K.Cost right.now)
+        (weight_at K.Cost offer.now.costs.now) (at noted.old.near offer.now.from)
+        (at noted.old.next offer.now.from) }
+    ensures offered { MatchOption result ((free ≡ None) × (via.new ≡ via.old)
         × ((c : ℕ) → has offer.now.to c ≡ true → has held c ≡ true))
         (IsFreeOffered K.Cost offer.now (has held) right.now free via.old via.new) }
+    ensures noted { IsNoted (free_in (has offer.now.to) (has held)) (weight_at K.Cost right.now)
+        (weight_at K.Cost offer.now.costs.now) (at noted.new.near offer.now.from)
+        (at noted.new.next offer.now.from) }
+    ensures others { (l : ℕ) → l ≢ offer.now.from → (at noted.new.near l ≡ at noted.old.near l)
+        × (at noted.new.next l ≡ at noted.old.next l) }
 {
-    let Some(near) = nearest(offer.to.difference(held), offer.costs, right) else {
+    let Some(near) = nearest_open(offer, offer.to.difference(held), noted, right) else {
         return free;
     };
     let block = near.block;
@@ -257,8 +315,8 @@ pub fn offer_first<K: Cost>(
     }
 }
 
-/// Makes an offer to right block `c` alone, which is had and reached, if it is one of the offer's:
-/// it takes the distance if that is less than the one it has. Answers how far it is then.
+/// Makes an offer to right block `c` alone, one of the offer's, which is had and reached: it takes
+/// the distance if that is less than the one it has. Answers how far it is then.
 fn offer_one<K: Cost>(
     c: usize,
     offer: &Offer<'_, K>,
@@ -267,6 +325,7 @@ fn offer_one<K: Cost>(
     dist: &mut [K],
 ) -> K
     requires modest { IsModest K.Cost offer.now }
+    requires one_of { has offer.now.to c ≡ true }
     requires inside { c < length offer.now.costs.now }
     requires had { has holders.now.held c ≡ true }
     requires owners { HaveOwners (length dist.old) holders.now }
@@ -287,9 +346,6 @@ fn offer_one<K: Cost>(
 {
     let l = holders.owner[c] as usize;
     let far = dist[l];
-    if !offer.to.contains(c) {
-        return far;
-    }
     let way = exact_sum(offer.shift, offer.costs[c]);
     if !is_less(way, far) {
         return far;
@@ -299,10 +355,24 @@ fn offer_one<K: Cost>(
     way
 }
 
-/// Makes an offer to those of its right blocks that are in `set`, all of which are had and reached.
-/// Answers which one of `set` is nearest then: so each of them is looked at once.
+/// How far a right block that is had is beyond its price.
+fn key_held<K: Cost>(block: usize, holders: &Holders, dist: &[K], right: &[K]) -> K
+    requires inside { block < length right.now }
+    requires had { has holders.now.held block ≡ true }
+    requires owners { HaveOwners (length dist.now) holders.now }
+    requires far { AreWithin DISTANCE_LIMIT (distances K.Cost holders.now dist.now block) }
+    requires priced { AreWithin INNER_PRICE_LIMIT (columns_at K.Cost right.now block) }
+    ensures key { weight (K.meaning result)
+        ≡ weight (distances K.Cost holders.now dist.now block) -ℤ weight_at K.Cost right.now block }
+    ensures reach { KeyReach K.Cost right.now (distances K.Cost holders.now dist.now) block result }
+{
+    let l = holders.owner[block] as usize;
+    exact_difference(dist[l], right[block])
+}
+
+/// Makes an offer to its right blocks, all of which are had and reached, and answers which one of
+/// them is nearest then: so each of them is looked at once.
 pub fn offer_and_find<K: Cost>(
-    set: BlockSet,
     offer: &Offer<'_, K>,
     holders: &Holders,
     via: &mut [u8; SET_WIDTH],
@@ -311,28 +381,28 @@ pub fn offer_and_find<K: Cost>(
 ) -> Option<Nearby<K>>
     requires modest { IsModest K.Cost offer.now }
     requires rights { length right.now ≡ length offer.now.costs.now }
-    requires inside { (c : ℕ) → has set c ≡ true → c < length offer.now.costs.now }
-    requires had { (c : ℕ) → has set c ≡ true → has holders.now.held c ≡ true }
+    requires inside { (c : ℕ) → has offer.now.to c ≡ true → c < length offer.now.costs.now }
+    requires had { (c : ℕ) → has offer.now.to c ≡ true → has holders.now.held c ≡ true }
     requires owners { HaveOwners (length dist.old) holders.now }
-    requires far { (c : ℕ) → has set c ≡ true
+    requires far { (c : ℕ) → has offer.now.to c ≡ true
         → AreWithin DISTANCE_LIMIT (distances K.Cost holders.now dist.old c) }
     requires priced { AreValuesWithin K.Cost INNER_PRICE_LIMIT (length offer.now.costs.now)
         right.now }
-    ensures offered { (c : ℕ) → IsOffered K.Cost offer.now (λ k. has set k && has offer.now.to k)
-        (λ _. true) (distances K.Cost holders.now dist.old)
-        (distances K.Cost holders.now dist.new) via.old via.new c }
-    ensures others { (c : ℕ) → has set c ≡ false
+    ensures offered { (c : ℕ) → IsOffered K.Cost offer.now (has offer.now.to) (λ _. true)
+        (distances K.Cost holders.now dist.old) (distances K.Cost holders.now dist.new) via.old
+        via.new c }
+    ensures others { (c : ℕ) → has offer.now.to c ≡ false
         → distances K.Cost holders.now dist.new c ≡ distances K.Cost holders.now dist.old c }
     ensures bound { (b c : ℕ) → AreWithin b (K.meaning offer.now.shift) → b ≤ SHIFT_LIMIT
         → AreWithin (b + COST_LIMIT) (distances K.Cost holders.now dist.old c)
         → AreWithin (b + COST_LIMIT) (distances K.Cost holders.now dist.new c) }
-    ensures found { MatchOption result ((c : ℕ) → has set c ≡ false)
-        (NearestWithKey K.Cost (has set) right.now (distances K.Cost holders.now dist.new)) }
+    ensures found { MatchOption result ((c : ℕ) → has offer.now.to c ≡ false)
+        (NearestWithKey K.Cost (has offer.now.to) right.now
+        (distances K.Cost holders.now dist.new)) }
 {
-    let mut block = set.least()?;
-    let first = holders.owner[block] as usize;
-    let mut lowest = exact_difference(dist[first], right[block]);
-    for c in set {
+    let mut block = offer.to.least()?;
+    let mut lowest = key_held(block, holders, dist, right);
+    for c in offer.to {
         let far = offer_one(c, offer, holders, via, dist);
         let key = exact_difference(far, right[c]);
         if is_less(key, lowest) {
@@ -341,6 +411,34 @@ pub fn offer_and_find<K: Cost>(
         }
     }
     Some(Nearby { block, key: lowest })
+}
+
+/// The right block of a set, all of which are had, whose distance is least beyond its price.
+fn nearest_held<K: Cost>(
+    set: BlockSet,
+    holders: &Holders,
+    dist: &[K],
+    right: &[K],
+) -> Option<Nearby<K>>
+    requires inside { (c : ℕ) → has set c ≡ true → c < length right.now }
+    requires had { (c : ℕ) → has set c ≡ true → has holders.now.held c ≡ true }
+    requires owners { HaveOwners (length dist.now) holders.now }
+    requires far { (c : ℕ) → has set c ≡ true
+        → AreWithin DISTANCE_LIMIT (distances K.Cost holders.now dist.now c) }
+    requires priced { AreValuesWithin K.Cost INNER_PRICE_LIMIT (length right.now) right.now }
+    ensures { MatchOption result ((c : ℕ) → has set c ≡ false)
+        (NearestWithKey K.Cost (has set) right.now (distances K.Cost holders.now dist.now)) }
+{
+    let mut block = set.least()?;
+    let mut least = key_held(block, holders, dist, right);
+    for c in set {
+        let key = key_held(c, holders, dist, right);
+        if is_less(key, least) {
+            block = c;
+            least = key;
+        }
+    }
+    Some(Nearby { block, key: least })
 }
 
 /// Makes an offer to those of its right blocks that are had, and answers which one of `rest` is
@@ -391,5 +489,10 @@ pub fn offer_held<K: Cost>(
         to: to.intersection(reached),
         ..*offer
     };
-    offer_and_find(rest, &known, holders, via, dist, right)
+    // A loop for those that the offer goes to and one for the others, so that neither asks of a
+    // right block whether the offer goes to it.
+    let near = offer_and_find(&known, holders, via, dist, right);
+    let others = rest.difference(known.to);
+    let other = nearest_held(others, holders, dist, right);
+    nearer(near, other)
 }

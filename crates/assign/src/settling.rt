@@ -1,8 +1,8 @@
 //! Settling: the optimum pairing that is first in dictionary order, with the greatest prices that
 //! prove it, for every cost kind.
 ghost use Rattle.std.specs.Prelude.{◌≡◌, Ok};
-ghost use Rattle.tables.specs.Lent.{lent};
-ghost use Rattle.assign.specs.Answer.{Answers, HasFirstOptimum};
+ghost use Rattle.tables.specs.Lent.{lent, IsUsable};
+ghost use Rattle.assign.specs.Answer.{Answers, HasOptimum, HasFirstOptimum};
 ghost use Rattle.assign.specs.declared.Outcome.TheVariants.{Optimal};
 ghost use Rattle.tables.specs.Together.{HoldTogether};
 
@@ -10,6 +10,39 @@ use crate::{Outcome, optimum};
 use cost::Cost;
 use matching::make_first;
 use tables::{Flaw, PairRows, Tables};
+
+/// Makes the optimum pairing of solved tables the first one: the first over the rows of their tight
+/// pairs.
+// As a function of its own it has its rows on the stack only once those of `optimum` are gone.
+#[inline(never)]
+fn make_optimum_first<K: Cost>(
+    n: u16,
+    costs: &[K],
+    standing: &[u8],
+    partners: &mut [u16],
+    left: &[K],
+    right: &[K],
+)
+    requires usable { IsUsable K.Cost
+        (lent n costs.now standing.now partners.old left.now right.now) }
+    requires solved { HasOptimum K.Cost
+        (lent n costs.now standing.now partners.old left.now right.now) }
+    ensures first { HasFirstOptimum K.Cost
+        (lent n costs.now standing.now partners.new left.now right.now) }
+    ensures together { HoldTogether K.Cost
+        (lent n costs.now standing.now partners.new left.now right.now) }
+{
+    let tables = Tables {
+        size: n,
+        costs,
+        standing,
+        partners,
+        left,
+        right,
+    };
+    let rows = PairRows::tight_within(&tables);
+    make_first(rows.as_slice(), partners);
+}
 
 /// Writes the first of all optimum pairings of n left and n right blocks to `partners`, and the
 /// greatest valid prices with no right price above zero to `left` and `right`.
@@ -34,16 +67,7 @@ pub fn settle<K: Cost>(
 {
     let outcome = optimum(n, costs, standing, partners, left, right)?;
     if let Outcome::Optimal = outcome {
-        let tables = Tables {
-            size: n,
-            costs,
-            standing,
-            partners,
-            left,
-            right,
-        };
-        let rows = PairRows::tight_within(&tables);
-        make_first(rows.as_slice(), partners);
+        make_optimum_first(n, costs, standing, partners, left, right);
     }
     Ok(outcome)
 }

@@ -1,6 +1,8 @@
 //! What the steps of the assignment hand to one another.
 
-ghost use Rattle.std.specs.Prelude.{◌≡◌};
+ghost use Rattle.std.specs.Prelude.{◌≡◌, replicate};
+ghost use Rattle.blockset.specs.declared.TheConstants.{SET_WIDTH};
+ghost use Rattle.assign.specs.Trees.{IsFresh};
 
 use blockset::{BlockSet, SET_WIDTH};
 use matching::{Holders, Reach};
@@ -45,19 +47,6 @@ pub struct Bid<K> {
     pub price: K,
 }
 
-/// What a search has come to before its first turn.
-#[derive(Drop)]
-pub struct Begun<K> {
-    /// The right blocks that it has come to, had or free.
-    pub seen: BlockSet,
-    /// The left block that each was reached from that is had, and the nearest free one.
-    pub via: [u8; SET_WIDTH],
-    /// The nearest free one.
-    pub free: Option<Nearby<K>>,
-    /// The nearest one that is had.
-    pub next: Option<Nearby<K>>,
-}
-
 /// How far a search has come.
 #[derive(Drop)]
 pub struct Tree<K> {
@@ -70,6 +59,59 @@ pub struct Tree<K> {
     /// The goal, with how far it is beyond its price; there is none where no free right block was
     /// come to.
     pub free: Option<Nearby<K>>,
+}
+
+impl<K> Tree<K> {
+    /// A search that has come to nothing yet.
+    pub fn new() -> Tree<K>
+        ensures { IsFresh result }
+    {
+        Tree {
+            seen: BlockSet::empty(),
+            taken: Reach {
+                reached: BlockSet::empty(),
+                from: [0u8; SET_WIDTH],
+                rank: [0u8; SET_WIDTH],
+                goal: None,
+            },
+            free: None,
+        }
+    }
+}
+
+impl<K: Copy> Tree<K> {
+    /// What the search has come to by now; what it has taken stays.
+    pub fn keep(&mut self, seen: BlockSet, free: Option<Nearby<K>>)
+        ensures { self.new ≡ record { seen = seen; taken = self.old.taken; free = free } }
+    {
+        self.seen = seen;
+        self.free = free;
+    }
+}
+
+/// For each left block the nearest of the free right blocks that it stands with and the nearest of
+/// the others, as they were when all of them were looked at last; 64, which is no block, where none
+/// is noted. A free right block keeps its price until it is taken: so the first of the two that is
+/// free still is the nearest still, and no other need be looked at.
+#[derive(Drop)]
+pub struct Noted {
+    pub near: [u8; SET_WIDTH],
+    pub next: [u8; SET_WIDTH],
+}
+
+impl Noted {
+    /// Nothing is noted of any left block.
+    pub fn nothing() -> Noted
+        ensures { result ≡ record {
+          near = replicate SET_WIDTH SET_WIDTH;
+          next = replicate SET_WIDTH SET_WIDTH;
+        } }
+    {
+        Noted {
+            near: [SET_WIDTH as u8; SET_WIDTH],
+            next: [SET_WIDTH as u8; SET_WIDTH],
+        }
+    }
 }
 
 /// The right blocks that have a price, and `owner`, the left block that each is cheapest with.

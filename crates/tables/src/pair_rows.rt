@@ -36,6 +36,8 @@ impl Model for PairRows {
 
 impl PairRows {
     /// The right blocks that stand with each of n left blocks.
+    // As a function of its own it leaves its callers one copy of the rows on the stack, not two.
+    #[inline(never)]
     pub fn standing(n: u16, standing: &[u8]) -> PairRows
         requires few { n ≤ MOST_BLOCKS }
         requires long { length standing.now ≡ places_of n }
@@ -67,6 +69,8 @@ impl PairRows {
     }
 
     /// The same rows, where all pairs are known to be sound, as they are once a sheet is settled.
+    // As for `standing`.
+    #[inline(never)]
     pub fn tight_within<K: Cost>(tables: &Tables<'_, K>) -> PairRows
         requires priced { ArePriced K.Cost tables.now }
         requires sound { IsSound K.Cost tables.now }

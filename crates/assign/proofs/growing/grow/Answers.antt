@@ -24,22 +24,27 @@ use Rattle.matching.specs.declared.chains.Holders.{Holders}
 use Rattle.assign.specs.declared.tree.Nearby.{Nearby}
 use Rattle.assign.specs.declared.limits.TheConstants.{DISTANCE_LIMIT, SHIFT_LIMIT, KEY_LIMIT}
 use Rattle.assign.specs.declared.limits.TheConstants.{INNER_PRICE_LIMIT}
-use Rattle.assign.specs.Weighed.{cost_weight, SearchTables}
+use Rattle.assign.specs.Weighed.{cost_weight, weight_at, SearchTables}
+use Rattle.assign.specs.Noted.{free_in}
 use Rattle.assign.specs.Offers.{distances, HaveOwners}
 use Rattle.assign.specs.Trees.{waiting, HasFree, HasNext}
 use Rattle.assign.proofs.Entries.{part_of, part_is, row_modest}
+use Rattle.assign.proofs.Noting.{offer_notes, notes_again, free_untaken}
 use Rattle.assign.proofs.Owners.{known_at}
 use Rattle.assign.proofs.Parts.{found_in}
 use Rattle.assign.proofs.Turns.{IsChosen, far_at, turning_none, chosen, stuck, over, came}
-use Rattle.assign.proofs.Turns.{far_enough}
+use Rattle.assign.proofs.Turns.{far_enough, HasStopped}
 use Rattle.assign.proofs.Turns.{turned}
 use Rattle.assign.proofs.growing.grow.Given as given
 use Rattle.assign.proofs.growing.grow.Goals as goal
-use Rattle.assign.proofs.growing.grow.Goals.{After-insert, After-index-row-a}
+use Rattle.assign.proofs.growing.grow.Goals.{After-insert, After-difference-to, After-index-row-a}
 
 pub loop-t-init : goal.loop-t-init
-loop-t-init g c = turning_none c.empty.result c.empty.ensures c.requires.inside
-    c.requires.near c.requires.free c.requires.next
+loop-t-init g c = record {
+  turning = turning_none c.args.tree.now c.args.next c.requires.fresh c.requires.inside
+      c.requires.near c.requires.free c.requires.next;
+  noted = c.requires.noted;
+}
 
 -- the keys of the nearest right blocks are near
 free_near : {K : Type 0} (kind : Ghosts K) (holders : Holders) (right : List K)
@@ -64,32 +69,37 @@ held_near kind holders right dist seen taken (Some near) nearest =
 
 pub nearer-requires : goal.nearer-requires
 nearer-requires g c =
-    let now = c.loop-t.invariant in
+    let now = c.loop-t.invariant.turning in
     record {
       first = free_near g.K.Cost c.args.holders.now c.args.right.now (has c.loop-t.seen)
           (length c.args.rows.now) c.requires.priced now.inside c.loop-t.free
           now.nearest_free;
       second = held_near g.K.Cost c.args.holders.now c.args.right.now c.loop-t.dist
-          (has c.loop-t.seen) (has c.loop-t.taken.reached) c.loop-t.next now.nearest_held;
+          (has c.loop-t.seen) (has c.loop-t.tree.taken.reached) c.loop-t.next now.nearest_held;
     }
 
 -- the right block that is taken in this turn
 taken_now : (g : given.Over) (c : After-insert g)
-    → IsChosen c.loop-t.invariant c.in-Some.near
+    → IsChosen c.loop-t.invariant.turning c.in-Some.near
 taken_now g c =
-    rw c.in-Some.is at (chosen c.loop-t.invariant c.nearer.result c.nearer.ensures)
+    rw c.in-Some.is at (chosen c.loop-t.invariant.turning c.nearer.result c.nearer.ensures)
 
 pub returns-in_default : goal.returns-in_default
 returns-in_default g c =
-    let w = rw c.in_default.is at (chosen c.loop-t.invariant
+    let w = rw c.in_default.is at (chosen c.loop-t.invariant.turning
     c.nearer.result c.nearer.ensures) in
-    let e = stuck c.loop-t.invariant c.requires.lent.few (omega arith) w.0 w.1 in
-    record { grown = e.0; ended = e.1 }
+    let e = subst (HasStopped c.loop-t.invariant.turning) (sym c.keep.ensures)
+    (stuck c.loop-t.invariant.turning c.requires.lent.few (omega arith) w.0 w.1) in
+    record { grown = e.0; ended = e.1; noted = c.loop-t.invariant.noted }
 
-pub bounds-taken-a : goal.bounds-taken-a
-bounds-taken-a g c =
-    let w = taken_now g (goal.at.bounds-taken-a g c).After-insert in
-    omega (arith, c.loop-t.invariant.inside c.in-Some.near.block w.come_to, c.requires.lent.few)
+pub bounds-tree-a : goal.bounds-tree-a
+bounds-tree-a g c =
+    let w = taken_now g (goal.at.bounds-tree-a g c).After-insert in
+    omega (
+      arith,
+      c.loop-t.invariant.turning.inside c.in-Some.near.block w.come_to,
+      c.requires.lent.few,
+    )
 
 pub returns-then-not-contains : goal.returns-then-not-contains
 returns-then-not-contains g c =
@@ -97,17 +107,22 @@ returns-then-not-contains g c =
     let few = c.requires.lent.few in
     let w = taken_now g (goal.at.returns-then-not-contains g c).After-insert in
     let below : c.in-Some.near.block < length c.args.rows.now =
-    c.loop-t.invariant.inside a w.come_to in
-    let more = inserted (has c.loop-t.taken.reached) (has c.insert.new.self) a (omega (arith, few))
-    c.insert.ensures in
-    let e = came c.loop-t.invariant w c.insert.new.self more few
-    (sym c.contains.ensures ∙ c.if-not-contains.true) c.loop-t-test.true in
-    record { grown = e.0; ended = e.1 }
+    c.loop-t.invariant.turning.inside a w.come_to in
+    let more = inserted (has c.loop-t.tree.taken.reached) (has c.insert.new.self) a
+    (omega (arith, few)) c.insert.ensures in
+    let e = subst (HasStopped c.loop-t.invariant.turning) (sym c.keep-then-not-contains.ensures)
+    (came c.loop-t.invariant.turning w c.insert.new.self more few
+    (sym c.contains.ensures ∙ c.if-not-contains.true) c.loop-t-test.true) in
+    record { grown = e.0; ended = e.1; noted = c.loop-t.invariant.noted }
 
 pub bounds-holders-a : goal.bounds-holders-a
 bounds-holders-a g c =
     let w = taken_now g (goal.at.bounds-holders-a g c).After-insert in
-    omega (arith, c.loop-t.invariant.inside c.in-Some.near.block w.come_to, c.requires.lent.few)
+    omega (
+      arith,
+      c.loop-t.invariant.turning.inside c.in-Some.near.block w.come_to,
+      c.requires.lent.few,
+    )
 
 pub slice_bounds-row-end : goal.slice_bounds-row-end
 slice_bounds-row-end g c =
@@ -185,7 +200,8 @@ at_hand : (g : given.Over) (c : After-index-row-a g) → IsAtHand g.K.Cost c.arg
 at_hand g c =
     let a = c.in-Some.near.block in
     let held = sym c.contains.ensures ∙ c.if-not-contains.false in
-    let w = rw c.in-Some.is at (chosen c.loop-t.invariant c.nearer.result c.nearer.ensures) in
+    let w = rw c.in-Some.is at (chosen c.loop-t.invariant.turning c.nearer.result
+    c.nearer.ensures) in
     record {
       lent = c.requires.lent;
       owners = c.requires.owners;
@@ -193,7 +209,7 @@ at_hand g c =
       time = c.loop-t-test.true;
       had = held;
       own = c.requires.own a held;
-      far = c.loop-t.invariant.near a w.come_to held;
+      far = c.loop-t.invariant.turning.near a w.come_to held;
       dist_read = c.index-dist-l.is;
       cost_read = c.index-row-a.is;
     }
@@ -230,8 +246,35 @@ offer_free-free-requires-clause-inside g c =
 
 pub offer_free-free-requires-clause-known : goal.offer_free-free-requires-clause-known
 offer_free-free-requires-clause-known g c = free_near g.K.Cost c.args.holders.now c.args.right.now
-    (has c.loop-t.seen) (length c.args.rows.now) c.requires.priced c.loop-t.invariant.inside
-    c.loop-t.free c.loop-t.invariant.nearest_free
+    (has c.loop-t.seen) (length c.args.rows.now) c.requires.priced
+    c.loop-t.invariant.turning.inside c.loop-t.free c.loop-t.invariant.turning.nearest_free
+
+-- the offer goes to all free right blocks that the left block stands with
+offers_free : (g : given.Over) (c : After-difference-to g) → (j : ℕ)
+    → free_in (has c.difference-to.result) (has c.args.holders.now.held) j
+    ≡ free_in (holds c.args.rows.now (at c.args.holders.now.owner c.in-Some.near.block))
+    (has c.args.holders.now.held) j
+offers_free g c =
+    let a = c.in-Some.near.block in
+    let w = rw c.in-Some.is at (chosen c.loop-t.invariant.turning c.nearer.result
+    c.nearer.ensures) in
+    let below : c.in-Some.near.block < length c.args.rows.now =
+    c.loop-t.invariant.turning.inside a w.come_to in
+    free_untaken (holds c.args.rows.now (at c.args.holders.now.owner a))
+    (has c.difference-to.result) (has c.loop-t.tree.taken.reached) (has c.insert.new.self)
+    (has c.args.holders.now.held) a c.difference-to.ensures
+    (inserted (has c.loop-t.tree.taken.reached) (has c.insert.new.self) a
+    (omega (arith, c.requires.lent.few)) c.insert.ensures)
+    c.loop-t.invariant.turning.held (sym c.contains.ensures ∙ c.if-not-contains.false)
+
+pub offer_free-free-requires-clause-noted : goal.offer_free-free-requires-clause-noted
+offer_free-free-requires-clause-noted g c =
+    let a = c.in-Some.near.block in
+    offer_notes c.requires.lent (has c.args.holders.now.held) (has c.difference-to.result)
+    (weight_at g.K.Cost c.args.right.now)
+    (c.requires.owners.below a (sym c.contains.ensures ∙ c.if-not-contains.false)) refl
+    (offers_free g (goal.at.offer_free-free-requires-clause-noted g c).After-difference-to)
+    c.loop-t.noted c.loop-t.invariant.noted
 
 pub offer_held-next-requires-clause-modest : goal.offer_held-next-requires-clause-modest
 offer_held-next-requires-clause-modest g c =
@@ -256,7 +299,7 @@ offer_held-next-requires-clause-inside g c =
       c.intersection.ensures j,
       c.union-seen.ensures j,
       c.difference-to.ensures j,
-      c.loop-t.invariant.inside j,
+      c.loop-t.invariant.turning.inside j,
       c.requires.lent.inside l j hl,
     )
 
@@ -271,7 +314,7 @@ offer_held-next-requires-clause-waiting g c = λ j t h. grind (
 )
 
 pub offer_held-next-requires-clause-known : goal.offer_held-next-requires-clause-known
-offer_held-next-requires-clause-known g c = λ j r s. far_enough c.loop-t.invariant
+offer_held-next-requires-clause-known g c = λ j r s. far_enough c.loop-t.invariant.turning
     c.requires.lent.few (omega (arith, c.loop-t-test.true)) j s
     (grind (arith, nat_tests, c.difference-rest.ensures j, c.intersection.ensures j))
 
@@ -282,11 +325,11 @@ loop-t-preserved g c =
     let w = taken_now g (goal.at.loop-t-preserved g c).After-insert in
     let held = sym c.contains.ensures ∙ c.if-not-contains.false in
     let below : c.in-Some.near.block < length c.args.rows.now =
-    c.loop-t.invariant.inside a w.come_to in
-    let more = inserted (has c.loop-t.taken.reached) (has c.insert.new.self) a (omega (arith, few))
-    c.insert.ensures in
+    c.loop-t.invariant.turning.inside a w.come_to in
+    let more = inserted (has c.loop-t.tree.taken.reached) (has c.insert.new.self) a
+    (omega (arith, few)) c.insert.ensures in
     let hand = at_hand g (goal.at.loop-t-preserved g c).After-index-row-a in
-    turned c.loop-t.invariant w c.insert.new.self more few (record {
+    let turning = turned c.loop-t.invariant.turning w c.insert.new.self more few (record {
       lent = c.requires.lent;
       time = c.loop-t-test.true;
       owned = held;
@@ -297,7 +340,7 @@ loop-t-preserved g c =
       shift = shift_weighs hand c.exact_difference.result c.exact_difference.ensures.sum;
       shift_near = shift_within hand c.exact_difference.result c.exact_difference.ensures.bound;
       joined = c.union-seen.ensures;
-      offered_free = c.offer_free-free.ensures;
+      offered_free = c.offer_free-free.ensures.offered;
       made = c.offer_held-next.ensures.offered;
       bound = c.offer_held-next.ensures.bound;
       next_held = found_in g.K.Cost (has c.difference-rest.result)
@@ -307,9 +350,19 @@ loop-t-preserved g c =
           c.offer_held-next.result (λ j. sym (c.difference-rest.ensures j
           ∙ ap (λ z. z && not (has c.insert.new.self j)) (c.intersection.ensures j))) (λ j _. refl)
           c.offer_held-next.ensures.found;
-    }) c.loop-t.invariant.no_goal
+    }) c.loop-t.invariant.turning.no_goal in
+    record {
+      turning = turning;
+      noted = notes_again c.requires.lent (has c.args.holders.now.held)
+          (has c.difference-to.result) (weight_at g.K.Cost c.args.right.now)
+          (c.requires.owners.below a held) refl
+          (offers_free g (goal.at.loop-t-preserved g c).After-difference-to)
+          c.loop-t.noted c.loop-t.invariant.noted c.offer_free-free.new.noted
+          c.offer_free-free.ensures.noted c.offer_free-free.ensures.others;
+    }
 
 pub returns : goal.returns
 returns g c =
-    let e = over c.loop-t.invariant c.requires.lent.few (omega arith) in
-    record { grown = e.0; ended = e.1 }
+    let e = subst (HasStopped c.loop-t.invariant.turning) (sym c.keep-2.ensures)
+    (over c.loop-t.invariant.turning c.requires.lent.few (omega arith)) in
+    record { grown = e.0; ended = e.1; noted = c.loop-t.invariant.noted }

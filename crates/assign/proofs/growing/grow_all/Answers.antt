@@ -11,10 +11,12 @@ use Rattle.blockset.specs.Has.{has}
 use Rattle.pairing.specs.Grid.{at}
 use Rattle.tables.specs.Said.{columns_at}
 use Rattle.assign.specs.declared.limits.TheConstants.{DISTANCE_LIMIT}
+use Rattle.assign.specs.Weighed.{weight_at}
 use Rattle.assign.specs.Offers.{distances}
 use Rattle.assign.specs.Search.{from_all}
 use Rattle.assign.specs.Trees.{waiting}
 use Rattle.assign.proofs.Owners.{distance_is}
+use Rattle.assign.proofs.Noting.{notes_none}
 use Rattle.assign.proofs.Parts.{found_in}
 use Rattle.assign.proofs.Pricing.{zero_at, cleared_within, cleared_weighs}
 use Rattle.assign.proofs.Starting.{begins_all}
@@ -37,6 +39,11 @@ grow-requires-clause-near g c = λ j t h. subst (AreWithin COST_LIMIT)
     (cleared_within g.K.Cost g.K.Cost.zero g.K.Cost.columns g.met.K.Cost.laws.zero_columns
     (length c.args.rows.now) c.args.dist.now c.requires.cleared COST_LIMIT
     (at c.args.holders.now.owner j) (c.requires.owners.below j h))
+
+pub grow-requires-clause-noted : goal.grow-requires-clause-noted
+grow-requires-clause-noted g c = rw c.nothing-noted.ensures
+    (notes_none g.K.Cost c.args.rows.now c.args.costs.now (has c.args.holders.now.held)
+    (weight_at g.K.Cost c.args.right.now) c.requires.lent)
 
 pub grow-requires-clause-next : goal.grow-requires-clause-next
 grow-requires-clause-next g c =
@@ -63,11 +70,13 @@ returns-clause-grown g c =
     let n = length c.args.rows.now in
     let o = c.args.holders.now in
     c.grow.ensures.grown from_all (begins_all kind c.args.rows.now c.args.costs.now o
-    c.args.right.now c.args.dist.now c.all-seen.result (replicate 64 0) c.nearest-next.result
+    c.args.right.now c.args.dist.now c.all-seen.result c.args.tree.now.taken.from
+    c.args.tree.now.free c.nearest-next.result
     (λ j h. c.all-seen.ensures j ∙ and_from (ltb j 64) (ltb j n)
     (lt-ltb j 64 (omega (arith, c.requires.lent.few))) (lt-ltb j n h))
     (λ j h. ap weight (distance_is kind o c.args.dist.now j h)
     ∙ cleared_weighs kind kind.zero kind.columns g.met.K.Cost.laws.zero_columns n
     c.args.dist.now c.requires.cleared (at o.owner j) (c.requires.owners.below j h))
-    (λ j. ⊎_elim (λ low. get_or-replicate 64 j 0 0 low)
-    (λ high. get_or_past (replicate 64 0) j 0 high) (cases_lt j 64)))
+    (λ j. ap (λ z. at z j) c.requires.fresh.from ∙ ⊎_elim (λ low. get_or-replicate 64 j 0 0 low)
+    (λ high. get_or_past (replicate 64 0) j 0 high) (cases_lt j 64))
+    c.requires.fresh.no_free)

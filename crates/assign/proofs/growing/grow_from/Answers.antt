@@ -10,12 +10,13 @@ use Rattle.cost.proofs.Weights.{weight_zeros}
 use Rattle.blockset.specs.Has.{no_blocks, has}
 use Rattle.pairing.specs.Rows.{holds}
 use Rattle.assign.specs.declared.limits.TheConstants.{SHIFT_LIMIT}
-use Rattle.assign.specs.Weighed.{graph}
+use Rattle.assign.specs.Weighed.{graph, weight_at}
 use Rattle.assign.specs.Offers.{distances}
 use Rattle.assign.specs.Search.{from_row}
 use Rattle.assign.specs.Trees.{waiting, HasFree, Begins}
 use Rattle.assign.specs.declared.tree.Nearby.{Nearby}
 use Rattle.assign.proofs.Entries.{row_modest}
+use Rattle.assign.proofs.Noting.{offer_notes, notes_again}
 use Rattle.assign.proofs.Parts.{found_in}
 use Rattle.assign.proofs.Starting.{started_row}
 use Rattle.assign.proofs.growing.grow_from.Given as given
@@ -33,9 +34,22 @@ zero-within g b x e =
     subst (AreWithin b) (sym (ap g.K.Cost.meaning e ∙ g.met.K.Cost.laws.zero_columns))
     (zeros_within b g.K.Cost.columns)
 
-pub offer_free-free-requires-clause-modest : goal.offer_free-free-requires-clause-modest
-offer_free-free-requires-clause-modest g c = row_modest c.requires.lent c.args.k
+pub offer_free-tree-requires-clause-modest : goal.offer_free-tree-requires-clause-modest
+offer_free-tree-requires-clause-modest g c = row_modest c.requires.lent c.args.k
     c.requires.room refl refl (zero-within g SHIFT_LIMIT c.zero.result c.zero.ensures) (λ j t. t)
+
+pub offer_free-tree-requires-clause-noted : goal.offer_free-tree-requires-clause-noted
+offer_free-tree-requires-clause-noted g c = offer_notes c.requires.lent
+    (has c.args.holders.now.held) (holds c.args.rows.now c.args.k)
+    (weight_at g.K.Cost c.args.right.now) c.requires.room refl (λ j. refl) c.args.noted.now
+    c.requires.noted
+
+pub grow-requires-clause-noted : goal.grow-requires-clause-noted
+grow-requires-clause-noted g c = notes_again c.requires.lent
+    (has c.args.holders.now.held) (holds c.args.rows.now c.args.k)
+    (weight_at g.K.Cost c.args.right.now) c.requires.room refl (λ j. refl) c.args.noted.now
+    c.requires.noted c.offer_free-tree.new.noted c.offer_free-tree.ensures.noted
+    c.offer_free-tree.ensures.others
 
 pub offer_held-next-requires-clause-modest : goal.offer_held-next-requires-clause-modest
 offer_held-next-requires-clause-modest g c = row_modest c.requires.lent c.args.k
@@ -44,14 +58,14 @@ offer_held-next-requires-clause-modest g c = row_modest c.requires.lent c.args.k
 -- left block k has made its offer, and the search begins with what came of it
 started : (g : given.Over) (c : After-offer_held-next g)
     → HasFree g.K.Cost c.args.holders.now c.args.right.now (holds c.args.rows.now c.args.k)
-    c.offer_free-free.result
+    c.offer_free-tree.result
     × ((next : Option (Nearby g.row.K.Denot)) → Begins g.K.Cost c.args.rows.now c.args.costs.now
     c.args.holders.now c.args.right.now
     (from_row (graph g.K.Cost c.args.rows.now c.args.costs.now) c.args.k)
     (record {
       seen = get_or c.args.rows.now c.args.k no_blocks;
       via = c.offer_held-next.new.via;
-      free = c.offer_free-free.result;
+      free = c.offer_free-tree.result;
       next = next;
     })
     c.offer_held-next.new.dist)
@@ -66,7 +80,7 @@ started g c = started_row (record {
   nothing = zero-within g 0 c.zero.result c.zero.ensures;
   empty = c.empty-none.ensures;
   none_before = refl;
-  found = c.offer_free-free.ensures;
+  found = c.offer_free-tree.ensures.offered;
   made = c.offer_held-next.ensures.offered;
 })
 

@@ -14,7 +14,7 @@ use Rattle.assign.proofs.reduction.reduce_rows.Goals as goal
 
 pub reduce_row-requires-clause-near : goal.reduce_row-requires-clause-near
 reduce_row-requires-clause-near g c k h =
-    within_more (COST_LIMIT + c.loop-step._step * (2 * COST_LIMIT)) REDUCED_LIMIT
+    within_more (COST_LIMIT + c.loop-step.step * (2 * COST_LIMIT)) REDUCED_LIMIT
     (columns_at g.K.Cost c.loop-step.right k)
     (omega (arith, c.requires.lent.few, c.loop-step-test.true)) (c.loop-step.invariant.bound k h)
 
@@ -30,13 +30,13 @@ loop-step-preserved g c =
     let now = so_far (has o.out) o.partners o.holders o.right in
     let then = so_far (has new.out) new.partners new.holders new.right in
     let l = c.in-Some.l in
-    let far = COST_LIMIT + o._step * (2 * COST_LIMIT) in
+    let far = COST_LIMIT + o.step * (2 * COST_LIMIT) in
     let step = c.reduce_row.ensures in
     record {
       inside = step.inside;
       paired = step.paired;
       bound = λ j m. within_more (far + 2 * COST_LIMIT)
-          (COST_LIMIT + (o._step + 1) * (2 * COST_LIMIT)) (columns_at kind new.right j)
+          (COST_LIMIT + (o.step + 1) * (2 * COST_LIMIT)) (columns_at kind new.right j)
           (omega arith) (step.bound far o.invariant.bound
           (omega (arith, c.requires.lent.few, c.loop-step-test.true)) j m);
       partnered = c.reduce_row.auto.partners ∙ o.invariant.partnered;
@@ -54,6 +54,13 @@ loop-step-preserved g c =
           (λ done. turn_stays kind rows costs first.out was now then done step.goes_on)
           o.invariant.begun);
     }
+
+-- no search for pairs stops before it has had a first step
+pub returns-then-len-n-clause-begun : goal.returns-then-len-n-clause-begun
+returns-then-len-n-clause-begun g c = ⊎_elim
+    (λ start l least. absurd (omega (arith, start.0, c.if-step-n.true)))
+    (λ done. done)
+    c.loop-step.invariant.begun
 
 pub returns-in_default-clause-begun : goal.returns-in_default-clause-begun
 returns-in_default-clause-begun g c = ⊎_elim

@@ -17,11 +17,11 @@ invariant-loop-step g l =
     record {
       inside : (m : ℕ) → has l.out m ≡ true → m < length l.rows;
       paired : IsPriced kind l.rows l.costs now;
-      bound : AreValuesWithin kind (COST_LIMIT + l._step * (2 * COST_LIMIT)) (length l.rows)
+      bound : AreValuesWithin kind (COST_LIMIT + l.step * (2 * COST_LIMIT)) (length l.rows)
           l.right;
       partnered : length l.partners ≡ length l.rows;
       rights : length l.right ≡ length l.rows;
       goes_on : HasGoneOn kind was now;
-      begun : ((l._step ≡ 0) × (l.out ≡ first.out) × (now ≡ was) × IsEmpty l.aside)
+      begun : ((l.step ≡ 0) × (l.out ≡ first.out) × (now ≡ was) × IsEmpty l.aside)
           ⊎ HasHadFirstTurn kind l.rows l.costs first.out was now;
     }

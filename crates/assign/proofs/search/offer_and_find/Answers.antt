@@ -1,7 +1,7 @@
 -- One right block more is offered its way, and becomes the best where it is less far beyond its
 -- price then.
 use Rattle.std.proofs.Common.{◌≡◌, ℕ, ◌+◌, ◌<◌, List, length, ℤ, ◌-ℤ◌}
-use Rattle.std.proofs.Common.{◌<ℤ◌, ◌≤ℤ◌, ◌⊎◌, sym, refl, ap, subst, ⊎_elim, arith}
+use Rattle.std.proofs.Common.{◌<ℤ◌, ◌≤ℤ◌, ◌⊎◌, sym, ap, subst, ⊎_elim, arith}
 use Rattle.std.proofs.lemmas.Int.{ints}
 use Rattle.std.proofs.lemmas.Bool.{cases_eq}
 use Rattle.cost.specs.declared.TheConstants.{COST_LIMIT, HALF_RAIL}
@@ -16,25 +16,21 @@ use Rattle.assign.specs.declared.limits.TheConstants.{SHIFT_LIMIT}
 use Rattle.assign.specs.Weighed.{weight_at}
 use Rattle.assign.specs.Offers.{distances, HaveOwners}
 use Rattle.assign.proofs.Entries.{read_within}
-use Rattle.assign.proofs.Owners.{known_at}
 use Rattle.assign.proofs.Nearing.{nearing_none, nearing_keep, nearing_take}
 use Rattle.assign.proofs.Looking.{looking_none, looking_one, key_weighs, key_reaches}
 use Rattle.assign.proofs.search.offer_and_find.Goals as goal
 
-pub exact_difference-lowest-requires : goal.exact_difference-lowest-requires
-exact_difference-lowest-requires g c =
-    let kind = g.K.Cost in
+pub key_held-lowest-requires : goal.key_held-lowest-requires
+key_held-lowest-requires g c =
     let i = c.in_ok-block.block in
     let member = c.in_ok-block.ensures.1 in
     let inside = c.requires.inside c.in_ok-block.block member in
-    let far = known_at kind c.requires.owners c.args.dist.now refl i (c.requires.had i member)
-    c.index-dist-first.result c.index-dist-first.is in
     record {
-      first = within_more DISTANCE_LIMIT HALF_RAIL (kind.meaning c.index-dist-first.result)
-          (omega arith) (subst (AreWithin DISTANCE_LIMIT) (sym far) (c.requires.far i member));
-      second = read_within kind INNER_PRICE_LIMIT HALF_RAIL c.args.right.now i
-          c.index-right-block.result (omega (arith, c.requires.rights)) c.index-right-block.is
-          (omega arith) (c.requires.priced i inside);
+      inside = omega (arith, c.requires.rights);
+      had = c.requires.had i member;
+      owners = c.requires.owners;
+      far = c.requires.far i member;
+      priced = c.requires.priced i inside;
     }
 
 pub loop-c-init : goal.loop-c-init
@@ -44,28 +40,17 @@ loop-c-init g c =
     let d = distances kind c.args.holders.now c.args.dist.now in
     let i = c.in_ok-block.block in
     let member = c.in_ok-block.ensures.1 in
-    let inside = c.requires.inside c.in_ok-block.block member in
-    let in-right : c.in_ok-block.block < length c.args.right.now =
-    omega (arith, c.requires.rights) in
-    let far = known_at kind c.requires.owners c.args.dist.now refl i (c.requires.had i member)
-    c.index-dist-first.result c.index-dist-first.is in
-    let reach = key_reaches kind d c.args.right.now i c.index-dist-first.result
-    c.index-right-block.result c.exact_difference-lowest.result in-right far c.index-right-block.is
-    c.exact_difference-lowest.ensures.bound in (
+    let reach = c.key_held-lowest.ensures.reach in (
       tt,
       tt,
       rw c.into_iter-c-iterator.ensures.into_iter_gives
           (looking_none (kind.meaning offer.shift) (columns_at kind offer.costs.now) offer.from
-          (has c.args.set) (has offer.to) d (at c.args.via.now)),
+          (has offer.to) d (at c.args.via.now)),
       rw c.into_iter-c-iterator.ensures.into_iter_gives
-          (nearing_none (has c.args.set) (weight_at kind c.args.right.now) (λ j. weight (d j)) i
-          (weight (kind.meaning c.exact_difference-lowest.result))
-          member
-          (key_weighs kind d c.args.right.now i c.index-dist-first.result
-          c.index-right-block.result c.exact_difference-lowest.result in-right far
-          c.index-right-block.is c.exact_difference-lowest.ensures.sum)),
-      reach DISTANCE_LIMIT INNER_PRICE_LIMIT (c.requires.far i member) (c.requires.priced i inside)
-          (omega arith),
+          (nearing_none (has offer.to) (weight_at kind c.args.right.now) (λ j. weight (d j)) i
+          (weight (kind.meaning c.key_held-lowest.result)) member c.key_held-lowest.ensures.key),
+      reach DISTANCE_LIMIT INNER_PRICE_LIMIT (c.requires.far i member)
+          (c.requires.priced i (c.requires.inside i member)) (omega arith),
       reach,
     )
 
@@ -77,6 +62,7 @@ offer_one-far-requires g c =
     let d = distances g.K.Cost c.args.holders.now c.loop-c.dist in
     record {
       modest = c.requires.modest;
+      one_of = member;
       inside = c.requires.inside i member;
       had = c.requires.had i member;
       owners = subst (λ (z : ℕ). HaveOwners z c.args.holders.now) (sym c.loop-c.auto.dist)
@@ -155,11 +141,11 @@ loop-c-preserved-then-is_less g c =
       tt,
       tt,
       looking_one (kind.meaning offer.shift) (columns_at kind offer.costs.now) offer.from
-          (has c.args.set) (has offer.to) (distances kind c.args.holders.now c.args.dist.now)
+          (has offer.to) (distances kind c.args.holders.now c.args.dist.now)
           (at c.args.via.now) (has c.loop-c.c-iterator) (has c.next.new.self) i step.others
           step.member member d (at c.loop-c.via) c.loop-c.invariant.2 d'
           (at c.offer_one-far.new.via) one.others one.offered one.bound,
-      nearing_take (has c.args.set) (weight_at kind c.args.right.now) (λ j. weight (d j))
+      nearing_take (has offer.to) (weight_at kind c.args.right.now) (λ j. weight (d j))
           (λ j. weight (d' j)) (has c.loop-c.c-iterator) (has c.next.new.self) i step.others
           step.member c.loop-c.block (weight (kind.meaning c.loop-c.lowest))
           c.loop-c.invariant.3 (λ j ne. ap weight (one.others j ne).0)
@@ -210,11 +196,11 @@ loop-c-preserved g c =
       tt,
       tt,
       looking_one (kind.meaning offer.shift) (columns_at kind offer.costs.now) offer.from
-          (has c.args.set) (has offer.to) (distances kind c.args.holders.now c.args.dist.now)
+          (has offer.to) (distances kind c.args.holders.now c.args.dist.now)
           (at c.args.via.now) (has c.loop-c.c-iterator) (has c.next.new.self) i step.others
           step.member member d (at c.loop-c.via) c.loop-c.invariant.2 d'
           (at c.offer_one-far.new.via) one.others one.offered one.bound,
-      nearing_keep (has c.args.set) v (λ j. weight (d j)) (λ j. weight (d' j))
+      nearing_keep (has offer.to) v (λ j. weight (d j)) (λ j. weight (d' j))
           (has c.loop-c.c-iterator) (has c.next.new.self) i step.others step.member
           c.loop-c.block (weight (kind.meaning c.loop-c.lowest)) c.loop-c.invariant.3
           (λ j ne. ap weight (one.others j ne).0) (ap weight same) (omega (arith, ints)),

@@ -17,9 +17,9 @@ invariant-loop-c g l =
     let kind = g.K.Cost in
     (goal.iterator-loop-c g).can_next l.c-iterator × (goal.iterator-loop-c g).is_finite l.c-iterator
     × Looking (kind.meaning l.offer.shift) (columns_at kind l.offer.costs.now) l.offer.from
-    (has l.fn.set) (has l.offer.to) (distances kind l.holders l.initial.dist) (at l.initial.via)
-    (has l.c-iterator) (distances kind l.holders l.dist) (at l.via)
-    × Nearing (has l.fn.set) (weight_at kind l.right)
+    (has l.offer.to) (distances kind l.holders l.initial.dist) (at l.initial.via) (has l.c-iterator)
+    (distances kind l.holders l.dist) (at l.via)
+    × Nearing (has l.offer.to) (weight_at kind l.right)
     (λ c. weight (distances kind l.holders l.dist c)) (has l.c-iterator) l.block
     (weight (kind.meaning l.lowest))
     × AreWithin KEY_LIMIT (kind.meaning l.lowest)

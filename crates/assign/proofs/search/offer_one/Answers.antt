@@ -21,14 +21,13 @@ is_less-requires g c =
     let kind = g.K.Cost in
     let offer = c.args.offer.now in
     let i = c.args.c in
-    let member = sym c.contains.ensures ∙ c.if-not-contains.false in
     let cost-is = entry_is kind offer.costs.now i c.index-offer-c.result c.requires.inside
     c.index-offer-c.is in
     record {
       first = within_more (SHIFT_LIMIT + COST_LIMIT) HALF_RAIL (kind.meaning c.exact_sum-way.result)
           (omega arith)
           (c.exact_sum-way.ensures.bound SHIFT_LIMIT COST_LIMIT c.requires.modest.shift
-          (subst (AreWithin COST_LIMIT) (sym cost-is) (c.requires.modest.costs i member))
+          (subst (AreWithin COST_LIMIT) (sym cost-is) (c.requires.modest.costs i c.requires.one_of))
           (omega arith));
       second = subst (AreWithin HALF_RAIL)
           (sym (known_at kind c.requires.owners c.args.dist.now refl i c.requires.had
@@ -40,7 +39,6 @@ returns g c =
     let kind = g.K.Cost in
     let i = c.args.c in
     let x = c.exact_sum-way.result in
-    let member = sym c.contains.ensures ∙ c.if-not-contains.false in
     let here = store_same kind c.requires.owners c.args.dist.now refl i c.requires.had x in
     let offer = c.args.offer.now in
     let cost-is = entry_is kind offer.costs.now i c.index-offer-c.result c.requires.inside
@@ -56,7 +54,7 @@ returns g c =
     ∙ ap (λ z. weight (kind.meaning offer.shift) +ℤ weight z) cost-is in
     record {
       offered = record {
-        others = λ f. absurd (both_ways (has offer.to i) f member);
+        others = λ f. absurd (both_ways (has offer.to i) f c.requires.one_of);
         change = λ _. inr (w-here, get_or-set_same c.args.via.now i offer.from 0 (omega arith));
         most = λ _. omega (arith, ints, w-here);
         less = λ _ _. omega (arith, ints);
@@ -69,6 +67,6 @@ returns g c =
       nearer = inr (omega (arith, ints));
       bound = λ b s le _. subst (AreWithin (b + COST_LIMIT)) (sym here)
           (c.exact_sum-way.ensures.bound b COST_LIMIT s
-          (subst (AreWithin COST_LIMIT) (sym cost-is) (c.requires.modest.costs i member))
+          (subst (AreWithin COST_LIMIT) (sym cost-is) (c.requires.modest.costs i c.requires.one_of))
           (omega arith));
     }
