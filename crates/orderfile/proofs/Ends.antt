@@ -1,9 +1,9 @@
--- What loading promises, once one of its three ends is known: the file's first fault, tables of the
--- wrong length, or all pairs entered.
--- Idea: a file has one verdict, so what holds of the verdict that was found holds of every verdict
+-- What checking and loading promise, once one of their ends is known: the first fault of the bytes,
+-- tables of the wrong length, or all pairs entered. The format of the bytes is left open.
+-- Idea: bytes have one verdict, so what holds of the verdict that was found holds of every verdict
 -- that the promise asks about.
-use Rattle.std.proofs.Common.{◌≡◌, ℕ, List, length, replicate, pos, Ok, Err, Result}
-use Rattle.std.proofs.Common.{ap, ◌∙◌, subst, ⊎_elim, arith}
+use Rattle.std.proofs.Common.{◌≡◌, ℕ, List, length, pos, Ok, Err, Result}
+use Rattle.std.proofs.Common.{sym, refl, ap, ◌∙◌, subst, ⊎_elim, arith}
 use Rattle.std.proofs.lemmas.List.{length-replicate}
 use Rattle.cost.specs.declared.plain_kind.Plain.{Plain}
 use Rattle.sheet.specs.declared.fault.Cause.TheVariants.{TableLength}
@@ -12,132 +12,173 @@ use Rattle.tables.specs.PairTables.{HavePlaces, costs_opened, standing_opened}
 use Rattle.tables.specs.Together.{ArePairTables}
 use Rattle.pairing.specs.Places.{places_of}
 use Rattle.sheet.specs.Opening.{open_needs, OpensSheet}
+use Rattle.sheet.specs.Pairs.{PairTablesAre}
 use Rattle.sheet.specs.Size.{Sheet, IsSize, sheet_of, size_of}
 use Rattle.sheet.specs.Refusals.{fault}
 use Rattle.sheet.proofs.Needs.{met_or_not}
-use Rattle.orderfile.specs.Format.{StatedOrder, FitsSheet, States}
-use Rattle.orderfile.specs.Faults.{FirstFault}
+use Rattle.orderfile.specs.Format.{StatedOrder, FitsSheet}
 use Rattle.orderfile.specs.Loading.{plain, plain_kind, costs_after, standing_after, ShowsOrder}
-use Rattle.orderfile.specs.Loading.{IsChecked, LoadsOrder, Loads}
+use Rattle.orderfile.specs.Loading.{HasOneVerdict, IsChecked, LoadsOrder, Loads}
 use Rattle.orderfile.proofs.Cells.{shows_order}
 use Rattle.orderfile.proofs.Grids.{same_grid, entered_tables}
-use Rattle.orderfile.proofs.Verdicts.{one_order, one_fault, not_both, verdict_order, verdict_fault}
 
--- what an answer of `check` tells
-pub checked_err : (file : List ℕ) (f : Fault) → IsChecked file (Err f) → FirstFault file f
-checked_err file f h =
+-- ---- Checking
+
+-- what an answer of a check tells
+pub checked_err : {S : StatedOrder → Type 0} {F : Fault → Type 0} {f : Fault}
+    → IsChecked S F (Err f) → F f
+checked_err {F = F} {f = f} h =
     ⊎_elim
     (λ o. let e = h.states o.0 o.1 in cc)
-    (λ g. let e = h.faulty g.0 g.1 in let same : g.0 ≡ f = cc in
-    subst (λ (x : Fault). FirstFault file x) same g.1)
+    (λ g. let e = h.faulty g.0 g.1 in let same : g.0 ≡ f = cc in subst F same g.1)
     h.verdict.some
 
-pub checked_ok : (file : List ℕ) (n : ℕ) → IsChecked file (Ok n) → (order : StatedOrder)
-    × States file order
-    × (order.size ≡ n)
-checked_ok file n h =
+pub checked_ok : {S : StatedOrder → Type 0} {F : Fault → Type 0} {n : ℕ} → IsChecked S F (Ok n)
+    → (order : StatedOrder) × S order × (order.size ≡ n)
+checked_ok {n = n} h =
     ⊎_elim
     (λ o. let e = h.states o.0 o.1 in let same : o.0.size ≡ n = cc in (o.0, o.1, same))
     (λ g. let e = h.faulty g.0 g.1 in cc)
     h.verdict.some
 
-module _ (file : List ℕ) (costs : List Plain) (standing : List ℕ) (r : Result Sheet Fault)
-    (costs' : List Plain) (standing' : List ℕ) where
-  pub loaded_faulty : (f : Fault) → FirstFault file f → r ≡ Err f → costs' ≡ costs
-      → standing' ≡ standing → Loads file costs standing r costs' standing'
-  loaded_faulty f s e ec eb = record {
-    verdict = verdict_fault file f s;
-    faulty = λ g t. record {
-      answers = e ∙ ap Err (one_fault file f g s t);
-      costs_stay =
-          ec;
-      standing_stays = eb;
-    };
-    misfits = λ o t _. absurd (not_both file o f t s);
-    loads = λ o t _. absurd (not_both file o f t s);
+module _ {S : StatedOrder → Type 0} {F : Fault → Type 0} (verdict : HasOneVerdict S F)
+    {r : Result ℕ Fault} where
+  -- which answer a check has to give
+  pub checked_states : (order : StatedOrder) → S order → r ≡ Ok order.size → IsChecked S F r
+  checked_states order s e = record {
+    verdict = verdict;
+    states = λ o t. e ∙ ap (λ x. Ok x.size) (verdict.one_order order o s t);
+    faulty = λ f t. absurd (verdict.not_both order f s t);
   }
 
-  pub loaded_misfit : (order : StatedOrder) → States file order
-      → (HavePlaces order.size (length costs) (length standing) → ⊥)
-      → r ≡ Err (fault TableLength 0) → costs' ≡ costs → standing' ≡ standing
-      → Loads file costs standing r costs' standing'
-  loaded_misfit order s unfit e ec eb = record {
-    verdict = verdict_order file order s;
-    faulty = λ g t. absurd (not_both file order g s t);
-    misfits = λ o t _. record { answers = e; costs_stay = ec; standing_stays = eb };
-    loads = λ o t fit. absurd (unfit (rw (one_order file order o s t) fit));
+  pub checked_faulty : (f : Fault) → F f → r ≡ Err f → IsChecked S F r
+  checked_faulty f s e = record {
+    verdict = verdict;
+    states = λ o t. absurd (verdict.not_both o f t s);
+    faulty = λ g t. e ∙ ap Err (verdict.one_fault f g s t);
   }
 
-  pub loaded : (order : StatedOrder) → States file order → HavePlaces order.size (length costs)
-      (length standing)
-      → r ≡ Ok (sheet_of order.size)
-      → costs' ≡ costs_after order.size order.pairs
-      (costs_opened (plain (pos 0)) order.size)
-      → standing' ≡ standing_after order.size order.pairs (standing_opened order.size)
-      → Loads file costs standing r costs' standing'
-  loaded order s fit e ec eb =
-      let shown : ShowsOrder order costs' standing' =
-      rw (ec, eb) (shows_order order s.fits.pairs_fit) in
-      let tables : ArePairTables plain_kind order.size costs' standing' =
-      rw (ec, eb) (entered_tables order s.fits) in
-      let here : LoadsOrder order r costs' standing' = record {
-        answers = e;
-        enters_costs = ec;
-        enters_standing = eb;
-        shows = shown;
-        grid = same_grid order s.fits.pairs_fit costs' standing' tables.costs_long shown;
-        pair_tables = tables;
-      } in
-      record {
-        verdict = verdict_order file order s;
-        faulty = λ g t. absurd (not_both file order g s t);
-        misfits = λ o t unfit. absurd (unfit (rw (one_order file o order t s) fit));
-        loads = λ o t _. rw (one_order file o order t s) here;
-      }
+-- ---- Opening
 
--- what opening tells, for the size that the file states
-module _ (order : StatedOrder) (n : ℕ) (size : order.size ≡ n) (sound : FitsSheet order)
-    (costs : List Plain)
-    (standing : List ℕ) (costs' : List Plain) (standing' : List ℕ) where
-  is_size : IsSize n
-  is_size = record { some = omega (arith, sound.some); few = omega (arith, sound.few) }
+-- where opening a sheet of a size that it can have is refused, the tables have the wrong length
+module _ {n : ℕ} (size : IsSize n) {costs : List Plain} {standing : List ℕ} {f : Fault}
+    {costs' : List Plain} {standing' : List ℕ}
+    (h : OpensSheet (plain (pos 0)) n costs standing (Err f) costs' standing') where
+  open_unfit : HavePlaces n (length costs) (length standing) → ⊥
+  open_unfit fit =
+      met_or_not (open_needs n (length costs) (length standing)) f (size, (fit, tt)) h.0
 
-  pub open_unfit : (f : Fault) → OpensSheet (plain (pos 0)) n costs standing (Err f) costs'
-      standing'
-      → HavePlaces order.size (length costs) (length standing) → ⊥
-  open_unfit f h fit = met_or_not (open_needs n (length costs) (length standing)) f (
-    is_size,
-    (subst (λ (k : ℕ). HavePlaces k (length costs) (length standing)) size fit, tt),
-  ) h.0
-
-  pub open_fault : (f : Fault) → OpensSheet (plain (pos 0)) n costs standing (Err f) costs'
-      standing'
-      → f ≡ fault TableLength 0
-  open_fault f h = ⊎_elim (λ unmet. absurd (unmet.0 is_size))
+  open_fault : f ≡ fault TableLength 0
+  open_fault = ⊎_elim (λ unmet. absurd (unmet.0 size))
       (λ more. ⊎_elim (λ unmet. unmet.1) (λ none. absurd none.1) more.1) h.0
 
-  pub open_kept : (f : Fault) → OpensSheet (plain (pos 0)) n costs standing (Err f) costs' standing'
-      → (costs' ≡ costs) × (standing' ≡ standing)
-  open_kept f h = (h.1.costs_are, h.1.standing_are)
+-- blank tables have a place for each pair
+pub blank_have : {n : ℕ} {costs : List Plain} {standing : List ℕ}
+    → PairTablesAre (costs_opened (plain (pos 0)) n) (standing_opened n) costs standing
+    → HavePlaces n (length costs) (length standing)
+blank_have {n = n} blank = record {
+  costs = ap length blank.costs_are ∙ length-replicate (places_of n) (plain (pos 0));
+  standing = ap length blank.standing_are ∙ length-replicate (places_of n) 0;
+}
 
--- a sheet that was opened has the size asked for, over blank tables
-module _ (n : ℕ) (costs : List Plain) (standing : List ℕ) (sheet : Sheet) (costs' : List Plain)
-    (standing' : List ℕ)
-    (h : OpensSheet (plain (pos 0)) n costs standing (Ok sheet) costs' standing') where
-  pub opened_size : sheet.size ≡ n
-  opened_size = ap size_of h.1.0
+-- ---- Loading: checking, then opening a sheet of the size, then entering the pairs
 
-  pub opened_places : HavePlaces n (length costs) (length standing)
-  opened_places = h.0.1.0
+-- the check found a fault
+pub loaded_faulty : {S : StatedOrder → Type 0} {F : Fault → Type 0} {f : Fault}
+    {costs : List Plain} {standing : List ℕ} {r : Result Sheet Fault} → IsChecked S F (Err f)
+    → r ≡ Err f → Loads S F costs standing r costs standing
+loaded_faulty {F = F} {f = f} checked e =
+    let verdict = checked.verdict in
+    let s : F f = checked_err checked in
+    record {
+      verdict = verdict;
+      faulty = λ g t. record {
+        answers = e ∙ ap Err (verdict.one_fault f g s t);
+        costs_stay = refl;
+        standing_stays = refl;
+      };
+      misfits = λ o t _. absurd (verdict.not_both o f t s);
+      loads = λ o t _. absurd (verdict.not_both o f t s);
+    }
 
-  pub opened_costs : costs' ≡ replicate (places_of n) (plain (pos 0))
-  opened_costs = h.1.1.costs_are
+-- it found a size, and a sheet takes what was stated
+module _ {S : StatedOrder → Type 0} {F : Fault → Type 0}
+    (fits : (order : StatedOrder) → S order → FitsSheet order) {n : ℕ}
+    (checked : IsChecked S F (Ok n)) where
+  found : (order : StatedOrder) × S order × (order.size ≡ n)
+  found = checked_ok checked
 
-  pub opened_standing : standing' ≡ replicate (places_of n) 0
-  opened_standing = h.1.1.standing_are
+  abbrev order : StatedOrder
+  order = found.0
 
-  pub opened_have : HavePlaces n (length costs') (length standing')
-  opened_have = record {
-    costs = ap length opened_costs ∙ length-replicate (places_of n) (plain (pos 0));
-    standing = ap length opened_standing ∙ length-replicate (places_of n) 0;
-  }
+  size : order.size ≡ n
+  size = found.2
+
+  one_order : (o : StatedOrder) → S o → order ≡ o
+  one_order o s = checked.verdict.one_order order o found.1 s
+
+  no_fault : (f : Fault) → F f → ⊥
+  no_fault f = checked.verdict.not_both order f found.1
+
+  sound : FitsSheet order
+  sound = fits order found.1
+
+  is_size : IsSize n
+  is_size = record { some = omega (arith, sound.some, size); few = omega (arith, sound.few, size) }
+
+  size_of_it : (o : StatedOrder) → S o → o.size ≡ n
+  size_of_it o s = sym (ap (λ x. x.size) (one_order o s)) ∙ size
+
+  module _ {costs : List Plain} {standing : List ℕ} where
+    -- opening was refused
+    pub loaded_misfit : {f : Fault} {costs' : List Plain} {standing' : List ℕ}
+        {r : Result Sheet Fault}
+        → OpensSheet (plain (pos 0)) n costs standing (Err f) costs' standing' → r ≡ Err f
+        → Loads S F costs standing r costs' standing'
+    loaded_misfit h e = record {
+      verdict = checked.verdict;
+      faulty = λ g t. absurd (no_fault g t);
+      misfits = λ o s _. record {
+        answers = e ∙ ap Err (open_fault is_size h);
+        costs_stay = h.1.costs_are;
+        standing_stays = h.1.standing_are;
+      };
+      loads = λ o s fit. absurd (open_unfit is_size h
+          (subst (λ (k : ℕ). HavePlaces k (length costs) (length standing)) (size_of_it o s) fit));
+    }
+
+    -- a sheet was opened, and the pairs were entered into its tables
+    pub loaded : {sheet : Sheet} {costs' costs'' : List Plain} {standing' standing'' : List ℕ}
+        → OpensSheet (plain (pos 0)) n costs standing (Ok sheet) costs' standing'
+        → ((o : StatedOrder) → S o → (costs'' ≡ costs_after o.size o.pairs costs')
+        × (standing'' ≡ standing_after o.size o.pairs standing'))
+        → Loads S F costs standing (Ok sheet) costs'' standing''
+    loaded {sheet = sheet} {costs'' = costs''} {standing'' = standing''} h entered =
+        let done = entered order found.1 in
+        let blank : ℕ → List Plain = costs_opened (plain (pos 0)) in
+        let ec : costs'' ≡ costs_after order.size order.pairs (blank order.size) =
+        done.0 ∙ ap (costs_after order.size order.pairs) (h.1.1.costs_are ∙ ap blank (sym size)) in
+        let es : standing'' ≡ standing_after order.size order.pairs (standing_opened order.size) =
+        done.1 ∙ ap (standing_after order.size order.pairs)
+        (h.1.1.standing_are ∙ ap standing_opened (sym size)) in
+        let shown : ShowsOrder order costs'' standing'' =
+        rw (ec, es) (shows_order order sound.pairs_fit) in
+        let tables : ArePairTables plain_kind order.size costs'' standing'' =
+        rw (ec, es) (entered_tables order sound) in
+        let here : LoadsOrder order (Ok sheet) costs'' standing'' = record {
+          answers = ap (λ k. Ok (sheet_of k)) (ap size_of h.1.0 ∙ sym size);
+          enters_costs = ec;
+          enters_standing = es;
+          shows = shown;
+          grid = same_grid order sound.pairs_fit costs'' standing'' tables.costs_long shown;
+          pair_tables = tables;
+        } in
+        record {
+          verdict = checked.verdict;
+          faulty = λ g t. absurd (no_fault g t);
+          misfits = λ o s unfit. absurd (unfit
+              (subst (λ (k : ℕ). HavePlaces k (length costs) (length standing))
+              (sym (size_of_it o s)) h.0.1.0));
+          loads = λ o s _. subst (λ (x : StatedOrder). LoadsOrder x (Ok sheet) costs'' standing'')
+              (one_order o s) here;
+        }

@@ -3,7 +3,7 @@
 -- neither reading can stop where the other goes on, and the bytes of a sound pair tell which pair
 -- it is.
 use Rattle.std.proofs.Common.{◌≡◌, ℕ, ◌≤◌, List, [], ◌∷◌, ◌++◌, length, drop, Some, None}
-use Rattle.std.proofs.Common.{Ok, Err, Result, ◌⊎◌, sym, refl, ap, ◌∙◌, inl, inr, append_assoc}
+use Rattle.std.proofs.Common.{◌⊎◌, sym, refl, ap, ◌∙◌, inl, inr, append_assoc}
 use Rattle.std.proofs.Common.{append-nil, arith}
 use Rattle.std.specs.List.{flat_map, AllByRecursion}
 use Rattle.sheet.specs.declared.fault.Fault.{Fault}
@@ -13,7 +13,7 @@ use Rattle.orderfile.specs.declared.record.Stage.TheVariants.{Start, Sized, Ende
 use Rattle.orderfile.specs.Format.{StatedOrder, PairFits, States, size_field, pair_field, end_field}
 use Rattle.orderfile.specs.Format.{value_of, pair_in}
 use Rattle.orderfile.specs.Faults.{field_fault, front, FrontFits, FirstFault}
-use Rattle.orderfile.specs.Loading.{HasOneVerdict, IsChecked}
+use Rattle.orderfile.specs.Loading.{HasOneVerdict}
 use Rattle.orderfile.proofs.Fields.{size_sound, pair_sound, pair_stated, end_sound}
 use Rattle.std.proofs.Common.{slice_index}
 use Rattle.blockset.specs.declared.TheConstants.{MOST_BLOCKS}
@@ -119,7 +119,7 @@ module _ (file : List ℕ) where
       → file ≡ front (Ended order.size) order.pairs ++ []
   whole order s = s.is_file ∙ sym (append-nil _)
 
-  pub one_order : (o p : StatedOrder) → States file o → States file p → o ≡ p
+  one_order : (o p : StatedOrder) → States file o → States file p → o ≡ p
   unfolding CannotGoOn
   one_order o p s t =
       let same = one_reading (Ended o.size) (Ended p.size) o.pairs p.pairs [] [] s.fits t.fits tt
@@ -128,7 +128,7 @@ module _ (file : List ℕ) where
       ap (λ n. record { size = n; pairs = o.pairs }) size
       ∙ ap (λ ps. record { size = p.size; pairs = ps }) same.1
 
-  pub one_fault : (f g : Fault) → FirstFault file f → FirstFault file g → f ≡ g
+  one_fault : (f g : Fault) → FirstFault file f → FirstFault file g → f ≡ g
   one_fault f g s t =
       let same = one_reading s.stage t.stage s.pairs t.pairs s.rest t.rest s.fits t.fits
       (stuck_at _ _ _ f s.faulty) (stuck_at _ _ _ g t.faulty) (sym s.splits ∙ t.splits) in
@@ -138,7 +138,7 @@ module _ (file : List ℕ) where
       ∙ ap (λ r. field_fault t.stage r (length (front t.stage t.pairs))) same.2 ∙ t.faulty in
       cc
 
-  pub not_both : (o : StatedOrder) (f : Fault) → States file o → FirstFault file f → ⊥
+  not_both : (o : StatedOrder) (f : Fault) → States file o → FirstFault file f → ⊥
   unfolding CannotGoOn
   not_both o f s t =
       let same = one_reading (Ended o.size) t.stage o.pairs t.pairs [] t.rest s.fits t.fits tt
@@ -148,29 +148,14 @@ module _ (file : List ℕ) where
       (sym same.2))
 
   verdict : ((order : StatedOrder) × States file order) ⊎ ((f : Fault) × FirstFault file f)
-      → HasOneVerdict file
+      → HasOneVerdict (States file) (FirstFault file)
   verdict some =
       record { some = some; one_order = one_order; one_fault = one_fault; not_both = not_both }
 
-  pub verdict_order : (order : StatedOrder) → States file order → HasOneVerdict file
+  pub verdict_order : (order : StatedOrder) → States file order
+      → HasOneVerdict (States file) (FirstFault file)
   verdict_order order s = verdict (inl (order, s))
 
-  pub verdict_fault : (f : Fault) → FirstFault file f → HasOneVerdict file
+  pub verdict_fault : (f : Fault) → FirstFault file f
+      → HasOneVerdict (States file) (FirstFault file)
   verdict_fault f s = verdict (inr (f, s))
-
-  pub checked_states : (order : StatedOrder) (r : Result ℕ Fault) → States file order
-      → r ≡ Ok order.size
-      → IsChecked file r
-  checked_states order r s e = record {
-    verdict = verdict_order order s;
-    states = λ o t. e ∙ ap (λ x. Ok x.size) (one_order order o s t);
-    faulty = λ f t. absurd (not_both order f s t);
-  }
-
-  pub checked_faulty : (f : Fault) (r : Result ℕ Fault) → FirstFault file f → r ≡ Err f
-      → IsChecked file r
-  checked_faulty f r s e = record {
-    verdict = verdict_fault f s;
-    states = λ o t. absurd (not_both o f t s);
-    faulty = λ g t. e ∙ ap Err (one_fault f g s t);
-  }

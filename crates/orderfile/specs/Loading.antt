@@ -1,4 +1,5 @@
--- What `check` and `load` answer for a file, and what `load` leaves in the tables, at every input.
+-- What checking and loading bytes answer, and what loading leaves in the tables, at every input and
+-- in any format.
 use Rattle.std.specs.Prelude.{◌≡◌, ℕ, ◌<◌, Bool, ◌&&◌, ◌⊎◌, List, [], ◌∷◌, length, ℤ, pos}
 use Rattle.std.specs.Prelude.{Some, None, Ok, Err, Option, Result, ◌==◌, if◌then◌else◌}
 use Rattle.std.specs.Option.{option_map, is_some}
@@ -16,21 +17,9 @@ use Rattle.sheet.specs.Refusals.{fault}
 use Rattle.sheet.specs.declared.fault.Cause.TheVariants.{TableLength}
 use Rattle.sheet.specs.declared.fault.Fault.{Fault}
 use Rattle.orderfile.specs.declared.record.StatedPair.{StatedPair}
-use Rattle.orderfile.specs.Format.{StatedOrder, States}
-use Rattle.orderfile.specs.Faults.{FirstFault}
+use Rattle.orderfile.specs.Format.{StatedOrder}
 
--- a file states one order or has one first fault, and never both
-pub record HasOneVerdict (file : List ℕ) : Type 0 where
-  pub some : ((order : StatedOrder) × States file order) ⊎ ((f : Fault) × FirstFault file f)
-  pub one_order : (o p : StatedOrder) → States file o → States file p → o ≡ p
-  pub one_fault : (f g : Fault) → FirstFault file f → FirstFault file g → f ≡ g
-  pub not_both : (o : StatedOrder) (f : Fault) → States file o → FirstFault file f → ⊥
-
--- checking a file answers its size or its first fault
-pub record IsChecked (file : List ℕ) (r : Result ℕ Fault) : Type 0 where
-  pub verdict : HasOneVerdict file
-  pub states : (order : StatedOrder) → States file order → r ≡ Ok order.size
-  pub faulty : (f : Fault) → FirstFault file f → r ≡ Err f
+-- ---- Tables
 
 -- a number as a plain cost
 abbrev pub plain : ℤ → Plain
@@ -107,23 +96,69 @@ pub record LoadsOrder (order : StatedOrder) (r : Result Sheet Fault) (costs' : L
       (costs_opened (plain (pos 0)) order.size)
   pub enters_standing : standing' ≡ standing_after order.size order.pairs
       (standing_opened order.size)
-  -- which is the sheet that the file states
+  -- which is the sheet that is stated
   pub shows : ShowsOrder order costs' standing'
-  -- so all that is told of the grid in them is told of the grid that the file states
+  -- so all that is told of the grid in them is told of the stated grid
   pub grid : AreSameInside (plain_grid order.size costs' standing') (stated_grid order)
   -- and they are pair tables in order, at which no call on a sheet takes offence
   pub pair_tables : ArePairTables plain_kind order.size costs' standing'
 
--- loading: the first fault of the file, else tables of the wrong length, else the sheet that the
--- file states
-pub record Loads (file : List ℕ) (costs : List Plain) (standing : List ℕ) (r : Result Sheet
-    Fault)
-    (costs' : List Plain) (standing' : List ℕ) : Type 0 where
-  pub verdict : HasOneVerdict file
-  pub faulty : (f : Fault) → FirstFault file f → RefusesLoad f costs standing r costs' standing'
-  pub misfits : (order : StatedOrder) → States file order
-      → (HavePlaces order.size (length costs) (length standing) → ⊥)
-      → RefusesLoad (fault TableLength 0) costs standing r costs' standing'
-  pub loads : (order : StatedOrder) → States file order
+-- ---- One format
+
+-- what some bytes state in a format, and their first faults in it: of an order file these are
+-- `States file` and `FirstFault file`
+module _ (IsStated : StatedOrder → Type 0) (IsFirstFault : Fault → Type 0) where
+  -- the bytes state one order or have one first fault, and never both
+  pub record HasOneVerdict : Type 0 where
+    pub some : ((order : StatedOrder) × IsStated order) ⊎ ((f : Fault) × IsFirstFault f)
+    pub one_order : (o p : StatedOrder) → IsStated o → IsStated p → o ≡ p
+    pub one_fault : (f g : Fault) → IsFirstFault f → IsFirstFault g → f ≡ g
+    pub not_both : (o : StatedOrder) (f : Fault) → IsStated o → IsFirstFault f → ⊥
+
+  -- checking them answers the size that they state or their first fault
+  pub record IsChecked (r : Result ℕ Fault) : Type 0 where
+    pub verdict : HasOneVerdict
+    pub states : (order : StatedOrder) → IsStated order → r ≡ Ok order.size
+    pub faulty : (f : Fault) → IsFirstFault f → r ≡ Err f
+
+  -- loading them: their first fault, else tables of the wrong length, else the sheet that they
+  -- state
+  pub record Loads (costs : List Plain) (standing : List ℕ) (r : Result Sheet Fault)
+      (costs' : List Plain) (standing' : List ℕ) : Type 0 where
+    pub verdict : HasOneVerdict
+    pub faulty : (f : Fault) → IsFirstFault f → RefusesLoad f costs standing r costs' standing'
+    pub misfits : (order : StatedOrder) → IsStated order
+        → (HavePlaces order.size (length costs) (length standing) → ⊥)
+        → RefusesLoad (fault TableLength 0) costs standing r costs' standing'
+    pub loads : (order : StatedOrder) → IsStated order
+        → HavePlaces order.size (length costs) (length standing)
+        → LoadsOrder order r costs' standing'
+
+-- ---- Two formats
+
+-- two loads came to the same answer and the same tables
+pub record EndAlike (r : Result Sheet Fault) (costs : List Plain) (standing : List ℕ)
+    (r₁ : Result Sheet Fault) (costs₁ : List Plain) (standing₁ : List ℕ) : Type 0 where
+  pub answers : r ≡ r₁
+  pub same_costs : costs ≡ costs₁
+  pub same_standing : standing ≡ standing₁
+
+-- two formats load alike: bytes of the one and bytes of the other that state the same order are
+-- loaded to the same tables, with the same answer, into whatever tables with a place for each pair,
+-- and from the same tables always
+pub record LoadAlike (IsStated : StatedOrder → Type 0) (IsFirstFault : Fault → Type 0)
+    (IsStated₁ : StatedOrder → Type 0) (IsFirstFault₁ : Fault → Type 0) : Type 0 where
+  pub places : (order : StatedOrder) → IsStated order → IsStated₁ order
+      → (costs costs₁ : List Plain) (standing standing₁ : List ℕ)
       → HavePlaces order.size (length costs) (length standing)
-      → LoadsOrder order r costs' standing'
+      → HavePlaces order.size (length costs₁) (length standing₁)
+      → (r r₁ : Result Sheet Fault) (costs' costs₁' : List Plain) (standing' standing₁' : List ℕ)
+      → Loads IsStated IsFirstFault costs standing r costs' standing'
+      → Loads IsStated₁ IsFirstFault₁ costs₁ standing₁ r₁ costs₁' standing₁'
+      → EndAlike r costs' standing' r₁ costs₁' standing₁'
+  pub always : (order : StatedOrder) → IsStated order → IsStated₁ order
+      → (costs : List Plain) (standing : List ℕ)
+      → (r r₁ : Result Sheet Fault) (costs' costs₁' : List Plain) (standing' standing₁' : List ℕ)
+      → Loads IsStated IsFirstFault costs standing r costs' standing'
+      → Loads IsStated₁ IsFirstFault₁ costs standing r₁ costs₁' standing₁'
+      → EndAlike r costs' standing' r₁ costs₁' standing₁'

@@ -16,7 +16,8 @@ use Rattle.orderfile.specs.declared.format.TheConstants.{HEADER_LENGTH, SIZE_TAG
 use Rattle.orderfile.specs.declared.format.TheConstants.{SIZE_LENGTH, PAIR_LENGTH, END_LENGTH}
 use Rattle.orderfile.specs.declared.format.TheConstants.{SIZE_FIELD, PAIR_FIELD, END_FIELD}
 use Rattle.orderfile.specs.declared.record.StatedPair.{StatedPair}
-use Rattle.orderfile.specs.Format.{PairFits, file_of}
+use Rattle.orderfile.specs.Faults.{FirstFault}
+use Rattle.orderfile.specs.Format.{PairFits, States, file_of}
 use Rattle.orderfile.specs.Loading.{plain, plain_kind, plain_cell, plain_grid, names_blocks}
 use Rattle.orderfile.specs.Loading.{Loads}
 
@@ -79,7 +80,7 @@ Reloads n costs standing file =
     (costs₀ : List Plain) (standing₀ : List ℕ) (r : Result Sheet Fault) (costs' : List Plain)
     (standing' : List ℕ)
     → HavePlaces n (length costs₀) (length standing₀)
-    → Loads file costs₀ standing₀ r costs' standing'
+    → Loads (States file) (FirstFault file) costs₀ standing₀ r costs' standing'
     → (r ≡ Ok (sheet_of n))
     × ((l r : ℕ) → l < n → r < n
     → plain_cell n costs' standing' l r ≡ plain_cell n costs standing l r)

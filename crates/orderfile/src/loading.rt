@@ -2,6 +2,7 @@
 
 ghost use Rattle.std.specs.Prelude.{◌≡◌, length};
 ghost use Rattle.tables.specs.PairTables.{HavePlaces};
+ghost use Rattle.orderfile.specs.Faults.{FirstFault};
 ghost use Rattle.orderfile.specs.Format.{StatedOrder, States};
 ghost use Rattle.orderfile.specs.Loading.{IsChecked, costs_after, standing_after, Loads};
 
@@ -13,7 +14,7 @@ use tables::enter_pair;
 
 /// The size that a file states, once all of the file has been read; or its first fault.
 pub fn check(file: &[u8]) -> Result<u16, Fault>
-    ensures { IsChecked file.now result }
+    ensures { IsChecked (States file.now) (FirstFault file.now) result }
 {
     let mut records = RecordReader::new(file);
     let mut size = 0;
@@ -30,7 +31,8 @@ pub fn check(file: &[u8]) -> Result<u16, Fault>
 /// The whole file is read before anything is written. Refused: the first fault of the file, and
 /// then tables that do not have n * n places, for the size n that the file states.
 pub fn load(file: &[u8], costs: &mut [Plain], standing: &mut [u8]) -> Result<OpenSheet, Fault>
-    ensures { Loads file.now costs.old standing.old result costs.new standing.new }
+    ensures { Loads (States file.now) (FirstFault file.now) costs.old standing.old result costs.new
+        standing.new }
 {
     let n = check(file)?;
     let sheet = open(n, costs, standing)?;

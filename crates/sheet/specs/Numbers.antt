@@ -4,6 +4,7 @@ use Rattle.sheet.specs.declared.fault.Cause.{Cause}
 use Rattle.sheet.specs.declared.fault.Cause.TheVariants.{Size, TableLength, Block, CostRange}
 use Rattle.sheet.specs.declared.fault.Cause.TheVariants.{Absent, NoPerfectPairing, Inconsistent}
 use Rattle.sheet.specs.declared.fault.Cause.TheVariants.{Overrun, Tag, FieldLength, ShortBuffer}
+use Rattle.sheet.specs.declared.fault.Cause.TheVariants.{Line, Counts}
 use Rattle.sheet.specs.declared.fault.Layer.{Layer}
 use Rattle.sheet.specs.declared.fault.Layer.TheVariants.{Field, Record, Sheet}
 
@@ -19,6 +20,8 @@ cause_number Overrun = 8
 cause_number Tag = 9
 cause_number FieldLength = 10
 cause_number ShortBuffer = 11
+cause_number Line = 12
+cause_number Counts = 13
 
 abbrev pub layer_number : Layer → ℕ
 layer_number Field = 1
@@ -38,3 +41,5 @@ layer_of Overrun = Field
 layer_of Tag = Record
 layer_of FieldLength = Record
 layer_of ShortBuffer = Sheet
+layer_of Line = Record
+layer_of Counts = Record

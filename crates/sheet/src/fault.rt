@@ -37,6 +37,10 @@ pub enum Cause {
     FieldLength = 10,
     /// The output buffer is too short.
     ShortBuffer = 11,
+    /// A line has no form that may come where it stands.
+    Line = 12,
+    /// The counts of a text are not met.
+    Counts = 13,
 }
 
 /// The layer that found the fault.
@@ -44,13 +48,14 @@ pub enum Cause {
 pub enum Layer {
     /// The bytes of a field.
     Field = 1,
-    /// The order and the form of fields.
+    /// The order and the form of fields, or of lines.
     Record = 2,
     /// The sheet itself.
     Sheet = 3,
 }
 
-/// A refusal. The place is the offset of the faulty field's tag in a file, and 0 elsewhere.
+/// A refusal. The place is the offset of the faulty field's tag in a file, of the faulty line in a
+/// text, and 0 elsewhere.
 #[derive(Clone, Copy, PartialEq, Eq, Debug)]
 pub struct Fault {
     pub cause: Cause,
@@ -86,7 +91,7 @@ impl Cause {
     {
         match self {
             Cause::Overrun => Layer::Field,
-            Cause::Tag | Cause::FieldLength => Layer::Record,
+            Cause::Tag | Cause::FieldLength | Cause::Line | Cause::Counts => Layer::Record,
             _ => Layer::Sheet,
         }
     }

@@ -4,7 +4,8 @@ use Rattle.std.proofs.lemmas.Result.{err_from_is_err_and}
 use Rattle.sheet.proofs.Refused.{from_err}
 use Rattle.orderfile.proofs.Reading.{reading_fault, reading_done, passed, next_reads, next_stage}
 use Rattle.orderfile.proofs.Reading.{known_still}
-use Rattle.orderfile.proofs.Verdicts.{checked_states, checked_faulty}
+use Rattle.orderfile.proofs.Ends.{checked_states, checked_faulty}
+use Rattle.orderfile.proofs.Verdicts.{verdict_order, verdict_fault}
 use Rattle.orderfile.proofs.loading.check.Goals as goal
 
 pub returns-in_err-record : goal.returns-in_err-record
@@ -12,8 +13,8 @@ returns-in_err-record c =
     let p = err_from_is_err_and c.from_residual.result c.from_residual.ensures.1 in
     let f = c.in_err-record.field-0.0 in
     let e = from_err _ _ f c.in_err-record.ensures.answers in
-    checked_faulty c.args.file.now f c.from_residual.result
-    (reading_fault _ _ _ _ c.loop-record.invariant.0 f e) (p.1 ∙ ap Err p.2)
+    let first = reading_fault _ _ _ _ c.loop-record.invariant.0 f e in
+    checked_faulty (verdict_fault c.args.file.now f first) f first (p.1 ∙ ap Err p.2)
 
 pub loop-record-preserved : goal.loop-record-preserved
 loop-record-preserved c =
@@ -32,4 +33,4 @@ returns c =
     let done = reading_done c.args.file.now was.stage was.fields.rest.now was.fields.at
     c.loop-record.size c.loop-record.invariant.0 c.loop-record.invariant.1 none.clear
     (sym none.next) in
-    checked_states c.args.file.now done.0 _ done.1 (ap Ok done.2)
+    checked_states (verdict_order c.args.file.now done.0 done.1) done.0 done.1 (ap Ok done.2)
