@@ -14,8 +14,8 @@ MOST = 1000
 
 
 def causes():
-    """What docs/refusals.md tells of each cause: whether a refusal for it has a place in a file,
-    what it means, and what to do."""
+    """What docs/refusals.md tells of each cause: whether a refusal for it has a place in a file or
+    a text, what it means, and what to do."""
     rows = [line.strip("| \n").split(" | ") for line in open("docs/refusals.md")]
     return {int(row[0]): (row[4] != "0", row[5], row[6]) for row in rows if row[0].isdigit()}
 

@@ -18,6 +18,8 @@ ghost use Rattle.assign.specs.Answer.{Answers, HasOptimum};
 ghost use Rattle.sheet.specs.Opening.{OpensSheet};
 ghost use Rattle.sheet.specs.Size.{Sheet};
 ghost use Rattle.sheet.specs.declared.fault.Fault.{Fault};
+ghost use Rattle.orderfile.specs.Faults.{FirstFault};
+ghost use Rattle.orderfile.specs.Format.{States};
 ghost use Rattle.orderfile.specs.Loading.{Loads};
 ghost use Rattle.bench_calls.specs.Codes.{outcome_code, fault_number};
 ghost use Rattle.bench_calls.specs.Calls.{SettlesTables, Steps, Marks, Saves};
@@ -196,7 +198,8 @@ pub extern "C" fn bench_two_marks(
 #[unsafe(no_mangle)]
 pub extern "C" fn bench_load(file: &[u8], costs: &mut [Plain], standing: &mut [u8]) -> u32
     ensures { (r : Result Sheet Fault) × (result ≡ fault_number r)
-        × Loads file.now costs.old standing.old r costs.new standing.new }
+        × Loads (States file.now) (FirstFault file.now) costs.old standing.old r costs.new
+        standing.new }
 {
     fault_number(load(file, costs, standing))
 }

@@ -28,7 +28,8 @@ use Rattle.chost.specs.declared.answering.HostCall.{HostCall}
 use Rattle.chost.specs.declared.answering.HostCall.TheVariants.{First, After}
 use Rattle.chost.proofs.Buffers.{front, behind, as_long}
 
-module _ (call : HostCall) (file out : List ℕ) (verdict : HasOneVerdict file) where
+module _ (call : HostCall) (file out : List ℕ)
+    (verdict : HasOneVerdict (States file) (FirstFault file)) where
   -- a file with a fault
   pub answers_faulty : (f : Fault) → FirstFault file f → AnswersHost call file out (Err f) out
   answers_faulty f h = record {
@@ -137,7 +138,8 @@ module _ (o : StatedOrder) (r : Result Sheet Fault) (costs : List Plain) (standi
 -- ---- In tables with room for the sheet that the file states
 
 module _ {file : List ℕ} {costs₀ costs : List Plain} {standing₀ standing : List ℕ} {sheet : Sheet}
-    (loaded : Loads file costs₀ standing₀ (Ok sheet) costs standing) (call : HostCall)
+    (loaded : Loads (States file) (FirstFault file) costs₀ standing₀ (Ok sheet) costs standing)
+    (call : HostCall)
     (out partners list : List ℕ) (left right : List Plain)
     (rooms : (o : StatedOrder) → States file o
     → HasRoomFor o.size (length costs₀) (length standing₀)
@@ -145,7 +147,7 @@ module _ {file : List ℕ} {costs₀ costs : List Plain} {standing₀ standing :
   stated : (o : StatedOrder) × States file o
       × HavePlaces o.size (length costs₀) (length standing₀) × (sheet.size ≡ o.size)
       × LoadsOrder o (Ok sheet) costs standing
-  stated = loaded_ok file costs₀ standing₀ costs standing sheet loaded
+  stated = loaded_ok loaded
 
   pub list_fits : length list ≡ size_of sheet
   list_fits = (rooms stated.0 stated.1).list_long ∙ sym stated.3

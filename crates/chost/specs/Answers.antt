@@ -53,7 +53,7 @@ StepsOn g out answer out' = MatchResult answer
 -- first need that is not met; or it is done. On a refusal the buffer is as it was
 pub record AnswersHost (call : HostCall) (file out : List ℕ) (answer : Result Step Fault)
     (out' : List ℕ) : Type 0 where
-  pub verdict : HasOneVerdict file
+  pub verdict : HasOneVerdict (States file) (FirstFault file)
   pub faulty : (f : Fault) → FirstFault file f → (answer ≡ Err f) × (out' ≡ out)
   pub states : (order : StatedOrder) → States file order → let g = stated_grid order in
       Responds (call_needs g out call) answer (IsWritten g out call out') (out' ≡ out)

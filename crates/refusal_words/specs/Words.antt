@@ -11,9 +11,10 @@ abbrev pub cause_row : Cause → Bool × record { now : List ℕ } × record { n
 cause_row cause = slice_index_or CAUSES (cause_number cause - 1)
     (false, record { now = [] }, record { now = [] })
 
--- the cause is found in a field of a file, and the place of its refusal is where the field begins
-abbrev pub is_of_field : Cause → Bool
-is_of_field cause = (cause_row cause).0
+-- the cause is found in a field of a file or in a line of a text, and the place of its refusal is
+-- where that begins
+abbrev pub has_place : Cause → Bool
+has_place cause = (cause_row cause).0
 
 abbrev pub meaning_of : Cause → List ℕ
 meaning_of cause = (cause_row cause).1.now
@@ -26,9 +27,9 @@ abbrev pub words_for : Cause → List ℕ
 words_for cause =
     codes ": " ++ (meaning_of cause ++ (codes "\n" ++ (remedy_for cause ++ codes "\n")))
 
--- `refused N at byte P: ..`, without the place where no field is at fault
+-- `refused N at byte P: ..`, without the place where neither a field nor a line is at fault
 abbrev pub explanation : Fault → List ℕ
-explanation f = (if is_of_field f.cause
+explanation f = (if has_place f.cause
     then codes "refused " ++ (decimal (cause_number f.cause)
     ++ (codes " at byte " ++ (decimal f.place ++ words_for f.cause)))
     else codes "refused " ++ (decimal (cause_number f.cause) ++ words_for f.cause))

@@ -2,14 +2,15 @@
 //! contracts read.
 
 ghost use Rattle.std.specs.Prelude.{◌≡◌};
-ghost use Rattle.refusal_words.specs.Words.{meaning_of, remedy_for, is_of_field};
+ghost use Rattle.refusal_words.specs.Words.{meaning_of, remedy_for, has_place};
 
 use sheet::Cause;
 
 /// A row for each cause, in the order of their numbers: whether the cause is found in a field of a
-/// file, so that the place of its refusal is where the field begins; what it means; and what to do
-/// about it. The rows are tuples, since a definition reads no constant of a struct.
-pub const CAUSES: [(bool, &str, &str); 11] = [
+/// file or in a line of a text, so that the place of its refusal is where that begins; what it
+/// means; and what to do about it. The rows are tuples, since a definition reads no constant of a
+/// struct.
+pub const CAUSES: [(bool, &str, &str); 13] = [
     (
         true,
         "the size is 0 or above 64",
@@ -65,6 +66,16 @@ pub const CAUSES: [(bool, &str, &str); 11] = [
         "the output buffer is too short",
         "Lend 7 bytes, and 13 more for each standing pair.",
     ),
+    (
+        true,
+        "a line has none of the forms that may come where it stands",
+        "Write the problem line, then the nodes from 1 on, then the arcs; one space between words.",
+    ),
+    (
+        true,
+        "the number of nodes is odd, or that of the arcs is not the stated one",
+        "State an even number of nodes, and as many arcs as there are arc lines.",
+    ),
 ];
 
 /// What a cause means.
@@ -81,9 +92,10 @@ pub fn remedy(cause: Cause) -> &'static str
     CAUSES[cause.number() as usize - 1].2
 }
 
-/// Whether a cause is found in a field of a file, so that the place of its refusal says where.
-pub(crate) fn is_of_field(cause: Cause) -> bool
-    ensures { result ≡ is_of_field cause }
+/// Whether a cause is found in a field of a file or in a line of a text, so that the place of its
+/// refusal says where.
+pub(crate) fn has_place(cause: Cause) -> bool
+    ensures { result ≡ has_place cause }
 {
     CAUSES[cause.number() as usize - 1].0
 }

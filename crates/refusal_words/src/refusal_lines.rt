@@ -6,7 +6,7 @@ ghost use Rattle.refusal_words.specs.Refusing.{meaning_line, remedy_line, block_
 ghost use Rattle.refusal_words.specs.Refusing.{refusal_lines, unmatched_lines};
 ghost use Rattle.refusal_words.specs.Words.{explanation};
 
-use crate::causes::{is_of_field, meaning, remedy};
+use crate::causes::{has_place, meaning, remedy};
 use blockset::{BlockSet, MOST_BLOCKS};
 use sheet::{Cause, Fault, Shortfall};
 use std::alloc::{AllocError, Global};
@@ -75,8 +75,8 @@ pub fn push_unmatched(
     push_remedy(text, cause)
 }
 
-/// A refusal in words, on two lines: its number, for a fault of a field the byte where the field
-/// begins, and what the cause means; and what to do.
+/// A refusal in words, on two lines: its number, for a fault of a field or of a line the byte where
+/// that begins, and what the cause means; and what to do.
 pub fn explain(heap: Global, fault: Fault) -> Result<String, AllocError>
     ensures { IfOk result (λ text. string_bytes text ≡ explanation fault) }
 {
@@ -84,7 +84,7 @@ pub fn explain(heap: Global, fault: Fault) -> Result<String, AllocError>
     let place = fault.place;
     let meaning = meaning(fault.cause);
     let remedy = remedy(fault.cause);
-    if is_of_field(fault.cause) {
+    if has_place(fault.cause) {
         format!(in heap; "refused {number} at byte {place}: {meaning}\n{remedy}\n")
     } else {
         format!(in heap; "refused {number}: {meaning}\n{remedy}\n")

@@ -3,7 +3,7 @@
 -- tell the pairs that some optimum pairing has, and the loaded costs are the stated ones. Grids
 -- that are the same inside have the same crowd set, so what is told of none is the same too.
 use Rattle.std.proofs.Common.{◌≡◌, ℕ, zero, suc, ◌<◌, max, Bool, true, false, ◌&&◌, List, [], ◌∷◌}
-use Rattle.std.proofs.Common.{◌++◌, length, ℤ, Option, Result, codes, decimal, sym, refl, ap, ap₂}
+use Rattle.std.proofs.Common.{◌++◌, length, ℤ, Option, codes, decimal, sym, refl, ap, ap₂}
 use Rattle.std.proofs.Common.{◌∙◌, subst, arith}
 use Rattle.std.specs.Prelude.{◌==◌, if◌then◌else◌}
 use Rattle.std.proofs.lemmas.Bool.{lt-ltb}
@@ -16,17 +16,18 @@ use Rattle.matching.specs.Answers.{IsNth}
 use Rattle.matching.proofs.Nth.{nth_optimum}
 use Rattle.tables.specs.Lent.{Lent, grid}
 use Rattle.sheet.specs.Walking.{AreMarks}
-use Rattle.sheet.specs.Size.{Sheet}
-use Rattle.sheet.specs.declared.fault.Fault.{Fault}
+use Rattle.sheet.specs.Size.{size_of}
 use Rattle.orderfile.specs.Format.{StatedOrder}
-use Rattle.orderfile.specs.Loading.{plain_kind, plain_grid, stated_cost, stated_grid, LoadsOrder}
+use Rattle.orderfile.specs.Loading.{plain_kind, plain_grid, stated_cost, stated_grid}
 use Rattle.orderfile.proofs.LoadedGrid.{loaded_alike}
+use Rattle.report.specs.Afresh.{IsLoaded}
 use Rattle.report.specs.Text.{pair_cost}
 use Rattle.report.specs.Listing.{total_line}
 use Rattle.report.specs.Mapping.{SheetView, cell_text, cell_of, right_in, most, row_width}
 use Rattle.report.specs.Mapping.{column_width, head_line, table_row, table_rows, legend}
 use Rattle.report.specs.Mapping.{map_lines, map_text}
 use Rattle.report.specs.Drawing.{grid_view, IsMapOver, IsMap}
+use Rattle.report.specs.declared.fresh_tables.LoadedSheet.{LoadedSheet}
 use Rattle.report.proofs.Described.{cost_shown}
 use Rattle.report.proofs.Lines.{up_same}
 
@@ -111,22 +112,28 @@ module _ (t : Lent Plain) (marks : List ℕ) where
 
 -- ---- The order that was loaded
 
-module _ (order : StatedOrder) (r : Result Sheet Fault) (costs : List Plain) (standing : List ℕ)
-    (accepted : LoadsOrder order r costs standing) where
-  pub drawn_order : (text : List ℕ)
-      → IsMap (pair_cost order.size costs standing) (plain_grid order.size costs standing) text
-      → IsMap (stated_cost order.pairs) (stated_grid order) text
-  drawn_order text map =
-      let n = order.size in
-      let cost = pair_cost n costs standing in
-      let stated = stated_cost order.pairs in
-      let g = plain_grid n costs standing in
-      let h = stated_grid order in
-      let alike = loaded_alike order r costs standing accepted in
-      subst (λ (ps : List (List ℕ)). IsMapOver stated h ps text) alike.optima
-      (over_same cost stated g h (optima g) text
-      (λ p i. alike.totals p (nth_optimum g 0 p i).perfect)
-      (λ p. lines_same n (cell_of (grid_view cost g p)) (cell_of (grid_view stated h p))
-      (λ l m i j. ap₂ (cell_text (at p l == m)) (alike.is_marked l m)
-      (cost_shown order costs standing accepted.shows l m i j)))
-      (λ crowd short u. (alike.unpaired crowd short).0 u) map)
+-- the map of a loaded sheet is that of the order
+pub map_loaded : {S : StatedOrder → Type 0} {sheet : LoadedSheet} (loaded : IsLoaded S sheet)
+    (text : List ℕ)
+    → IsMap (pair_cost (size_of sheet.sheet) sheet.costs.items sheet.standing.items)
+    (plain_grid (size_of sheet.sheet) sheet.costs.items sheet.standing.items) text
+    → IsMap (stated_cost loaded.order.pairs) (stated_grid loaded.order) text
+map_loaded {sheet = sheet} loaded text map =
+    let costs = sheet.costs.items in
+    let standing = sheet.standing.items in
+    let order = loaded.order in
+    let n = order.size in
+    let cost = pair_cost n costs standing in
+    let stated = stated_cost order.pairs in
+    let g = plain_grid n costs standing in
+    let h = stated_grid order in
+    let alike = loaded_alike order _ costs standing loaded.accepted in
+    subst (λ (ps : List (List ℕ)). IsMapOver stated h ps text) alike.optima
+    (over_same cost stated g h (optima g) text
+    (λ p i. alike.totals p (nth_optimum g 0 p i).perfect)
+    (λ p. lines_same n (cell_of (grid_view cost g p)) (cell_of (grid_view stated h p))
+    (λ l m i j. ap₂ (cell_text (at p l == m)) (alike.is_marked l m)
+    (cost_shown order costs standing loaded.accepted.shows l m i j)))
+    (λ crowd short u. (alike.unpaired crowd short).0 u)
+    (subst (λ (k : ℕ). IsMap (pair_cost k costs standing) (plain_grid k costs standing) text)
+    loaded.size map))

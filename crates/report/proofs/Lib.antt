@@ -1,3 +1,4 @@
+pub mod Afresh
 pub mod Cutting
 pub mod Described
 pub mod Lines

@@ -1,4 +1,5 @@
--- A walk through a list of pairings writes its listing.
+-- A walk through a list of pairings writes its listing, and the listing of a loaded sheet is that
+-- of the order.
 -- Idea: no two pairings of the list are equal, so a pairing tells its place in it, and a step from
 -- place k leads to place k + 1 or says that k was the last. Each step adds the line of one more.
 use Rattle.std.proofs.Common.{◌≡◌, ℕ, ◌+◌, ◌<◌, ◌≤◌, ◌≢◌, List, [], ◌∷◌, ◌++◌}
@@ -14,9 +15,15 @@ use Rattle.pairing.proofs.Listing.{optima_are}
 use Rattle.matching.specs.Answers.{IsNth, Follows}
 use Rattle.matching.proofs.Nth.{nth_optimum}
 use Rattle.matching.specs.declared.stepping.Step.TheVariants.{Next, End}
+use Rattle.sheet.specs.Size.{size_of}
+use Rattle.orderfile.specs.Format.{StatedOrder}
+use Rattle.orderfile.specs.Loading.{plain_grid, stated_grid}
+use Rattle.orderfile.proofs.LoadedGrid.{loaded_alike}
 use Rattle.refusal_words.specs.Lines.{pairing_line}
+use Rattle.report.specs.Afresh.{IsLoaded}
 use Rattle.report.specs.Listing.{pairing_lines, total_line}
 use Rattle.report.specs.Listing.{last_line, listed, listing_over, listing_text}
+use Rattle.report.specs.declared.fresh_tables.LoadedSheet.{LoadedSheet}
 
 -- ---- Places
 
@@ -92,3 +99,16 @@ module _ (g h : Grid) where
   listing_same alike =
       over_same (optima g) (λ p i. alike.totals p (nth_optimum g 0 p i).perfect)
       ∙ ap (listing_over h) alike.optima
+
+-- the listing of a loaded sheet is that of the grid that the order states
+pub listing_loaded : {S : StatedOrder → Type 0} {sheet : LoadedSheet} (loaded : IsLoaded S sheet)
+    → listing_text
+    (plain_grid (size_of sheet.sheet) sheet.costs.items sheet.standing.items)
+    ≡ listing_text (stated_grid loaded.order)
+listing_loaded {sheet = sheet} loaded =
+    let costs = sheet.costs.items in
+    let standing = sheet.standing.items in
+    let order = loaded.order in
+    ap (λ k. listing_text (plain_grid k costs standing)) loaded.size
+    ∙ listing_same (plain_grid order.size costs standing) (stated_grid order)
+    (loaded_alike order _ costs standing loaded.accepted)

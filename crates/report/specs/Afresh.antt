@@ -1,4 +1,4 @@
--- What loading a file into fresh tables comes to, and settling a sheet with fresh tables.
+-- What loading bytes into fresh tables comes to, and settling a sheet with fresh tables.
 use Rattle.std.specs.Prelude.{◌≡◌, ℕ, List, [], Ok}
 use Rattle.cost.specs.declared.plain_kind.Plain.{Plain}
 use Rattle.pairing.specs.Largest.{HasNoPerfect}
@@ -8,15 +8,15 @@ use Rattle.tables.specs.Lent.{Lent, lent}
 use Rattle.tables.specs.Together.{HoldTogether}
 use Rattle.assign.specs.Answer.{HasFirstOptimum}
 use Rattle.sheet.specs.Size.{size_of}
-use Rattle.orderfile.specs.Format.{StatedOrder, States}
+use Rattle.orderfile.specs.Format.{StatedOrder}
 use Rattle.orderfile.specs.Loading.{plain_kind, plain_grid, LoadsOrder}
 use Rattle.report.specs.declared.fresh_tables.LoadedSheet.{LoadedSheet}
 use Rattle.report.specs.declared.fresh_tables.Settlement.{Settlement}
 
--- the file states an order, which the sheet and its pair tables show
-pub record IsLoaded (file : List ℕ) (loaded : LoadedSheet) : Type 0 where
+-- the bytes state an order in their format, which the sheet and its pair tables show
+pub record IsLoaded (IsStated : StatedOrder → Type 0) (loaded : LoadedSheet) : Type 0 where
   pub order : StatedOrder
-  pub states : States file order
+  pub states : IsStated order
   pub size : size_of loaded.sheet ≡ order.size
   pub accepted : LoadsOrder order (Ok loaded.sheet) loaded.costs.items loaded.standing.items
 

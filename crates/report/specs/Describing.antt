@@ -1,4 +1,4 @@
--- What telling a file answers, and what describing it does.
+-- What telling bytes in a format answers, and what describing an order file does.
 use Rattle.std.specs.Prelude.{◌≡◌, ℕ, List}
 use Rattle.sheet.specs.declared.fault.Fault.{Fault}
 use Rattle.orderfile.specs.Format.{StatedOrder, States}
@@ -6,14 +6,16 @@ use Rattle.orderfile.specs.Faults.{FirstFault}
 use Rattle.orderfile.specs.Loading.{HasOneVerdict}
 use Rattle.report.specs.Text.{statement, refusal}
 
--- the text is of the order that the file states, or is what is told of its first fault; every file
--- has one of the two, and never both
-pub record IsReport (IsOfOrder : StatedOrder → List ℕ → Type 0) (of_fault : Fault → List ℕ)
-    (file text : List ℕ) : Type 0 where
-  pub verdict : HasOneVerdict file
-  pub states : (order : StatedOrder) → States file order → IsOfOrder order text
-  pub faulty : (f : Fault) → FirstFault file f → text ≡ of_fault f
+-- the text is of the order that some bytes state in a format, or is what is told of their first
+-- fault in it; bytes have one of the two, and never both
+pub record IsReport (IsStated : StatedOrder → Type 0) (IsFirstFault : Fault → Type 0)
+    (IsOfOrder : StatedOrder → List ℕ → Type 0) (of_fault : Fault → List ℕ) (text : List ℕ)
+    : Type 0 where
+  pub verdict : HasOneVerdict IsStated IsFirstFault
+  pub states : (order : StatedOrder) → IsStated order → IsOfOrder order text
+  pub faulty : (f : Fault) → IsFirstFault f → text ≡ of_fault f
 
 -- the text tells what the file states, or its first fault
 abbrev pub Describes : (file text : List ℕ) → Type 0
-Describes = IsReport (λ order text. text ≡ statement order) refusal
+Describes file =
+    IsReport (States file) (FirstFault file) (λ order text. text ≡ statement order) refusal

@@ -5,6 +5,8 @@ use Rattle.pairing.specs.Largest.{HasNoPerfect}
 use Rattle.pairing.specs.Optima.{optima, is_in_optimum}
 use Rattle.matching.specs.declared.augmenting.Shortfall.{Shortfall}
 use Rattle.sheet.specs.declared.fault.Cause.TheVariants.{NoPerfectPairing}
+use Rattle.orderfile.specs.Faults.{FirstFault}
+use Rattle.orderfile.specs.Format.{States}
 use Rattle.orderfile.specs.Loading.{stated_cost, stated_grid}
 use Rattle.refusal_words.specs.Refusing.{unmatched_lines}
 use Rattle.refusal_words.specs.Words.{explanation}
@@ -38,4 +40,5 @@ IsMap cost g text = IsMapOver cost g (optima g) text
 
 -- the text is the map of what the file states, or tells its first fault in words
 abbrev pub Draws : (file text : List ℕ) → Type 0
-Draws = IsReport (λ order. IsMap (stated_cost order.pairs) (stated_grid order)) explanation
+Draws file = IsReport (States file) (FirstFault file)
+    (λ order. IsMap (stated_cost order.pairs) (stated_grid order)) explanation

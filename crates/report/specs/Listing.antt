@@ -9,6 +9,8 @@ use Rattle.pairing.specs.Optima.{optima}
 use Rattle.sheet.specs.Numbers.{cause_number}
 use Rattle.sheet.specs.declared.fault.Cause.{Cause}
 use Rattle.sheet.specs.declared.fault.Cause.TheVariants.{NoPerfectPairing}
+use Rattle.orderfile.specs.Faults.{FirstFault}
+use Rattle.orderfile.specs.Format.{States}
 use Rattle.orderfile.specs.Loading.{stated_grid}
 use Rattle.refusal_words.specs.Lines.{pairing_line}
 use Rattle.report.specs.Describing.{IsReport}
@@ -50,5 +52,5 @@ listing_text g = listing_over g (optima g)
 -- the text lists the optimum pairings of the grid that the file states, or tells the cause of its
 -- first fault
 abbrev pub Lists : (file text : List ℕ) → Type 0
-Lists =
-    IsReport (λ order text. text ≡ listing_text (stated_grid order)) (λ f. cause_line f.cause)
+Lists file = IsReport (States file) (FirstFault file)
+    (λ order text. text ≡ listing_text (stated_grid order)) (λ f. cause_line f.cause)

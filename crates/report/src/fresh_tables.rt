@@ -4,6 +4,7 @@ ghost use Rattle.std.specs.Prelude.{IfOk, MatchResult};
 ghost use Rattle.tables.specs.Together.{ArePairTables};
 ghost use Rattle.sheet.specs.Size.{size_of};
 ghost use Rattle.orderfile.specs.Faults.{FirstFault};
+ghost use Rattle.orderfile.specs.Format.{States};
 ghost use Rattle.orderfile.specs.Loading.{plain_kind};
 ghost use Rattle.report.specs.Afresh.{IsLoaded, IsSettledAfresh, HasNoPairing};
 
@@ -32,7 +33,8 @@ pub struct Settlement {
 
 /// Loads a file into fresh tables of the right lengths, or tells its first fault.
 pub fn load_afresh(heap: Global, file: &[u8]) -> Result<Result<LoadedSheet, Fault>, AllocError>
-    ensures { IfOk result (λ answer. MatchResult answer (IsLoaded file.now) (FirstFault file.now)) }
+    ensures { IfOk result
+        (λ answer. MatchResult answer (IsLoaded (States file.now)) (FirstFault file.now)) }
 {
     let size = match check(file) {
         Ok(size) => size,

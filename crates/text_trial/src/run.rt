@@ -23,7 +23,7 @@ enum Program {
 }
 
 /// All causes, in the order of their numbers.
-const CAUSES: [Cause; 11] = [
+const CAUSES: [Cause; 13] = [
     Cause::Size,
     Cause::TableLength,
     Cause::Block,
@@ -35,6 +35,8 @@ const CAUSES: [Cause; 11] = [
     Cause::Tag,
     Cause::FieldLength,
     Cause::ShortBuffer,
+    Cause::Line,
+    Cause::Counts,
 ];
 
 #[derive(Debug, Drop, Error)]

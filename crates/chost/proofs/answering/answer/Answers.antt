@@ -16,11 +16,11 @@ returns-in_err-size c =
     let out = c.args.out.now in
     subst (λ a. AnswersHost c.args.call c.args.file.now out a out) (sym (p.1 ∙ ap Err p.2))
     (answers_faulty c.args.call c.args.file.now out c.check.ensures.verdict f
-    (checked_err c.args.file.now f c.in_err-size.ensures))
+    (checked_err c.in_err-size.ensures))
 
 pub returns-then-out-size : goal.returns-then-out-size
 returns-then-out-size c =
-    let o = checked_ok c.args.file.now c.in_ok-size.size c.in_ok-size.ensures in
+    let o = checked_ok c.in_ok-size.ensures in
     let out = c.args.out.now in
     answers_stated c.args.call c.args.file.now out c.check.ensures.verdict o.0 o.1
     (Err c.at.result) out (
@@ -30,17 +30,16 @@ returns-then-out-size c =
     )
 
 pub answer_for-requires-clause-stated : goal.answer_for-requires-clause-stated
-answer_for-requires-clause-stated c =
-    checked_ok c.args.file.now c.in_ok-size.size c.in_ok-size.ensures
+answer_for-requires-clause-stated c = checked_ok c.in_ok-size.ensures
 
 pub answer_for-requires-clause-few : goal.answer_for-requires-clause-few
 answer_for-requires-clause-few c =
-    let o = checked_ok c.args.file.now c.in_ok-size.size c.in_ok-size.ensures in
+    let o = checked_ok c.in_ok-size.ensures in
     omega (arith, o.2, o.1.fits.few)
 
 pub answer_for-requires-clause-places : goal.answer_for-requires-clause-places
 answer_for-requires-clause-places c =
-    let o = checked_ok c.args.file.now c.in_ok-size.size c.in_ok-size.ensures in
+    let o = checked_ok c.in_ok-size.ensures in
     let n = c.in_ok-size.size in
     let few : n ≤ 64 = omega (arith, o.2, o.1.fits.few) in
     mul-le n n 64 64 few few

@@ -19,8 +19,7 @@ returns-in_err-sheet c =
     let f = c.in_err-sheet.field-0.0 in
     let out = c.args.out.now in
     let file = c.args.file.now in
-    let why = loaded_err file c.args.costs.now c.args.standing.now c.load.new.costs
-    c.load.new.standing f c.in_err-sheet.ensures in
+    let why = loaded_err c.in_err-sheet.ensures in
     subst (λ a. AnswersHost c.args.call file out a out) (sym (p.1 ∙ ap Err p.2)) (⊎_elim
     (λ first. answers_faulty c.args.call file out c.load.ensures.verdict f first)
     (λ unfit. let have = c.requires unfit.0 unfit.1 in
