@@ -1,0 +1,13 @@
+pub mod Arcs
+pub mod Checking
+pub mod Costs
+pub mod Digits
+pub mod Entering
+pub mod Fronts
+pub mod LinesTold
+pub mod Passing
+pub mod Places
+pub mod Reading
+pub mod Runs
+pub mod Spelling
+pub mod Verdicts

@@ -1,0 +1,9 @@
+pub mod Words
+pub mod Statements
+pub mod Taking
+pub mod Lines
+pub mod Reading
+pub mod Readers
+pub mod Texts
+pub mod Progresses
+pub mod Importing
