@@ -33,7 +33,14 @@ impl<W: Write, E: Write> Streams<W, E> {
     pub fn print(&mut self, text: &str) -> io::Result<ExitCode>
         ensures { IfOk result (Prints W.contents E.contents self.old self.new text.now) }
     {
-        self.output.write_all(text.as_bytes())?;
+        self.print_bytes(text.as_bytes())
+    }
+
+    /// Writes bytes that need not be a text to the output, of such a program.
+    pub fn print_bytes(&mut self, bytes: &[u8]) -> io::Result<ExitCode>
+        ensures { IfOk result (Prints W.contents E.contents self.old self.new bytes.now) }
+    {
+        self.output.write_all(bytes)?;
         Ok(ExitCode::SUCCESS)
     }
 

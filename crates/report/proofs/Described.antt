@@ -3,7 +3,7 @@
 -- Idea: a loaded sheet shows the order that the bytes state, cell by cell, so the lines of its
 -- tables are those of the order; and bytes that state an order state no other, and have no fault.
 use Rattle.std.proofs.Common.{◌≡◌, ℕ, ◌<◌, List, ◌++◌, ℤ, IfOk, Some, None, codes, decimal}
-use Rattle.std.proofs.Common.{Option, Result, refl, ap, ◌∙◌, subst}
+use Rattle.std.proofs.Common.{Option, Result, String, string_bytes, refl, ap, ◌∙◌, subst}
 use Rattle.std.proofs.lemmas.Result.{IfOk-weaker}
 use Rattle.std.specs.Option.{option_map}
 use Rattle.cost.specs.declared.plain_kind.Plain.{Plain}
@@ -15,6 +15,7 @@ use Rattle.refusal_words.specs.Lines.{up_to}
 use Rattle.report.specs.Afresh.{IsLoaded}
 use Rattle.report.specs.Describing.{IsReport}
 use Rattle.report.specs.Text.{pair_line, pair_cost, row_lines, all_lines, sheet_text, statement}
+use Rattle.report.specs.Text.{refusal}
 use Rattle.report.specs.declared.fresh_tables.LoadedSheet.{LoadedSheet}
 use Rattle.report.proofs.Lines.{up_same}
 
@@ -86,3 +87,22 @@ statement_loaded {sheet = sheet} loaded =
     (λ r j. ap (pair_line l r) (cost_shown order costs standing loaded.accepted.shows l r i j))) in
     ap (λ k. sheet_text k costs standing) loaded.size
     ∙ ap (λ t. (codes "size " ++ (decimal n ++ codes "\n")) ++ (t ++ codes "end\n")) lines
+
+-- lines of a loaded sheet tell the order, and the line of a fault is the refusal
+module _ {S : StatedOrder → Type 0} {F : Fault → Type 0} (verdict : HasOneVerdict S F)
+    {Z Y : Type 0} (made : Result (String Z) Y) where
+  pub tells_loaded : {sheet : LoadedSheet} (loaded : IsLoaded S sheet)
+      → IfOk made (λ text. string_bytes text
+      ≡ sheet_text (size_of sheet.sheet) sheet.costs.items sheet.standing.items)
+      → IfOk made
+      (λ text. IsReport S F (λ order told. told ≡ statement order) refusal (string_bytes text))
+  tells_loaded {sheet = sheet} loaded =
+      reports_loaded verdict (λ order told. told ≡ statement order) refusal string_bytes made loaded
+      (λ text. text ≡ sheet_text (size_of sheet.sheet) sheet.costs.items sheet.standing.items)
+      (λ text e. e ∙ statement_loaded loaded)
+
+  pub tells_fault : (f : Fault) → F f → IfOk made (λ text. string_bytes text ≡ refusal f)
+      → IfOk made
+      (λ text. IsReport S F (λ order told. told ≡ statement order) refusal (string_bytes text))
+  tells_fault =
+      reports_fault verdict (λ order told. told ≡ statement order) refusal string_bytes made

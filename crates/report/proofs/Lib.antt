@@ -1,8 +1,9 @@
 pub mod Afresh
 pub mod Cutting
 pub mod Described
+pub mod Exported
 pub mod Lines
 pub mod Listed
 pub mod Accepting
 pub mod Drawn
-pub mod Inspecting
+pub mod Asked

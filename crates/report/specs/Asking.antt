@@ -1,8 +1,7 @@
--- The word that asks for a map.
-use Rattle.std.specs.Prelude.{◌≡◌, List, codes, length, slice_get, string_bytes, IfSome}
-use Rattle.std.specs.Prelude.{String}
+-- The word of its own that a program knows beside those for its usage.
+use Rattle.std.specs.Prelude.{◌≡◌, ℕ, List, length, slice_get, string_bytes, IfSome, String}
 
--- the second word is the last, and it is `map`
-abbrev pub AsksMap : {Z : Type 0} → List (String Z) → Type 0
-AsksMap words = (length words ≡ 2)
-    × IfSome (slice_get words 1) (λ word. string_bytes word ≡ codes "map")
+-- the second word is the last, and it is this one
+abbrev pub AsksFor : {Z : Type 0} → (own : List ℕ) → List (String Z) → Type 0
+AsksFor own words = (length words ≡ 2)
+    × IfSome (slice_get words 1) (λ word. string_bytes word ≡ own)

@@ -1,5 +1,6 @@
 pub mod Text
 pub mod Describing
+pub mod Exporting
 pub mod Listing
 pub mod Mapping
 pub mod Asking

@@ -77,7 +77,7 @@ fn push_rows(
 }
 
 /// The text of a sheet: `size N`, a line for each standing pair, `end`.
-fn tell(heap: Global, loaded: &LoadedSheet) -> Result<String, AllocError>
+pub(crate) fn tell(heap: Global, loaded: &LoadedSheet) -> Result<String, AllocError>
     requires { HavePlaces (size_of loaded.now.sheet) (length loaded.now.costs.items)
         (length loaded.now.standing.items) }
     ensures { IfOk result (λ text. string_bytes text ≡ sheet_text (size_of loaded.now.sheet)

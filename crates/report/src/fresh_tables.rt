@@ -1,11 +1,12 @@
-//! A file is loaded into fresh tables, and a sheet settled with fresh tables.
+//! A file or a text is loaded into fresh tables, and a sheet settled with fresh tables.
 
 ghost use Rattle.std.specs.Prelude.{IfOk, MatchResult};
 ghost use Rattle.tables.specs.Together.{ArePairTables};
 ghost use Rattle.sheet.specs.Size.{size_of};
 ghost use Rattle.orderfile.specs.Faults.{FirstFault};
 ghost use Rattle.orderfile.specs.Format.{States};
-ghost use Rattle.orderfile.specs.Loading.{plain_kind};
+ghost use Rattle.orderfile.specs.Loading.{plain_kind, HasOneVerdict};
+ghost use Rattle.dimacs.specs.Texts.{States as TextStates, FirstFault as TextFault};
 ghost use Rattle.report.specs.Afresh.{IsLoaded, IsSettledAfresh, HasNoPairing};
 
 use cost::Plain;
@@ -43,6 +44,28 @@ pub fn load_afresh(heap: Global, file: &[u8]) -> Result<Result<LoadedSheet, Faul
     let mut costs = vec![in heap; Plain(0); places(size)]?;
     let mut standing = vec![in heap; 0u8; places(size)]?;
     match load(file, costs.as_mut_slice(), standing.as_mut_slice()) {
+        Ok(sheet) => Ok(Ok(LoadedSheet {
+            sheet,
+            costs,
+            standing,
+        })),
+        Err(fault) => Ok(Err(fault)),
+    }
+}
+
+/// Imports an assignment text likewise, of which one of the two holds, and never both.
+pub fn import_afresh(heap: Global, text: &[u8]) -> Result<Result<LoadedSheet, Fault>, AllocError>
+    ensures verdict { HasOneVerdict (TextStates text.now) (TextFault text.now) }
+    ensures loaded { IfOk result
+        (λ answer. MatchResult answer (IsLoaded (TextStates text.now)) (TextFault text.now)) }
+{
+    let size = match dimacs::check(text) {
+        Ok(size) => size,
+        Err(fault) => return Ok(Err(fault)),
+    };
+    let mut costs = vec![in heap; Plain(0); places(size)]?;
+    let mut standing = vec![in heap; 0u8; places(size)]?;
+    match dimacs::import(text, costs.as_mut_slice(), standing.as_mut_slice()) {
         Ok(sheet) => Ok(Ok(LoadedSheet {
             sheet,
             costs,

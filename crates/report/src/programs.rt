@@ -43,9 +43,9 @@ pub fn inspect<R: Read + Drop, W: Write, E: Write>(
     ensures { IfOk result (Inspects W.contents E.contents to.old to.new (R.remaining input)
         words.now) }
 {
-    match Form::asked(words) {
+    match Form::asked(words, "map") {
         Some(Form::Lines) => to.print(describe_input(heap, input)?.as_str()),
-        Some(Form::Map) => to.print(draw_input(heap, input)?.as_str()),
+        Some(Form::ByWord) => to.print(draw_input(heap, input)?.as_str()),
         Some(Form::Help) => to.print(INSPECT_USAGE),
         None => to.complain(INSPECT_USAGE, WRONG_USAGE),
     }
