@@ -60,14 +60,16 @@ def first_fault(data):
         at += 3 + length
 
 
-def text(data):
-    verdict = first_fault(data)
-    if len(verdict) == 3:
-        return "refused %d at %d layer %d\n" % verdict
-    n, pairs = verdict
+def sheet_lines(n, pairs):
+    """What is printed of a sheet: of the same pair the last cost counts."""
     cells = {(l, r): c for l, r, c in pairs}
     lines = ["pair %d %d %d\n" % (l, r, cells[l, r]) for l, r in sorted(cells)]
     return "size %d\n" % n + "".join(lines) + "end\n"
+
+
+def text(data):
+    verdict = first_fault(data)
+    return "refused %d at %d layer %d\n" % verdict if len(verdict) == 3 else sheet_lines(*verdict)
 
 
 def damaged():

@@ -1,11 +1,12 @@
 #!/usr/bin/env python3
-"""Makes the files of crates/text_trial: runs of `inspect`, `listing` and `console`, the refusals in
-words, and what each has to print.
+"""Makes the files of crates/text_trial: runs of `inspect`, `listing`, `import` and `console`, the
+refusals in words, and what each has to print.
 
-Run in the repository's root. Answers come from order_files.py, reports.py and consoles.py. Only the
-usage texts are taken from the programs: they are no answers.
+Run in the repository's root. Answers come from order_files.py, reports.py, imports.py and
+consoles.py. Only the usage texts are taken from the programs: they are no answers.
 """
 import consoles
+import imports
 import order_files
 import reports
 
@@ -14,6 +15,7 @@ WRONG_USAGE = "ExitCode(unix_exit_status(2)) after the complaint\n"
 USES = {
     "inspect": ("crates/report/src/programs.rt", "map"),
     "listing": ("crates/report/src/programs.rt", None),
+    "import": ("crates/report/src/import_program.rt", "order"),
     "console": ("crates/console_words/src/program.rt", None),
 }
 
@@ -30,13 +32,14 @@ def usage_runs():
     for program, (_, known) in USES.items():
         for word in ("--help", "-h"):
             yield "%s %s" % (program, word), data, usage(program)
-        for words in ("help", "--help --help", "-h 1", "map", "map map", "--help map", "maps"):
+        for words in ("help", "--help --help", "-h 1", "map", "map map", "--help map", "maps",
+                      "order", "order order", "order -h", "Order"):
             if words != known:
                 yield "%s %s" % (program, words), data, WRONG_USAGE + usage(program)
 
 
 def main():
-    modules = (order_files, reports, consoles)
+    modules = (order_files, reports, imports, consoles)
     runs = [*usage_runs(), *(run for module in modules for run in module.runs())]
     with open("crates/text_trial/stdin", "wb") as out:
         for words, data, _ in runs:

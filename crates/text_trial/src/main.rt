@@ -11,6 +11,18 @@ use run::Run;
 use std::io::Read;
 use std::process::ExitCode;
 
+/// Prints an output; of one that is no text, but an order file, and so has a byte 0, the bytes in
+/// hex.
+fn tell_output(rt: &HostRuntime, output: &[u8]) -> anyhow::Result<()> {
+    if output.contains(&0) {
+        let digits = hex::encode(rt.alloc(), output)?;
+        println!(rt; "{digits}")?;
+    } else {
+        rt.write_all(output)?;
+    }
+    Ok(())
+}
+
 /// Makes a run, and prints its command and its output; and if it does not end well, how it ends and
 /// what it complains of.
 fn tell(rt: &HostRuntime, run: &Run) -> anyhow::Result<()> {
@@ -21,7 +33,7 @@ fn tell(rt: &HostRuntime, run: &Run) -> anyhow::Result<()> {
     let code = run.make(rt.alloc(), &mut to)?;
     let command = &run.command;
     println!(rt; "$ {command}")?;
-    rt.write_all(&to.output)?;
+    tell_output(rt, &to.output)?;
     if code != ExitCode::SUCCESS || !to.errors.is_empty() {
         println!(rt; "{code:?} after the complaint")?;
         rt.write_all(&to.errors)?;

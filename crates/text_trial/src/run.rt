@@ -4,7 +4,7 @@ use anyhow::Context;
 use command::Streams;
 use console_words::talk;
 use refusal_words::explain;
-use report::{inspect, listing};
+use report::{import, inspect, listing};
 use sheet::Cause;
 use std::alloc::{AllocError, Global};
 use std::io::{BufRead, Read};
@@ -17,6 +17,7 @@ use thiserror::Error;
 enum Program {
     Inspect,
     Listing,
+    Import,
     Console,
     /// No program, but every refusal in words.
     Refusals,
@@ -50,6 +51,7 @@ impl FromStr for Program {
         match name {
             "inspect" => Ok(Program::Inspect),
             "listing" => Ok(Program::Listing),
+            "import" => Ok(Program::Import),
             "console" => Ok(Program::Console),
             "refusals" => Ok(Program::Refusals),
             _ => Err(NoProgram),
@@ -115,6 +117,7 @@ impl Run {
         Ok(match self.program {
             Program::Inspect => inspect(heap, &words, input, to)?,
             Program::Listing => listing(heap, &words, input, to)?,
+            Program::Import => import(heap, &words, input, to)?,
             Program::Console => talk(heap, &words, input, to)?,
             Program::Refusals => explain_all(heap, &mut to.output)?,
         })
