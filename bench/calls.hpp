@@ -28,6 +28,9 @@ uint32_t bench_open(uint16_t n, int64_t *costs, size_t costs_length, uint8_t *st
 uint32_t bench_save(uint16_t n, int64_t *opened_costs, size_t opened_costs_length,
                     uint8_t *opened_standing, size_t opened_standing_length, PAIR_TABLES(int64_t),
                     uint8_t *out, size_t out_length);
+uint32_t bench_dimacs_check(const uint8_t *text, size_t text_length);
+uint32_t bench_dimacs_import(const uint8_t *text, size_t text_length, int64_t *costs,
+                             size_t costs_length, uint8_t *standing, size_t standing_length);
 }
 
 #undef PAIR_TABLES

@@ -1,9 +1,10 @@
 // Makes the calls on one suite after the other, as lines on its input tell it, and says on its
 // output how long they took; bench/report.py drives it, so that other programs can take turns.
 //
-//     suite NAME N COUNT PATH    makes a suite: so many sheets of a class, or order files, or the
-//                                walk without costs; compares the results and writes the sheets to
-//                                PATH; says `ready TOTAL`, or what is wrong, and then ends
+//     suite NAME N COUNT PATH    makes a suite: so many sheets of a class, or order files, or an
+//                                assignment text, or the walk without costs; compares the results
+//                                and writes the sheets to PATH; says `ready TOTAL`, or what is
+//                                wrong, and then ends
 //     round NAME N               makes all calls once; a line `NAME MICROSECONDS` for each
 //                                contender tells what a call took at least so far, then `done`
 //     count NAME N               makes all calls once for callgrind, a dump for each contender
@@ -31,6 +32,7 @@ namespace {
 
 Suite make_suite(const std::string &name, int n, int count, const std::string &path) {
     if (name == "file") return file_suite();
+    if (name == "text") return text_suite();
     if (name == "free") return free_suite();
     return n == 64 ? class_suite<64>(name, count, path) : class_suite<16>(name, count, path);
 }

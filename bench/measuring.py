@@ -88,8 +88,16 @@ class Scipy:
 
 
 def suites():
-    return [(name, n) for name in CLASSES for n in (LARGE, SMALL)] + [("file", LARGE),
-                                                                      ("free", LARGE)]
+    others = [("file", LARGE), ("text", LARGE), ("free", LARGE)]
+    return [(name, n) for name in CLASSES for n in (LARGE, SMALL)] + others
+
+
+def text_length(command, folder):
+    """The length of the assignment text that is read."""
+    program = Program(command, folder)
+    length = program.suite("text", LARGE, 1)
+    program.end()
+    return length
 
 
 def times(programs, folder, rounds, sheets):

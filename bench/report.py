@@ -26,7 +26,7 @@ PAGE, CHART, BEFORE = "docs/benchmarks.md", "docs/benchmarks.svg", "bench/before
 
 # The most that a ratio to the C++ job may be.
 SETTLE_AIMS = {"random": 1.2, "equal": 1.5, "near": 1.5, "products": 1.0, "lateral": 1.0}
-RATIO_AIMS = {"next": 0.9, "marks": 0.9, "load": 1.0, "save": 1.1}
+RATIO_AIMS = {"next": 0.9, "marks": 0.9, "load": 1.0, "save": 1.1, "check": 1.2, "import": 1.2}
 TWO_STEP_AIM = 1.6
 # What the exponent of growth has to stay below.
 GROWTH_AIMS = {"settle": 2.8, "next": 2.0, "marks": 2.0}
@@ -134,7 +134,8 @@ def count_text(value):
 def calls():
     """Each row of the tables: a call, its class of sheets, and the name of that class."""
     rows = [(call, name, title) for call in CALLS for name, title in CLASSES.items()]
-    return rows + [(call, "file", "largest order file") for call in ("load", "save")]
+    rows += [(call, "file", "largest order file") for call in ("load", "save")]
+    return rows + [(call, "text", "text of 4,096 arcs") for call in ("check", "import")]
 
 
 def ratio_text(value):
@@ -160,7 +161,7 @@ def row(now, judge, call, name, title):
         judge.show(BESIDE_CPP, where, now.ratio(name, call), aim),
         "" if aim is None else "%.1f" % aim,
     ]
-    if name == "file":
+    if name not in CLASSES:
         cells += [""] * 4
     else:
         cells += [
@@ -201,6 +202,14 @@ def other_aims(now, judge):
         "- a step of the walk without costs to the same: %s (at most %.2f)"
         % (judge.show(FREE, "", now.time("free", "next") / plain, FREE_AIM, "%.4f"), FREE_AIM),
     ])
+
+
+def speeds(now, text_length):
+    """How fast the text is read."""
+    told = ["`%s` %s MB/s, in C++ %s" % (call, *(
+        count_text(divided(text_length, now.time("text", name))) for name in (call, call + ".cpp")))
+            for call in ("check", "import")]
+    return "- the text has %s bytes: %s" % (count_text(text_length), "; ".join(told))
 
 
 def span(ratios):
@@ -245,12 +254,13 @@ def wrapped(text, width=100):
     return "\n".join(lines)
 
 
-def page_parts(now, before):
+def page_parts(now, before, text_length):
     """The parts of the page that tell numbers, each by its mark, and the judge of the aims."""
     judge = Judge()
     table = markdown(list(COLUMNS), [row(now, judge, *call) for call in calls()])
-    table += "\n\n" + other_aims(now, judge)
-    earlier = markdown(list(BEFORE_COLUMNS), [row_before(now, before, *call) for call in calls()])
+    table += "\n\n" + other_aims(now, judge) + "\n" + speeds(now, text_length)
+    known = [call for call in calls() if before.time(call[1], call[0])]
+    earlier = markdown(list(BEFORE_COLUMNS), [row_before(now, before, *call) for call in known])
     return {"standing": standing_text(now, judge), "slower": wrapped(slower_text(now)),
             "table": table, "before": earlier}, judge
 
@@ -288,7 +298,8 @@ def main():
     counts = measuring.instructions(programs[:1], chosen.folder) if shutil.which("valgrind") else {}
     now, before = Numbers(times, counts), Numbers.read(BEFORE)
     now.write(os.path.join(chosen.folder, "numbers.tsv"))
-    parts, judge = page_parts(now, before)
+    text_length = measuring.text_length(programs[:1], chosen.folder)
+    parts, judge = page_parts(now, before, text_length)
     with open(os.path.join(chosen.folder, "table.md"), "w") as file:
         file.write(parts["table"] + "\n")
     draw(now)

@@ -1,6 +1,7 @@
 // What is measured together: a suite is a list of contenders over the same sheets, whose results
 // were compared.
 #pragma once
+#include "dimacs_text.hpp"
 #include "lemon.hpp"
 #include "order_file.hpp"
 #include "tables.hpp"
@@ -21,7 +22,8 @@ struct Contender {
     std::vector<int> calls = std::vector<int>(parts);
 };
 
-// `wrong` says what differs, if anything does; `total` is the sum of the least totals.
+// `wrong` says what differs, if anything does; `total` is the sum of the least totals, or of a text
+// its length.
 struct Suite {
     std::vector<Contender> contenders;
     std::string wrong;
@@ -204,6 +206,70 @@ inline Suite file_suite() {
         repeated("open", [=] { return files->open(); }),
         repeated("save", [=] { return files->save(); }),
         repeated("save.cpp", [=] { return files->save_twin(files->out); }),
+    };
+    return suite;
+}
+
+// An assignment text of the most pairs, at costs up to 1,000,000, and the tables that calls write.
+struct Text {
+    static constexpr int N = 64, PLACES = N * N;
+    sheets::Random random{1};
+    sheets::Sheet sheet =
+        sheets::full(N, [this](int, int) { return int64_t(random() % 1000000) + 1; });
+    std::vector<int64_t> costs = std::vector<int64_t>(PLACES);
+    std::vector<uint8_t> standing = std::vector<uint8_t>(PLACES);
+    std::string text = "p asn " + std::to_string(2 * N) + ' ' + std::to_string(PLACES) + '\n';
+
+    Text() {
+        for (int i = 1; i <= N; ++i) text += "n " + std::to_string(i) + '\n';
+        for (int k = 0; k < PLACES; ++k)
+            text += "a " + std::to_string(k / N + 1) + ' ' + std::to_string(N + k % N + 1) + ' ' +
+                    std::to_string(sheet.costs[k]) + '\n';
+    }
+    const uint8_t *bytes() const { return reinterpret_cast<const uint8_t *>(text.data()); }
+    uint32_t check() const { return bench_dimacs_check(bytes(), text.size()); }
+    uint32_t check_twin() const {
+        int n;
+        return dimacs_text::check(bytes(), text.size(), n).refusal;
+    }
+    uint32_t import() {
+        return bench_dimacs_import(bytes(), text.size(), costs.data(), PLACES, standing.data(),
+                                   PLACES);
+    }
+    uint32_t import_twin() {
+        return dimacs_text::import(bytes(), text.size(), costs.data(), PLACES, standing.data(),
+                                   PLACES)
+            .refusal;
+    }
+    bool imported() const { return costs == sheet.costs && standing == sheet.standing; }
+
+    // Whether both refuse alike where a byte is changed, here and there.
+    bool same_refusals() {
+        for (size_t at = 0; at < text.size(); at += 499)
+            for (char other : {' ', '9', '\n', '-'}) {
+                std::swap(text[at], other);
+                bool same = check() == check_twin();
+                std::swap(text[at], other);
+                if (!same) return false;
+            }
+        return true;
+    }
+};
+
+inline Suite text_suite() {
+    auto text = std::make_shared<Text>();
+    Suite suite;
+    suite.total = text->text.size();
+    if (text->check() != 0 || text->check_twin() != 0) suite.wrong = "the checked text";
+    if (!text->same_refusals()) suite.wrong = "refusals of a text";
+    if (text->import_twin() != 0 || !text->imported()) suite.wrong = "the text imported in C++";
+    std::fill(text->costs.begin(), text->costs.end(), 1);
+    if (text->import() != 0 || !text->imported()) suite.wrong = "the imported text";
+    suite.contenders = {
+        repeated("check", [=] { return text->check(); }),
+        repeated("check.cpp", [=] { return text->check_twin(); }),
+        repeated("import", [=] { return text->import(); }),
+        repeated("import.cpp", [=] { return text->import_twin(); }),
     };
     return suite;
 }

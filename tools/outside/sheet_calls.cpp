@@ -1,6 +1,7 @@
-// Makes the twelve calls of bench/calls.hpp on tables of just the lengths that are stated, over the
-// classes of bench/sheets.hpp, and tests what they answer and write: settled prices have to prove
-// the pairing optimum, a refused call has to leave all tables, a saved file has to load again.
+// Makes the calls of bench/calls.hpp but those on texts, on tables of just the lengths that are
+// stated, over the classes of bench/sheets.hpp, and tests what they answer and write: settled
+// prices have to prove the pairing optimum, a refused call has to leave all tables, a saved file
+// has to load again.
 //
 //     sheet_calls heap|fences few|many
 //
@@ -9,12 +10,11 @@
 // status is then 1. An access beyond a table is for the tools to see; see buffers.h.
 #include "../../bench/calls.hpp"
 #include "../../bench/sheets.hpp"
-#include "buffers.h"
-#include <cstdio>
-#include <cstring>
-#include <map>
+#include "lent.hpp"
 
 namespace {
+
+using namespace lent;
 
 enum Answer : uint32_t { DONE = 0, REFUSED = 1, TABLE_LENGTH = 2, SHORT_BUFFER = 11, END = 100 };
 
@@ -23,43 +23,7 @@ const char *const CLASSES[] = {"random", "equal", "near", "sparse", "one-cheap",
                                "products", "reversed", "squares", "hessenberg", "cycle", "upper",
                                "tight-upper"};
 
-placing where;
-std::string at_work;
-std::map<uint32_t, long> answers;
-long sheets_tried, errors;
-
-void want(bool held, const char *what) {
-    if (held) return;
-    std::printf("wrong: %s: %s\n", at_work.c_str(), what);
-    ++errors;
-}
-
-uint32_t counted(uint32_t answer) {
-    ++answers[answer];
-    return answer;
-}
-
-// A table in a buffer of just its length, while a call is made; what is written goes back into it.
-template <class T> class Exact {
-  public:
-    explicit Exact(std::vector<T> &table) : table(table), size(table.size()) {
-        held = make_buffer(where, size * sizeof(T));
-        if (size) std::memcpy(held.bytes, table.data(), held.length);
-    }
-    Exact(const Exact &) = delete;
-    ~Exact() {
-        if (size) std::memcpy(table.data(), held.bytes, held.length);
-        free_buffer(&held);
-    }
-    T *data() const { return reinterpret_cast<T *>(held.bytes); }
-
-  private:
-    std::vector<T> &table;
-    buffer held;
-
-  public:
-    const size_t size;
-};
+long sheets_tried;
 
 template <class T> bool same(const std::vector<T> &some, const std::vector<T> &other) {
     return some.size() == other.size() &&
@@ -308,9 +272,7 @@ void try_size(int n) {
 int main(int count, char **words) {
     if (count != 3) return 2;
     const bool many = words[2] == std::string("many");
-    std::vector<placing> places = {ON_HEAP};
-    if (words[1] == std::string("fences")) places = {BEFORE_FENCE, BEHIND_FENCE};
-    for (placing place : places) {
+    for (placing place : places_of(words[1])) {
         where = place;
         try_nothing<int64_t>(bench_optimum);
         try_nothing<int64_t>(bench_settle);
@@ -318,10 +280,6 @@ int main(int count, char **words) {
         for (int n = 1; n <= 64; ++n)
             if (many || n <= 8 || n % 16 == 15 || n % 16 <= 1) try_size(n);
     }
-    long calls = 0;
-    for (auto [answer, times] : answers) calls += times;
-    std::printf("sheets: %ld\ncalls: %ld; by answer", sheets_tried, calls);
-    for (auto [answer, times] : answers) std::printf(" %u: %ld", answer, times);
-    std::printf("\nerrors: %ld\n", errors);
-    return errors != 0;
+    std::printf("sheets: %ld\n", sheets_tried);
+    return tell_calls();
 }

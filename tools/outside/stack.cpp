@@ -257,6 +257,47 @@ void files_and_tables(const sheets::Sheet &sheet) {
             sheet.standing.data(), standing.size(), file.data(), file.size());
 }
 
+// ---- The calls on texts
+
+// The assignment text of a sheet, behind a comment.
+std::string text_of(const sheets::Sheet &sheet) {
+    const int n = sheet.n;
+    const auto pairs = std::count(sheet.standing.begin(), sheet.standing.end(), 1);
+    std::string text = "c a sheet\np asn " + std::to_string(2 * n) + ' ';
+    text += std::to_string(pairs) + '\n';
+    for (int i = 1; i <= n; ++i) text += "n " + std::to_string(i) + '\n';
+    for (int k = 0; k < n * n; ++k)
+        if (sheet.standing[k])
+            text += "a " + std::to_string(k / n + 1) + ' ' + std::to_string(n + k % n + 1) + ' ' +
+                    std::to_string(sheet.costs[k]) + '\n';
+    return text;
+}
+
+uint32_t measure_text(const std::string &text, int n) {
+    Bytes bytes(text.begin(), text.end()), standing(n * n);
+    std::vector<int64_t> costs(n * n);
+    const uint32_t checked = measure("`check` of a text", bench_dimacs_check, NO_RESET,
+                                     bytes.data(), bytes.size());
+    const uint32_t imported = measure("`import`", bench_dimacs_import, NO_RESET, bytes.data(),
+                                      bytes.size(), costs.data(), costs.size(), standing.data(),
+                                      standing.size());
+    must(checked == imported, "a text is not imported as it is checked");
+    return checked;
+}
+
+// Texts that are cut, or have a sign or many digits put in: at the start, and at the start and
+// behind the first word of the problem line, the first node line and the last arc.
+void damaged_texts(const sheets::Sheet &sheet) {
+    const std::string sound = text_of(sheet), digits(30, '9');
+    const size_t problem = sound.find("\np") + 1, node = sound.find("\nn") + 1;
+    const size_t arc = sound.rfind("\na") + 1;
+    for (size_t at : {size_t(0), problem, problem + 2, node, node + 2, arc, arc + 2}) {
+        const std::string front = sound.substr(0, at), rest = sound.substr(at);
+        for (const std::string &text : {front, front + '-' + rest, front + digits + rest})
+            must(measure_text(text, sheet.n) != 0, "a damaged text is imported");
+    }
+}
+
 // ---- The sheets
 
 void measure_sheet(const sheets::Sheet &sheet) {
@@ -265,12 +306,14 @@ void measure_sheet(const sheets::Sheet &sheet) {
     settle_and_walk<Two>(sheet, "two-step", bench_two_settle);
     walk_of_rows(sheet);
     files_and_tables(sheet);
+    must(measure_text(text_of(sheet), sheet.n) == 0, "a sound text is refused");
 }
 
-// The same with a standing byte that says nothing, and the files with a fault.
+// The same with a standing byte that says nothing, and files and texts with a fault.
 void measure_damaged(sheets::Sheet sheet) {
     column = "damaged";
     damaged_files(sheet);
+    damaged_texts(sheet);
     sheet.standing.back() = 2;
     settle_and_walk<int64_t>(sheet, "plain", bench_settle);
     settle_and_walk<Two>(sheet, "two-step", bench_two_settle);

@@ -1,10 +1,10 @@
 //! Calls for C, for the benchmarks in bench/: the walk through the perfect pairings, where a row is
 //! a 64-bit number, bit r for right block r; settling, a step of the walk and the marks of a sheet,
 //! at plain costs and at two-step ones, with as many blocks a plane as there are places for
-//! partners; and the order file of a sheet.
+//! partners; the order file of a sheet; and the assignment text of one.
 #![tactic(auto)]
 
-ghost use Rattle.std.specs.Prelude.{◌≡◌, ◌⊎◌, length, Result};
+ghost use Rattle.std.specs.Prelude.{◌≡◌, ◌⊎◌, ℕ, length, Result};
 ghost use Rattle.pairing.specs.Rows.{pairings};
 ghost use Rattle.matching.specs.declared.stepping.Step.{Step};
 ghost use Rattle.matching.specs.declared.fitting.Unfit.{Unfit};
@@ -20,7 +20,8 @@ ghost use Rattle.sheet.specs.Size.{Sheet};
 ghost use Rattle.sheet.specs.declared.fault.Fault.{Fault};
 ghost use Rattle.orderfile.specs.Faults.{FirstFault};
 ghost use Rattle.orderfile.specs.Format.{States};
-ghost use Rattle.orderfile.specs.Loading.{Loads};
+ghost use Rattle.orderfile.specs.Loading.{IsChecked, Loads};
+ghost use Rattle.dimacs.specs.Texts.{States as TextStates, FirstFault as TextFault};
 ghost use Rattle.bench_calls.specs.Codes.{outcome_code, fault_number};
 ghost use Rattle.bench_calls.specs.Calls.{SettlesTables, Steps, Marks, Saves};
 
@@ -31,6 +32,7 @@ use assign::optimum;
 use blockset::BlockSet;
 use calls::{code, fault_number, marks_number, settle_number, step_number};
 use cost::{Cost, Plain};
+use dimacs::{check, import};
 use matching::first;
 use orderfile::loading::load;
 use orderfile::saving::save;
@@ -237,4 +239,24 @@ pub extern "C" fn bench_save(
         Ok(sheet) => fault_number(save(&sheet, costs, standing, out)),
         Err(fault) => u32::from(fault.cause.number()),
     }
+}
+
+/// 0 where an assignment text states a sheet, else the number of its first fault.
+#[unsafe(no_mangle)]
+pub extern "C" fn bench_dimacs_check(text: &[u8]) -> u32
+    ensures { (r : Result ℕ Fault) × (result ≡ fault_number r)
+        × IsChecked (TextStates text.now) (TextFault text.now) r }
+{
+    fault_number(check(text))
+}
+
+/// 0 where the tables now hold the sheet that an assignment text states, else the number of the
+/// refusal: then they are as they were.
+#[unsafe(no_mangle)]
+pub extern "C" fn bench_dimacs_import(text: &[u8], costs: &mut [Plain], standing: &mut [u8]) -> u32
+    ensures { (r : Result Sheet Fault) × (result ≡ fault_number r)
+        × Loads (TextStates text.now) (TextFault text.now) costs.old standing.old r costs.new
+        standing.new }
+{
+    fault_number(import(text, costs, standing))
 }
