@@ -7,7 +7,8 @@ Before a sheet is open:
   columns 2          a cost is two numbers; the second decides where the first are equal
   size N             open a sheet of N left and N right blocks, from 1 to 64
 On an open sheet:
-  enter L R COST     the pair stands at this cost (with two columns: enter L R COST COST)
+  enter L R COST     a reading of the pair, which then stands at its greatest since it was
+                     struck (with two columns: enter L R COST COST)
   strike L R         the pair is absent
   read L R           the cost of the pair
   settle             find a pairing of least cost, and prices

@@ -2,3 +2,4 @@ pub mod Append
 pub mod Exact
 pub mod Order
 pub mod Weights
+pub mod Readings

@@ -1,4 +1,5 @@
 pub mod Columns
 pub mod Laws
 pub mod Kind
+pub mod Readings
 pub mod Weights

@@ -4,7 +4,8 @@
 -- reader hands out is the one that leads on: an arc is one that a sheet takes, and once its pair
 -- was entered, the tables are again those after the pairs that came.
 use Rattle.std.proofs.Common.{◌≡◌, ◌≢◌, ℕ, zero, suc, List, [], ◌∷◌, ◌++◌, drop}
-use Rattle.std.proofs.Common.{w64, to_z, of_z, refl, sym, ap, ◌∙◌, subst, arith, unsigned_abs, ◌≤◌}
+use Rattle.std.proofs.Common.{w64, to_z, of_z, refl, sym, ap, ap₂, ◌∙◌, subst, arith, unsigned_abs}
+use Rattle.std.proofs.Common.{◌≤◌}
 use Rattle.std.proofs.lemmas.Int.{to_z-of_z}
 use Rattle.blockset.specs.declared.TheConstants.{MOST_BLOCKS}
 use Rattle.cost.specs.declared.TheConstants.{COST_LIMIT}
@@ -38,7 +39,7 @@ module _ {text : List ℕ} {order : StatedOrder} (s : States text order) {n : �
     pub lines : ℕ
     pub stage : Stage
     pub leads : Leads lines (point_at text at stage) s.point
-    pub costs_are : costs ≡ costs_after n (pairs_by stage) costs₀
+    pub costs_are : costs ≡ costs_after n (pairs_by stage) costs₀ standing₀
     pub standing_are : standing ≡ standing_after n (pairs_by stage) standing₀
 
   pub ahead_first : IsAhead 0 costs₀ standing₀
@@ -113,19 +114,20 @@ module _ {text : List ℕ} {order : StatedOrder} (s : States text order) {n : �
     pub within : unsigned_abs cost.value ≤ COST_LIMIT
     pub same : to_z w64 (of_z w64 cost.value) ≡ cost.value
     pub enters : IsAhead at'
-        (costs_after n (pair_of n left.value right.value cost.value ∷ []) costs)
+        (costs_after n (pair_of n left.value right.value cost.value ∷ []) costs standing)
         (standing_after n (pair_of n left.value right.value cost.value ∷ []) standing)
 
   module _ {at : ℕ} {costs : List Plain} {standing : List ℕ}
       (ahead : IsAhead at costs standing) where
     -- where the text ends, all pairs were entered
-    pub all_entered : drop at text ≡ [] → (costs ≡ costs_after order.size order.pairs costs₀)
+    pub all_entered : drop at text ≡ []
+        → (costs ≡ costs_after order.size order.pairs costs₀ standing₀)
         × (standing ≡ standing_after order.size order.pairs standing₀)
     all_entered none =
         let last = last_stage ahead.lines at ahead.stage ahead.leads none in
         let all : pairs_by ahead.stage ≡ order.pairs = ap pairs_by last ∙ sym s.pairs_are in (
-          ahead.costs_are ∙ ap (λ ps. costs_after n ps costs₀) all
-              ∙ ap (λ k. costs_after k order.pairs costs₀) (sym size),
+          ahead.costs_are ∙ ap (λ ps. costs_after n ps costs₀ standing₀) all
+              ∙ ap (λ k. costs_after k order.pairs costs₀ standing₀) (sym size),
           ahead.standing_are ∙ ap (λ ps. standing_after n ps standing₀) all
               ∙ ap (λ k. standing_after k order.pairs standing₀) (sym size),
         )
@@ -165,14 +167,14 @@ module _ {text : List ℕ} {order : StatedOrder} (s : States text order) {n : �
         let pair : StatedPair = pair_of n an.from an.to an.price in
         let adds : pairs_by (stage_after ahead.stage at st) ≡ pairs_by ahead.stage ++ pair ∷ [] =
         an.adds ∙ ap (λ k. pairs_by ahead.stage ++ pair_of k an.from an.to an.price ∷ []) there in
-        let enters : IsAhead at' (costs_after n (pair ∷ []) costs)
+        let enters : IsAhead at' (costs_after n (pair ∷ []) costs standing)
         (standing_after n (pair ∷ []) standing) = record {
           lines = on.lines;
           stage = stage_after ahead.stage at st;
           leads = on.leads;
-          costs_are = ap (costs_after n (pair ∷ [])) ahead.costs_are
-              ∙ sym (costs_append n (pairs_by ahead.stage) (pair ∷ []) costs₀)
-              ∙ ap (λ ps. costs_after n ps costs₀) (sym adds);
+          costs_are = ap₂ (costs_after n (pair ∷ [])) ahead.costs_are ahead.standing_are
+              ∙ sym (costs_append n (pairs_by ahead.stage) (pair ∷ []) costs₀ standing₀)
+              ∙ ap (λ ps. costs_after n ps costs₀ standing₀) (sym adds);
           standing_are = ap (standing_after n (pair ∷ [])) ahead.standing_are
               ∙ sym (standing_append n (pairs_by ahead.stage) (pair ∷ []) standing₀)
               ∙ ap (λ ps. standing_after n ps standing₀) (sym adds);

@@ -29,7 +29,7 @@ pub fn check(text: &[u8]) -> Result<u16, Fault>
 }
 
 /// Imports the sheet that a text states into the caller's tables: as `open` and one `enter` for
-/// each arc in turn leave them.
+/// each arc in turn leave them. Of a pair that has several arcs the greatest cost stands.
 ///
 /// The whole text is read before anything is written. Refused: the first fault of the text, and
 /// then tables that do not have n * n places, for the n blocks a plane that the text states.
@@ -49,7 +49,7 @@ fn enter_all(n: u16, text: &[u8], costs: &mut [Plain], standing: &mut [u8])
     requires stated { (order : StatedOrder) × States text.now order × (order.size ≡ n) }
     requires places { HavePlaces n (length costs.old) (length standing.old) }
     ensures { (order : StatedOrder) → States text.now order
-        → (costs.new ≡ costs_after order.size order.pairs costs.old)
+        → (costs.new ≡ costs_after order.size order.pairs costs.old standing.old)
         × (standing.new ≡ standing_after order.size order.pairs standing.old) }
 {
     let mut lines = LineReader::new(text);
@@ -66,7 +66,8 @@ fn enter_arc(n: u16, costs: &mut [Plain], standing: &mut [u8], left: u64, right:
     requires places { HavePlaces n (length costs.old) (length standing.old) }
     requires nodes { AreNodes n left right }
     requires within { unsigned_abs cost ≤ COST_LIMIT }
-    ensures costs { costs.new ≡ costs_after n (pair_of n left right cost ∷ []) costs.old }
+    ensures costs { costs.new
+        ≡ costs_after n (pair_of n left right cost ∷ []) costs.old standing.old }
     ensures standing { standing.new
         ≡ standing_after n (pair_of n left right cost ∷ []) standing.old }
 {

@@ -3,14 +3,12 @@
 -- Idea: bytes have one verdict, so what holds of the verdict that was found holds of every verdict
 -- that the promise asks about.
 use Rattle.std.proofs.Common.{◌≡◌, ℕ, List, length, pos, Ok, Err, Result}
-use Rattle.std.proofs.Common.{sym, refl, ap, ◌∙◌, subst, ⊎_elim, arith}
-use Rattle.std.proofs.lemmas.List.{length-replicate}
+use Rattle.std.proofs.Common.{sym, refl, ap, ap₂, ◌∙◌, subst, ⊎_elim, arith}
 use Rattle.cost.specs.declared.plain_kind.Plain.{Plain}
 use Rattle.sheet.specs.declared.fault.Cause.TheVariants.{TableLength}
 use Rattle.sheet.specs.declared.fault.Fault.{Fault}
 use Rattle.tables.specs.PairTables.{HavePlaces, costs_opened, standing_opened}
 use Rattle.tables.specs.Together.{ArePairTables}
-use Rattle.pairing.specs.Places.{places_of}
 use Rattle.sheet.specs.Opening.{open_needs, OpensSheet}
 use Rattle.sheet.specs.Pairs.{PairTablesAre}
 use Rattle.sheet.specs.Size.{Sheet, IsSize, sheet_of, size_of}
@@ -19,7 +17,7 @@ use Rattle.sheet.proofs.Needs.{met_or_not}
 use Rattle.orderfile.specs.Format.{StatedOrder, FitsSheet}
 use Rattle.orderfile.specs.Loading.{plain, plain_kind, costs_after, standing_after, ShowsOrder}
 use Rattle.orderfile.specs.Loading.{HasOneVerdict, IsChecked, LoadsOrder, Loads}
-use Rattle.orderfile.proofs.Cells.{shows_order}
+use Rattle.orderfile.proofs.Cells.{shows_order, blank_places}
 use Rattle.orderfile.proofs.Grids.{same_grid, entered_tables}
 
 -- ---- Checking
@@ -76,10 +74,7 @@ module _ {n : ℕ} (size : IsSize n) {costs : List Plain} {standing : List ℕ} 
 pub blank_have : {n : ℕ} {costs : List Plain} {standing : List ℕ}
     → PairTablesAre (costs_opened (plain (pos 0)) n) (standing_opened n) costs standing
     → HavePlaces n (length costs) (length standing)
-blank_have {n = n} blank = record {
-  costs = ap length blank.costs_are ∙ length-replicate (places_of n) (plain (pos 0));
-  standing = ap length blank.standing_are ∙ length-replicate (places_of n) 0;
-}
+blank_have {n = n} blank = rw (blank.costs_are, blank.standing_are) (blank_places n)
 
 -- ---- Loading: checking, then opening a sheet of the size, then entering the pairs
 
@@ -150,17 +145,19 @@ module _ {S : StatedOrder → Type 0} {F : Fault → Type 0}
     -- a sheet was opened, and the pairs were entered into its tables
     pub loaded : {sheet : Sheet} {costs' costs'' : List Plain} {standing' standing'' : List ℕ}
         → OpensSheet (plain (pos 0)) n costs standing (Ok sheet) costs' standing'
-        → ((o : StatedOrder) → S o → (costs'' ≡ costs_after o.size o.pairs costs')
+        → ((o : StatedOrder) → S o → (costs'' ≡ costs_after o.size o.pairs costs' standing')
         × (standing'' ≡ standing_after o.size o.pairs standing'))
         → Loads S F costs standing (Ok sheet) costs'' standing''
     loaded {sheet = sheet} {costs'' = costs''} {standing'' = standing''} h entered =
         let done = entered order found.1 in
         let blank : ℕ → List Plain = costs_opened (plain (pos 0)) in
-        let ec : costs'' ≡ costs_after order.size order.pairs (blank order.size) =
-        done.0 ∙ ap (costs_after order.size order.pairs) (h.1.1.costs_are ∙ ap blank (sym size)) in
+        let blank_costs = h.1.1.costs_are ∙ ap blank (sym size) in
+        let blank_standing = h.1.1.standing_are ∙ ap standing_opened (sym size) in
+        let ec : costs'' ≡ costs_after order.size order.pairs (blank order.size)
+        (standing_opened order.size) =
+        done.0 ∙ ap₂ (costs_after order.size order.pairs) blank_costs blank_standing in
         let es : standing'' ≡ standing_after order.size order.pairs (standing_opened order.size) =
-        done.1 ∙ ap (standing_after order.size order.pairs)
-        (h.1.1.standing_are ∙ ap standing_opened (sym size)) in
+        done.1 ∙ ap (standing_after order.size order.pairs) blank_standing in
         let shown : ShowsOrder order costs'' standing'' =
         rw (ec, es) (shows_order order sound.pairs_fit) in
         let tables : ArePairTables plain_kind order.size costs'' standing'' =

@@ -4,7 +4,7 @@
 -- it was written for, and each step takes one pair over from those to come to those that came.
 use Rattle.std.proofs.Common.{◌≡◌, ℕ, List, Option, Result, [], ◌∷◌, ◌++◌, drop, Some, None}
 use Rattle.std.proofs.Common.{Err, sym}
-use Rattle.std.proofs.Common.{refl, ap, ◌∙◌, subst, append_assoc}
+use Rattle.std.proofs.Common.{refl, ap, ap₂, ◌∙◌, subst, append_assoc}
 use Rattle.std.proofs.lemmas.List.{append-nil}
 use Rattle.std.specs.List.{flat_map, AllByRecursion}
 use Rattle.cost.specs.declared.plain_kind.Plain.{Plain}
@@ -21,17 +21,20 @@ use Rattle.orderfile.specs.Format.{StatedOrder, FitsSheet, PairFits, pair_field,
 use Rattle.orderfile.specs.Format.{pair_in, value_of}
 use Rattle.orderfile.specs.Faults.{field_fault}
 use Rattle.orderfile.specs.Records.{StepsFrom, next_record, stage_next, record_length}
-use Rattle.orderfile.specs.Loading.{plain, costs_after, standing_after}
+use Rattle.orderfile.specs.Loading.{plain, plain_kind, costs_after, standing_after}
 use Rattle.orderfile.proofs.Reading.{HasPassed}
 use Rattle.orderfile.proofs.Fields.{size_sound, pair_sound, pair_stated, end_sound}
 use Rattle.std.proofs.Common.{slice_set}
 
 -- entering some pairs and then others
-pub costs_append : (n : ℕ) (ps qs : List StatedPair) (costs : List Plain)
-    → costs_after n (ps ++ qs) costs ≡ costs_after n qs (costs_after n ps costs)
-costs_append n [] qs costs = refl
-costs_append n (p ∷ ps) qs costs =
-    costs_append n ps qs (slice_set costs (place_of n p.left p.right) (plain p.cost))
+pub costs_append : (n : ℕ) (ps qs : List StatedPair) (costs : List Plain) (standing : List ℕ)
+    → costs_after n (ps ++ qs) costs standing
+    ≡ costs_after n qs (costs_after n ps costs standing) (standing_after n ps standing)
+costs_append n [] qs costs standing = refl
+costs_append n (p ∷ ps) qs costs standing =
+    costs_append n ps qs
+    (costs_entered plain_kind n p.left p.right (plain p.cost) costs standing)
+    (standing_entered n p.left p.right standing)
 
 pub standing_append : (n : ℕ) (ps qs : List StatedPair) (standing : List ℕ)
     → standing_after n (ps ++ qs) standing ≡ standing_after n qs (standing_after n ps standing)
@@ -51,12 +54,12 @@ module _ (order : StatedOrder) (costs₀ : List Plain) (standing₀ : List ℕ) 
     pub todo : List StatedPair
     pub all : order.pairs ≡ done ++ todo
     pub left : rest ≡ flat_map pair_field todo ++ end_field
-    pub costs_are : costs ≡ costs_after order.size done costs₀
+    pub costs_are : costs ≡ costs_after order.size done costs₀ standing₀
     pub standing_are : standing ≡ standing_after order.size done standing₀
 
   -- all of them were
   pub record AreEntered (costs : List Plain) (standing : List ℕ) : Type 0 where
-    pub costs_are : costs ≡ costs_after order.size order.pairs costs₀
+    pub costs_are : costs ≡ costs_after order.size order.pairs costs₀ standing₀
     pub standing_are : standing ≡ standing_after order.size order.pairs standing₀
 
   -- what is left, and what the tables hold, where a reader of the order's file stands at a stage
@@ -74,7 +77,7 @@ module _ (order : StatedOrder) (costs₀ : List Plain) (standing₀ : List ℕ) 
     pub fits : (p : StatedPair) → next_record stage rest ≡ Some (Pair p) → PairFits order.size p
     pub enters : (p : StatedPair) → next_record stage rest ≡ Some (Pair p)
         → IsAhead (stage_next stage rest) (drop (record_length stage rest) rest)
-        (costs_entered order.size p.left p.right (plain p.cost) costs)
+        (costs_entered plain_kind order.size p.left p.right (plain p.cost) costs standing)
         (standing_entered order.size p.left p.right standing)
     pub passes : (next : Record) → next_record stage rest ≡ Some next
         → ((p : StatedPair) → next ≡ Pair p → ⊥)
@@ -101,7 +104,8 @@ module _ (order : StatedOrder) (costs₀ : List Plain) (standing₀ : List ℕ) 
       );
     }
 
-    module _ (done : List StatedPair) (costs_are : costs ≡ costs_after order.size done costs₀)
+    module _ (done : List StatedPair)
+        (costs_are : costs ≡ costs_after order.size done costs₀ standing₀)
         (standing_are : standing ≡ standing_after order.size done standing₀) where
       meets_pair : (p : StatedPair) (todo : List StatedPair) → order.pairs ≡ done ++ p ∷ todo
           → PairFits order.size p
@@ -112,7 +116,7 @@ module _ (order : StatedOrder) (costs₀ : List Plain) (standing₀ : List ℕ) 
           let stated : pair_in (value_of (pair_field p ++ more)) ≡ p =
           pair_stated p more sound_pair.cost_within in
           let entered : IsAhead (Sized order.size) more
-          (costs_entered order.size p.left p.right (plain p.cost) costs)
+          (costs_entered plain_kind order.size p.left p.right (plain p.cost) costs standing)
           (standing_entered order.size p.left p.right standing) = (
             refl,
             record {
@@ -120,8 +124,8 @@ module _ (order : StatedOrder) (costs₀ : List Plain) (standing₀ : List ℕ) 
               todo = todo;
               all = all ∙ sym (append_assoc done (p ∷ []) todo);
               left = refl;
-              costs_are = ap (costs_after order.size (p ∷ [])) costs_are
-                  ∙ sym (costs_append order.size done (p ∷ []) costs₀);
+              costs_are = ap₂ (costs_after order.size (p ∷ [])) costs_are standing_are
+                  ∙ sym (costs_append order.size done (p ∷ []) costs₀ standing₀);
               standing_are = ap (standing_after order.size (p ∷ [])) standing_are
                   ∙ sym (standing_append order.size done (p ∷ []) standing₀);
             },
@@ -143,7 +147,8 @@ module _ (order : StatedOrder) (costs₀ : List Plain) (standing₀ : List ℕ) 
         passes = λ next e other. (
           refl,
           record {
-            costs_are = costs_are ∙ ap (λ ps. costs_after order.size ps costs₀) (sym all);
+            costs_are = costs_are
+                ∙ ap (λ ps. costs_after order.size ps costs₀ standing₀) (sym all);
             standing_are = standing_are
                 ∙ ap (λ ps. standing_after order.size ps standing₀) (sym all);
           },
@@ -196,7 +201,7 @@ module _ (order : StatedOrder) (costs₀ : List Plain) (standing₀ : List ℕ) 
     -- where it hands out a pair, the sheet takes it, and this is ahead once it was entered
     pub handed_next : (p : StatedPair) → next ≡ Pair p → PairFits order.size p
         × IsAhead order costs₀ standing₀ stage' rest'
-        (costs_entered order.size p.left p.right (plain p.cost) costs)
+        (costs_entered plain_kind order.size p.left p.right (plain p.cost) costs standing)
         (standing_entered order.size p.left p.right standing)
     handed_next p e =
         let same : next_record stage rest ≡ Some (Pair p) = sym h.next ∙ ap Some e in

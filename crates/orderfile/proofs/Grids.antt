@@ -2,11 +2,11 @@
 -- tables are in order.
 -- Idea: a cell tells both whether its pair stands and at what cost. A stated cost is within the
 -- limit, so as a plain cost it means itself. Blank tables are in order, and entering a pair of a
--- sound order keeps them so, since it writes one byte 1 beside one small cost.
-use Rattle.std.proofs.Common.{◌≡◌, ℕ, ◌<◌, ◌≤◌, Bool, true, false, ◌⊎◌, List, []}
-use Rattle.std.proofs.Common.{◌∷◌, length, replicate, ℤ, pos, Some, None}
-use Rattle.std.proofs.Common.{Option, sym, refl, ap, ◌∙◌, subst, inl, inr, ⊎_elim, arith}
-use Rattle.std.proofs.lemmas.List.{length-set, length-replicate, get_or-map}
+-- sound order keeps them so.
+use Rattle.std.proofs.Common.{◌≡◌, ℕ, ◌<◌, ◌≤◌, Bool, true, false, List, [], ◌∷◌, length, ℤ, pos}
+use Rattle.std.proofs.Common.{Some, None, Option, slice_index_or, unsigned_abs, if◌then◌else◌}
+use Rattle.std.proofs.Common.{sym, refl, ap, ◌∙◌, subst, arith}
+use Rattle.std.proofs.lemmas.List.{get_or-map}
 use Rattle.std.specs.Option.{option_map, is_some}
 use Rattle.std.specs.List.{AllByRecursion}
 use Rattle.cost.specs.Columns.{rail_of, AreWithin}
@@ -14,38 +14,30 @@ use Rattle.cost.specs.declared.plain_kind.Plain.{Plain}
 use Rattle.cost.proofs.Exact.{rail_of_same}
 use Rattle.pairing.specs.Inside.{AreSameInside}
 use Rattle.pairing.specs.Places.{place_of, places_of}
-use Rattle.tables.specs.PairTables.{says_stands, byte_of}
+use Rattle.tables.specs.PairTables.{HavePlaces, says_stands, byte_of, costs_opened}
+use Rattle.tables.specs.PairTables.{standing_opened, costs_entered, standing_entered}
 use Rattle.tables.specs.Said.{columns_at, IsInOrder}
 use Rattle.tables.specs.Together.{ArePairTables}
 use Rattle.tables.proofs.Cells.{place_below}
-use Rattle.tables.proofs.Writing.{wrote_in_order, blank_in_order}
+use Rattle.tables.proofs.Entering.{entered_in_order}
+use Rattle.tables.proofs.Writing.{blank_in_order}
 use Rattle.orderfile.specs.declared.record.StatedPair.{StatedPair}
 use Rattle.orderfile.specs.Format.{StatedOrder, FitsSheet, PairFits}
 use Rattle.orderfile.specs.Loading.{plain, plain_kind, plain_grid, costs_after, standing_after}
-use Rattle.orderfile.specs.Loading.{or_else, names_blocks, stated_cost, stated_columns, stated_grid}
-use Rattle.orderfile.specs.Loading.{ShowsOrder}
-use Rattle.std.proofs.Common.{slice_index_or, unsigned_abs, slice_set, if◌then◌else◌}
+use Rattle.orderfile.specs.Loading.{stated_cost, stated_columns, stated_grid, ShowsOrder}
+use Rattle.orderfile.proofs.Cells.{blank_places, places_still}
+use Rattle.orderfile.proofs.Greatest.{IsSmall, greater_small, named, named_small}
 use Rattle.cost.specs.declared.TheConstants.{COST_LIMIT}
 
 -- ---- The costs that an order states
 
-or_else_some : (a b : Option ℤ) (z : ℤ) → or_else a b ≡ Some z → (a ≡ Some z) ⊎ (b ≡ Some z)
-or_else_some (Some x) b z e = inl e
-or_else_some None b z e = inr e
-
-cond_some : (b : Bool) (x z : ℤ) → (if b then Some x else None) ≡ Some z → x ≡ z
-cond_some true x z e = cc
-cond_some false x z e = cc
-
 -- they are within the limit
-stated_small : (n : ℕ) (ps : List StatedPair) → AllByRecursion (PairFits n) ps → (l r : ℕ) (z : ℤ)
-    → stated_cost ps l r ≡ Some z → unsigned_abs z ≤ COST_LIMIT
-stated_small n [] s l r z e = cc
-stated_small n (p ∷ ps) s l r z e =
-    ⊎_elim (λ later. stated_small n ps s.1 l r z later)
-    (λ here. subst (λ x. unsigned_abs x ≤ COST_LIMIT)
-    (cond_some (names_blocks l r p) p.cost z here) s.0.cost_within)
-    (or_else_some (stated_cost ps l r) (if names_blocks l r p then Some p.cost else None) z e)
+stated_small : (n : ℕ) (ps : List StatedPair) → AllByRecursion (PairFits n) ps → (l r : ℕ)
+    → IsSmall (stated_cost ps l r)
+stated_small n [] s l r = λ z e. cc
+stated_small n (p ∷ ps) s l r =
+    greater_small (named l r p) (stated_cost ps l r) (named_small s.0 l r)
+    (stated_small n ps s.1 l r)
 
 -- ---- What a cell tells
 
@@ -106,27 +98,32 @@ means_small z small =
     (subst (λ x. unsigned_abs x ≤ COST_LIMIT) (sym (rail_of_same z (omega arith))) small, tt)
 
 after_in_order : (n : ℕ) (ps : List StatedPair) (costs : List Plain) (standing : List ℕ)
-    → AllByRecursion (PairFits n) ps → length costs ≡ places_of n → length standing ≡ places_of n
+    → AllByRecursion (PairFits n) ps → HavePlaces n (length costs) (length standing)
     → IsInOrder plain_kind (places_of n) costs standing
-    → (length (costs_after n ps costs) ≡ places_of n)
-    × (length (standing_after n ps standing) ≡ places_of n)
-    × IsInOrder plain_kind (places_of n) (costs_after n ps costs)
+    → HavePlaces n (length (costs_after n ps costs standing))
+    (length (standing_after n ps standing))
+    × IsInOrder plain_kind (places_of n) (costs_after n ps costs standing)
     (standing_after n ps standing)
-after_in_order n [] costs standing s ec eb o = (ec, eb, o)
-after_in_order n (p ∷ ps) costs standing s ec eb o =
-    let at = place_of n p.left p.right in
-    after_in_order n ps (slice_set costs at (plain p.cost)) (slice_set standing at 1) s.1
-    (length-set costs at (plain p.cost) ∙ ec) (length-set standing at 1 ∙ eb)
-    (wrote_in_order plain_kind (places_of n) costs standing ec eb at 1 (plain p.cost) refl
-    (λ _. means_small p.cost s.0.cost_within) o)
+after_in_order n [] costs standing s have o = (have, o)
+after_in_order n (p ∷ ps) costs standing s have o =
+    after_in_order n ps
+    (costs_entered plain_kind n p.left p.right (plain p.cost) costs standing)
+    (standing_entered n p.left p.right standing) s.1 (places_still n p costs standing have)
+    (entered_in_order plain_kind n costs standing have o p.left p.right s.0.left_below
+    s.0.right_below (plain p.cost) (means_small p.cost s.0.cost_within))
 
 pub entered_tables : (order : StatedOrder) → FitsSheet order → ArePairTables plain_kind order.size
-    (costs_after order.size order.pairs (replicate (places_of order.size) (plain (pos 0))))
-    (standing_after order.size order.pairs (replicate (places_of order.size) 0))
+    (costs_after order.size order.pairs (costs_opened (plain (pos 0)) order.size)
+    (standing_opened order.size))
+    (standing_after order.size order.pairs (standing_opened order.size))
 entered_tables order s =
-    let places = places_of order.size in
-    let after = after_in_order order.size order.pairs (replicate places (plain (pos 0)))
-    (replicate places 0) s.pairs_fit (length-replicate places (plain (pos 0)))
-    (length-replicate places 0) (blank_in_order plain_kind places
-    (replicate places (plain (pos 0)))) in
-    record { few = s.few; costs_long = after.0; standing_long = after.1; in_order = after.2 }
+    let n = order.size in
+    let costs = costs_opened (plain (pos 0)) n in
+    let after = after_in_order n order.pairs costs (standing_opened n) s.pairs_fit (blank_places n)
+    (blank_in_order plain_kind (places_of n) costs) in
+    record {
+      few = s.few;
+      costs_long = after.0.costs;
+      standing_long = after.0.standing;
+      in_order = after.1;
+    }

@@ -5,6 +5,7 @@ pub mod Ends
 pub mod Entering
 pub mod Fields
 pub mod Fronts
+pub mod Greatest
 pub mod Grids
 pub mod Handed
 pub mod Listed

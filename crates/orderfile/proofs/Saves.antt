@@ -9,8 +9,10 @@ use Rattle.std.proofs.Common.{Err, Result, sym, refl, ap, ◌∙◌, inl, inr, �
 use Rattle.std.proofs.Common.{count_by, nat_lt, arith}
 use Rattle.std.proofs.ByRecursion.{All-weaker}
 use Rattle.std.proofs.lemmas.List.{length-append, take_at}
+use Rattle.std.proofs.lemmas.Int.{ints, clamps}
 use Rattle.std.proofs.lemmas.Bool.{cases_Bool, cond-true, cond-false, and_parts, eqb-true}
 use Rattle.std.proofs.lemmas.Bool.{not-false}
+use Rattle.std.specs.Int.{int_max}
 use Rattle.std.specs.Option.{option_map}
 use Rattle.std.specs.List.{flat_map, AllByRecursion}
 use Rattle.cost.specs.declared.plain_kind.Plain.{Plain}
@@ -54,7 +56,16 @@ stated_is n costs standing l r (p ∷ ps) s =
     ))
     (λ no'. inl (rw (none.0, no'), rw (times-cons l r p ps, no') (omega (arith, none.1))))
     (cases_Bool (p.left == l && p.right == r)))
-    (λ some. inr (some.0, rw some.1, some.2))
+    (λ some. ⊎_elim
+    (λ yes'. let both = and_parts (p.left == l) (p.right == r) yes' in
+    let here : plain_cell n costs standing l r ≡ Some (plain p.cost) =
+    rw (← eqb-true _ _ both.0, ← eqb-true _ _ both.1) s.0.stands in
+    let both_stand : plain p.cost ≡ plain some.0 = let e = sym here ∙ some.2 in cc in
+    let same : p.cost ≡ some.0 = ap (λ x. x.0) both_stand in
+    let once : int_max p.cost p.cost ≡ p.cost = omega (arith, ints, clamps) in
+    inr (p.cost, rw (yes', some.1, ← same, once), here))
+    (λ no'. inr (some.0, rw (no', some.1), some.2))
+    (cases_Bool (p.left == l && p.right == r)))
     (stated_is n costs standing l r ps s.1)
 
 pub names_stated : (n : ℕ) (costs : List Plain) (standing : List ℕ) (pairs : List StatedPair)

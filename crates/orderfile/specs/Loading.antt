@@ -1,7 +1,9 @@
 -- What checking and loading bytes answer, and what loading leaves in the tables, at every input and
 -- in any format.
-use Rattle.std.specs.Prelude.{◌≡◌, ℕ, ◌<◌, Bool, ◌&&◌, ◌⊎◌, List, [], ◌∷◌, length, ℤ, pos}
+use Rattle.std.specs.Prelude.{◌≡◌, ℕ, ◌<◌, Bool, true, false, ◌&&◌, ◌⊎◌, List, [], ◌∷◌, length}
+use Rattle.std.specs.Prelude.{ℤ, pos, ◌≤ℤ◌, Contains}
 use Rattle.std.specs.Prelude.{Some, None, Ok, Err, Option, Result, ◌==◌, if◌then◌else◌}
+use Rattle.std.specs.Int.{int_max}
 use Rattle.std.specs.Option.{option_map, is_some}
 use Rattle.cost.specs.Columns.{rail_of}
 use Rattle.cost.specs.declared.Cost.{Ghosts}
@@ -39,29 +41,44 @@ abbrev pub plain_grid : ℕ → List Plain → List ℕ → Grid
 plain_grid n costs standing = grid_of plain_kind n costs standing
 
 -- the tables of a sheet of n blocks after pairs were entered in turn
-abbrev pub costs_after : ℕ → List StatedPair → List Plain → List Plain
-costs_after n [] costs = costs
-costs_after n (p ∷ ps) costs =
-    costs_after n ps (costs_entered n p.left p.right (plain p.cost) costs)
-
 abbrev pub standing_after : ℕ → List StatedPair → List ℕ → List ℕ
 standing_after n [] standing = standing
 standing_after n (p ∷ ps) standing =
     standing_after n ps (standing_entered n p.left p.right standing)
 
-abbrev pub or_else : {X : Type 0} → Option X → Option X → Option X
-or_else (Some x) other = Some x
-or_else None other = other
+abbrev pub costs_after : ℕ → List StatedPair → List Plain → List ℕ → List Plain
+costs_after n [] costs standing = costs
+costs_after n (p ∷ ps) costs standing =
+    costs_after n ps (costs_entered plain_kind n p.left p.right (plain p.cost) costs standing)
+    (standing_entered n p.left p.right standing)
 
 -- a stated pair is of left block l and right block r
 abbrev pub names_blocks : (l r : ℕ) → StatedPair → Bool
 names_blocks l r p = p.left == l && p.right == r
 
--- what pairs state of left block l and right block r: a later one replaces an earlier one
+-- the greater of two costs, of which each may be missing
+abbrev pub greater : Option ℤ → Option ℤ → Option ℤ
+greater None other = other
+greater (Some x) None = Some x
+greater (Some x) (Some y) = Some (int_max x y)
+
+-- what pairs state of left block l and right block r: the greatest cost that they name for it
 abbrev pub stated_cost : List StatedPair → ℕ → ℕ → Option ℤ
 stated_cost [] l r = None
 stated_cost (p ∷ ps) l r =
-    or_else (stated_cost ps l r) (if names_blocks l r p then Some p.cost else None)
+    greater (if names_blocks l r p then Some p.cost else None) (stated_cost ps l r)
+
+-- this is the greatest cost that pairs name for left block l and right block r: there is none if
+-- they name none; else one of them names it, and none a greater
+abbrev pub IsGreatestNamed : (l r : ℕ) → List StatedPair → Option ℤ → Type 0
+IsGreatestNamed l r ps None = (p : StatedPair) → Contains ps p → names_blocks l r p ≡ false
+IsGreatestNamed l r ps (Some cost) =
+    ((p : StatedPair) × Contains ps p × (names_blocks l r p ≡ true) × (p.cost ≡ cost))
+    × ((p : StatedPair) → Contains ps p → names_blocks l r p ≡ true → p.cost ≤ℤ cost)
+
+-- such is what they state, of every two blocks
+abbrev pub StateGreatest : Type 0
+StateGreatest = (ps : List StatedPair) (l r : ℕ) → IsGreatestNamed l r ps (stated_cost ps l r)
 
 -- the columns of a stated cost: itself as the only one
 abbrev pub stated_columns : Option ℤ → List ℤ
@@ -93,7 +110,7 @@ pub record LoadsOrder (order : StatedOrder) (r : Result Sheet Fault) (costs' : L
   pub answers : r ≡ Ok (sheet_of order.size)
   -- exactly the tables that opening a sheet and entering the pairs in turn leave
   pub enters_costs : costs' ≡ costs_after order.size order.pairs
-      (costs_opened (plain (pos 0)) order.size)
+      (costs_opened (plain (pos 0)) order.size) (standing_opened order.size)
   pub enters_standing : standing' ≡ standing_after order.size order.pairs
       (standing_opened order.size)
   -- which is the sheet that is stated

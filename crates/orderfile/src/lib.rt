@@ -3,6 +3,7 @@
 
 pub mod field;
 pub mod format;
+pub mod law;
 pub mod loading;
 pub mod record;
 pub mod record_reader;

@@ -26,7 +26,8 @@ pub fn check(file: &[u8]) -> Result<u16, Fault>
     Ok(size)
 }
 
-/// Loads the sheet that a file states into the caller's tables.
+/// Loads the sheet that a file states into the caller's tables: as `open` and one `enter` for each
+/// pair in turn leave them. Of a pair that the file names several times the greatest cost stands.
 ///
 /// The whole file is read before anything is written. Refused: the first fault of the file, and
 /// then tables that do not have n * n places, for the size n that the file states.
@@ -46,7 +47,7 @@ fn enter_all(n: u16, file: &[u8], costs: &mut [Plain], standing: &mut [u8])
     requires stated { (order : StatedOrder) × States file.now order × (order.size ≡ n) }
     requires places { HavePlaces n (length costs.old) (length standing.old) }
     ensures { (order : StatedOrder) → States file.now order
-        → (costs.new ≡ costs_after order.size order.pairs costs.old)
+        → (costs.new ≡ costs_after order.size order.pairs costs.old standing.old)
         × (standing.new ≡ standing_after order.size order.pairs standing.old) }
 {
     let mut records = RecordReader::new(file);

@@ -191,6 +191,7 @@ module _ {K : Type 0} (kind : Ghosts K) (n : ℕ) where
           program = g.program;
           keeps = kept.0;
           leaves = kept.1;
+          readings = kept.2;
         }
 
     -- all calls were made; or memory ran out before the call at i

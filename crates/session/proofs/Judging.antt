@@ -101,7 +101,7 @@ module _ {K : Type 0} (kind : Ghosts K) (n : ℕ) where
     -- what came of the call is known, and the verdict that it shows is the book's
     by_verdict : (v : Verdict) (o' : Reply (ValueOf K act)) → o ≡ o' → verdict_of o' ≡ v
         → verdict kind n b call ≡ v → IsReply kind n b s act o'
-        → Keeps kind n (book_by v b act) (settling_by kind n b s act o') state t
+        → Keeps kind n (book_by kind v b act) (settling_by kind n b s act o') state t
         → GoesOn kind n b s act h o state t
     by_verdict v o' eo ev e reply keeps =
         subst (λ x. GoesOn kind n b s act h x state t) (sym eo) (record {
@@ -110,8 +110,8 @@ module _ {K : Type 0} (kind : Ghosts K) (n : ℕ) where
             reply_is = reply;
             walks_are = walks_are kind n (settling_by kind n b s act o') keeps.walks;
           };
-          keeps = subst (λ x. Keeps kind n (book_by x b act) (settling_by kind n b s act o') state
-              t) (sym e) keeps;
+          keeps = subst (λ x. Keeps kind n (book_by kind x b act) (settling_by kind n b s act o')
+              state t) (sym e) keeps;
         })
 
     pub not_made_next : o ≡ not_made → allows b.phase act ≡ false → Keeps kind n b s state t
@@ -133,7 +133,7 @@ module _ {K : Type 0} (kind : Ghosts K) (n : ℕ) where
 
     pub accepted_next : (x : ValueOf K act) → o ≡ gives x → allows b.phase act ≡ true
         → refusal_by (needs kind n b.cells h act) ≡ None → IsValue kind n b s act x
-        → Keeps kind n (book_with b act) (settling_with kind n b s act x) state t
+        → Keeps kind n (book_with kind b act) (settling_with kind n b s act x) state t
         → GoesOn kind n b s act h o state t
     accepted_next x e ea er value keeps =
         by_verdict accepted (gives x) e refl (verdict_from true None ea er) value keeps
@@ -147,7 +147,7 @@ module _ {K : Type 0} (kind : Ghosts K) (n : ℕ) where
         → AllByRecursion (λ (need : Bool × Cause). need.1 ≢ NoPerfectPairing)
         (needs kind n b.cells h act)
         → ((r : R) → AreMet needs' → Done r → IsValue kind n b s act (value r)
-        × Keeps kind n (book_with b act) (settling_with kind n b s act (value r)) state t)
+        × Keeps kind n (book_with kind b act) (settling_with kind n b s act (value r)) state t)
         → (Kept → Keeps kind n b s state t) → GoesOn kind n b s act h o state' t
     goes_on_by needs' value (Ok r) state' e Done Kept is es allowed mirror other done kept =
         let here = done r is.0 is.1 in

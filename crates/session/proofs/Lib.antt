@@ -10,6 +10,7 @@ pub mod Settles
 pub mod OnSettled
 pub mod OnWalk
 pub mod Leaving
+pub mod Worst
 pub mod Theorem
 pub mod Shown
 pub mod Handing

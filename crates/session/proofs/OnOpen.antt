@@ -3,17 +3,20 @@
 -- Idea: the sheet's needs are the book's, since the tables hold what the book says; a call that
 -- meets them was handed the sheet's own tables.
 use Rattle.std.proofs.Common.{◌≡◌, ℕ, Bool, true, false, length, set, get_or, Some, None, Option}
-use Rattle.std.proofs.Common.{sym, refl, ap, ◌∙◌, inl, inr}
+use Rattle.std.proofs.Common.{sym, refl, ap, ◌∙◌, subst, inl, inr}
 use Rattle.std.specs.Prelude.{⊤}
 use Rattle.std.specs.Bool.{Decides}
 use Rattle.cost.specs.declared.Cost.{Ghosts}
 use Rattle.cost.specs.declared.TheConstants.{COST_LIMIT}
 use Rattle.cost.specs.Columns.{AreWithin}
+use Rattle.cost.specs.Readings.{worse}
 use Rattle.cost.proofs.Exact.{within_tells}
 use Rattle.pairing.specs.Places.{place_of}
-use Rattle.tables.specs.PairTables.{HavePlaces, byte_of, says_stands, says_disturbed, costs_entered}
-use Rattle.tables.specs.PairTables.{standing_entered, costs_struck, standing_struck}
+use Rattle.tables.specs.PairTables.{HavePlaces, byte_of, says_stands, says_disturbed, cell}
+use Rattle.tables.specs.PairTables.{costs_entered, standing_entered, costs_struck}
+use Rattle.tables.specs.PairTables.{standing_struck}
 use Rattle.tables.proofs.Cells.{place_below}
+use Rattle.tables.proofs.Entering.{worse_small}
 use Rattle.sheet.specs.Pairs.{AreBlocks, PairTablesAre, enter_needs, strike_needs}
 use Rattle.session.specs.declared.call.Act.TheVariants.{Enter, Strike, Read}
 use Rattle.session.specs.Book.{Book, opened, with_cell, stands_in, needs}
@@ -21,7 +24,7 @@ use Rattle.session.specs.Exchange.{Reply}
 use Rattle.session.specs.Lists.{TableLists, lengths, rests_on, the_costs, the_standing}
 use Rattle.session.specs.Promise.{Settling}
 use Rattle.session.specs.Program.{SheetAt, IsAnswered, cost_in, byte_in}
-use Rattle.session.proofs.Held.{Keeps, GoesOn, SameIn}
+use Rattle.session.proofs.Held.{Keeps, GoesOn, SameIn, each}
 use Rattle.session.proofs.Cells.{stands_alike, cell_is, written_shows}
 use Rattle.session.proofs.Fits.{pairs_fit, blocks_decided}
 use Rattle.session.proofs.Judging.{goes_on_by}
@@ -60,6 +63,25 @@ module _ {K : Type 0} {kind : Ghosts K} {swaps : Bool} {b : Book K} {s : Settlin
     beyond = tt;
   }
 
+  -- ---- What the sheet's own tables say of the pair
+
+  module _ (have : HavePlaces (n m) (length m.x.costs) (length m.x.standing))
+      (are : AreBlocks (n m) l r) where
+    calm : says_disturbed (byte_of (n m) m.x.standing l r) ≡ false
+    calm = (own_shows m have).pair_tables.in_order.bytes (place_of (n m) l r)
+        (place_below (n m) l r are.left_below are.right_below)
+
+    cell_shown : cell kind.zero (n m) m.x.costs m.x.standing l r ≡ b.cells l r
+    cell_shown = each kind (n m) b.cells m.x.costs m.x.standing (own_shows m have) l r
+        are.left_below are.right_below
+
+    small_then : (reading : K) → AreWithin COST_LIMIT (kind.meaning reading)
+        → AreWithin COST_LIMIT (kind.meaning (worse kind (b.cells l r) reading))
+    small_then reading small =
+        subst (λ c. AreWithin COST_LIMIT (kind.meaning (worse kind c reading))) cell_shown
+        (worse_small kind (n m) m.x.costs m.x.standing have
+        (own_shows m have).pair_tables.in_order l r are.left_below are.right_below reading small)
+
   -- ---- Enter
 
   pub enters : (cost : K) (o : Reply (Unit {0})) (state : SheetAt)
@@ -68,7 +90,7 @@ module _ {K : Type 0} {kind : Ghosts K} {swaps : Bool} {b : Book K} {s : Settlin
   enters cost o state h =
       goes_on_by kind (n m) b s (Enter l r cost) (lengths m.x) o (here m) m.own'
       (enter_needs kind (n m) m.x.costs m.x.standing l r cost) (λ u. u) h.0 state h.1
-      (λ _. PairTablesAre (costs_entered (n m) l r cost m.x.costs)
+      (λ _. PairTablesAre (costs_entered kind (n m) l r cost m.x.costs m.x.standing)
       (standing_entered (n m) l r m.x.standing) m.x'.costs m.x'.standing)
       (PairTablesAre m.x.costs m.x.standing m.x'.costs m.x'.standing) h.2 h.4
       (allowed m (Enter l r cost) refl)
@@ -79,21 +101,24 @@ module _ {K : Type 0} {kind : Ghosts K} {swaps : Bool} {b : Book K} {s : Settlin
           blocks_decided (n m) l r,
           refl,
           λ are.
-              inl (within_tells COST_LIMIT (kind.meaning cost), refl, λ fits. tt),
+              inl (within_tells COST_LIMIT (kind.meaning cost), refl, λ fits. (calm have are, tt)),
         ),
       ))
       (λ e. cc, (λ e. cc, (λ e. cc, tt)))
-      (λ u met is. (tt, writes (Some cost) met.0 met.1.0 (λ _. met.1.1.0) is))
+      (λ u met is. (
+        tt,
+        writes (Some (worse kind (b.cells l r) cost)) met.0 met.1.0
+            (λ _. small_then met.0 met.1.0 cost met.1.1.0)
+            (subst (λ c. PairTablesAre (set m.x.costs (place_of (n m) l r) (worse kind c cost))
+            (standing_entered (n m) l r m.x.standing) m.x'.costs m.x'.standing)
+            (cell_shown met.0 met.1.0) is),
+      ))
       (λ is. still m (kept_pairs m.x m.x' is))
 
   -- ---- Strike and read
 
   module _ (have : HavePlaces (n m) (length m.x.costs) (length m.x.standing))
       (are : AreBlocks (n m) l r) where
-    calm : says_disturbed (byte_of (n m) m.x.standing l r) ≡ false
-    calm = (own_shows m have).pair_tables.in_order.bytes (place_of (n m) l r)
-        (place_below (n m) l r are.left_below are.right_below)
-
     stands_is : says_stands (byte_of (n m) m.x.standing l r) ≡ stands_in b.cells l r
     stands_is = stands_alike kind (n m) b m.x.costs m.x.standing (own_shows m have) l r
         are.left_below are.right_below

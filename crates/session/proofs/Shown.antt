@@ -29,7 +29,8 @@ use Rattle.sheet.specs.Refusals.{fault}
 use Rattle.session.specs.Book.{Book, blank, verdict, step, grid_in, with_cell, stands_in}
 use Rattle.session.specs.Example.{whole_numbers, first, second, with_prices, entries, marks}
 use Rattle.session.specs.Example.{refusals, settled_calls, walk_calls, calls_again, full, since}
-use Rattle.session.specs.Example.{settled_book, whole, crowded, bare, lower_prices}
+use Rattle.session.specs.Example.{settled_book, whole, reading_calls, crowded, bare}
+use Rattle.session.specs.Example.{lower_prices}
 use Rattle.session.specs.Exchange.{Exchange, call_of, verdict_of}
 use Rattle.session.specs.Promise.{HandsOut, AgreesWith, IsSettlement, IsMarked, IsRefusal}
 use Rattle.session.specs.Promise.{HasRightWalks, has_ended, IsReply, IsRight, KeepsPromise}
@@ -247,6 +248,18 @@ keeps =
     (settled_calls ++ (walk_calls ++ calls_again)) refusals_right
     (joined full (fresh whole_numbers 3) settled_calls (walk_calls ++ calls_again) settled_right
     (joined settled_book told_settled walk_calls calls_again walk_right again_right)))
+
+-- ---- Readings
+
+pub readings_keep : KeepsPromise whole_numbers 3 reading_calls
+readings_keep =
+    also (is_right refl tt sound_fresh) (also (is_right refl tt sound_fresh)
+    (also (is_right refl tt sound_fresh) (also (is_right refl tt sound_fresh)
+    (also (is_right refl tt sound_fresh) (also (is_right refl tt sound_fresh)
+    (also (is_right refl tt sound_fresh) (also (is_right refl tt sound_fresh)
+    (also (is_right refl tt sound_fresh)
+    (also (is_right refl refl sound_fresh) (also (is_right refl refl sound_fresh)
+    (also (is_right refl refl sound_fresh) (also (is_right refl refl sound_fresh) tt))))))))))))
 
 -- ---- Sheets without a perfect pairing
 

@@ -1,4 +1,5 @@
--- Every program keeps the promise, and its tables hold what is said of them.
+-- Every program keeps the promise, its tables hold what is said of them, and the worst reading of
+-- each pair stands.
 -- Idea: a sheet that was just opened holds a blank book, and each step is right and goes on with
 -- the book, by the lemma of its call. So after every call all were right, by an induction along the
 -- program.
@@ -6,6 +7,7 @@ use Rattle.std.proofs.Common.{◌≡◌, ℕ, Bool, false, not, List, [], ◌∷
 use Rattle.std.proofs.Common.{subst, inl, inr}
 use Rattle.std.proofs.lemmas.Bool.{or_left}
 use Rattle.cost.specs.declared.Cost.{Ghosts}
+use Rattle.cost.specs.Kind.{KindLaws}
 use Rattle.sheet.specs.Opening.{OpensSheet}
 use Rattle.sheet.specs.Size.{Sheet, size_of}
 use Rattle.session.specs.declared.call.Act.{Act}
@@ -27,6 +29,7 @@ use Rattle.session.proofs.OnOpen as open_calls
 use Rattle.session.proofs.Resting.{OneCall, n, here}
 use Rattle.session.proofs.Settles.{settles}
 use Rattle.session.proofs.OnWalk as walk_calls
+use Rattle.session.proofs.Worst.{worst_readings_stand}
 
 -- ---- One step
 
@@ -166,8 +169,9 @@ module _ {K : Type 0} (kind : Ghosts K) (swaps : Bool) (n : ℕ) (lent : TableLi
   going (calls {es = es} {s = s} {s' = s'} {own = own} {own' = own'} {e = e} program m) =
       gone_on es e s s' own own' m (going program)
 
-pub every_program_keeps : {K : Type 0} (kind : Ghosts K) → EveryProgramKeeps kind
-every_program_keeps kind swaps n lent es state own program =
+pub every_program_keeps : {K : Type 0} (kind : Ghosts K)
+    → KindLaws kind.columns kind.meaning kind.zero → EveryProgramKeeps kind
+every_program_keeps kind laws swaps n lent es state own program =
     let g = going kind swaps n lent program in (
       g.right,
       record {
@@ -181,4 +185,6 @@ every_program_keeps kind swaps n lent es state own program =
         };
         last = hold_last kind swaps n lent program;
       },
+      worst_readings_stand kind
+          (λ x. record { sized = laws.column_count x; on_rail = laws.on_rail x }) n es g.right,
     )

@@ -5,6 +5,7 @@ use Rattle.std.specs.Prelude.{None, Option, ◌==◌, nat_lt, if◌then◌else�
 use Rattle.cost.specs.declared.Cost.{Ghosts}
 use Rattle.cost.specs.declared.TheConstants.{COST_LIMIT}
 use Rattle.cost.specs.Columns.{within}
+use Rattle.cost.specs.Readings.{worse}
 use Rattle.pairing.specs.Grid.{Grid}
 use Rattle.pairing.specs.Optima.{perfects}
 use Rattle.pairing.specs.Places.{places_of, rights_of}
@@ -89,9 +90,11 @@ module _ {K : Type 0} where
   abbrev pub allows : Phase → Act K → Bool
   allows phase act = same_phase phase (made_in act)
 
-  -- the book after an accepted call
+module _ {K : Type 0} (kind : Ghosts K) where
+  -- the book after an accepted call: a reading leaves the worse of itself and of what stood there
   abbrev pub book_with : Book K → Act K → Book K
-  book_with b (Enter l r c) = record b { cells = with_cell b.cells l r (Some c) }
+  book_with b (Enter l r reading) =
+      record b { cells = with_cell b.cells l r (Some (worse kind (b.cells l r) reading)) }
   book_with b (Strike l r) = record b { cells = with_cell b.cells l r None }
   book_with b (Read l r) = b
   book_with b Settle = record b { phase = settled }
@@ -139,7 +142,7 @@ module _ {K : Type 0} (kind : Ghosts K) (n : ℕ) where
 
   -- the book after a call
   abbrev pub step : Book K → Call K → Book K
-  step b call = book_by (verdict b call) b call.act
+  step b call = book_by kind (verdict b call) b call.act
 
   abbrev pub columns_in : Option K → List ℤ
   columns_in None = []

@@ -114,6 +114,21 @@ calls_again =
 abbrev pub whole : List (Exchange ℤ)
 whole = entries ++ (refusals ++ (settled_calls ++ (walk_calls ++ calls_again)))
 
+-- ---- Readings: a greater one second and a greater one first, the same one twice, and a lesser one
+-- once the greater was struck
+
+abbrev pub reading_calls : List (Exchange ℤ)
+reading_calls =
+    entering 0 0 4 ∷ entering 0 0 7
+    ∷ entering 0 1 7 ∷ entering 0 1 4
+    ∷ entering 1 0 5 ∷ entering 1 0 5
+    ∷ entering 1 1 7 ∷ giving (Strike 1 1) tt ∷ entering 1 1 4
+    ∷ giving (Read 0 0) (pos 7)
+    ∷ giving (Read 0 1) (pos 7)
+    ∷ giving (Read 1 0) (pos 5)
+    ∷ giving (Read 1 1) (pos 4)
+    ∷ []
+
 -- ---- Sheets without a perfect pairing: a settle is refused, and gives this crowd set and shortage
 
 -- two blocks a plane, of which both left ones stand with right block 0 alone
@@ -161,6 +176,7 @@ pub record Shown : Type 0 where
   pub keeps : KeepsPromise whole_numbers 3 whole
   pub crowded_keeps : KeepsPromise whole_numbers 2 (crowded 3 1)
   pub bare_keeps : KeepsPromise whole_numbers 1 (bare 1 1)
+  pub readings_keep : KeepsPromise whole_numbers 3 reading_calls
   -- what the calls told last of each table: the second settle, the marks, and the walk to its end
   pub tables : (lent : TableLists ℤ) → lists_after lent whole
       ≡ record lent {
@@ -185,6 +201,14 @@ pub record Shown : Type 0 where
       (entering 0 0 4 ∷ refusing (Read 0 0) Absent None ∷ []) → ⊥
   pub wrong_read : KeepsPromise whole_numbers 3
       (entering 0 0 4 ∷ giving (Read 0 0) (pos 5) ∷ []) → ⊥
+  -- a later reading that replaces a greater one, the lesser of two that is kept, and a strike that
+  -- leaves the old reading in force
+  pub later_replaces : KeepsPromise whole_numbers 3
+      (entering 0 0 7 ∷ entering 0 0 4 ∷ giving (Read 0 0) (pos 4) ∷ []) → ⊥
+  pub lesser_kept : KeepsPromise whole_numbers 3
+      (entering 0 0 4 ∷ entering 0 0 7 ∷ giving (Read 0 0) (pos 4) ∷ []) → ⊥
+  pub struck_in_force : KeepsPromise whole_numbers 3 (entering 0 0 7 ∷ giving (Strike 0 0) tt
+      ∷ entering 0 0 4 ∷ giving (Read 0 0) (pos 7) ∷ []) → ⊥
   -- an accepted strike of an absent pair
   pub strikes_nothing : KeepsPromise whole_numbers 3 (giving (Strike 0 0) tt ∷ []) → ⊥
   -- the refusal of a block before that of a length, and a table of another length that is taken

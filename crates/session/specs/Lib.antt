@@ -2,6 +2,7 @@ pub mod Book
 pub mod Exchange
 pub mod Lists
 pub mod Promise
+pub mod Readings
 pub mod Program
 pub mod Runs
 pub mod Example

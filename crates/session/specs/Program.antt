@@ -28,6 +28,7 @@ use Rattle.session.specs.Lists.{Table, TableLists, list_in, lent_of, lengths, pl
 use Rattle.session.specs.Lists.{is_pair_table}
 use Rattle.session.specs.Lists.{rests_on}
 use Rattle.session.specs.Promise.{KeepsPromise, book_after}
+use Rattle.session.specs.Readings.{WorstReadingsStand}
 
 -- a sheet in one of its states
 pub record SheetAt : Type 0 where
@@ -229,9 +230,10 @@ module _ {K : Type 0} (kind : Ghosts K) where
     pub cells : ShowCells n (book_after kind n blank es).cells own
     pub last : HoldLast swaps s.phase own (lists_after lent es)
 
-  -- THE MAIN THEOREM: every program keeps the promise, and its tables hold what is said above after
-  -- its last call. The beginning of a program is a program, so this is said after every call.
+  -- THE MAIN THEOREM: every program keeps the promise, its tables hold what is said above after its
+  -- last call, and the worst reading of each pair stands, in the book and so in the tables that
+  -- show its cells. The beginning of a program is a program, so this is said after every call.
   abbrev pub EveryProgramKeeps : Type 0
   EveryProgramKeeps = (swaps : Bool) (n : ℕ) (lent : TableLists K) (es : List (Exchange K))
       (s : SheetAt) (own : TableLists K) → Program swaps n lent es s own
-      → KeepsPromise kind n es × Leaves swaps n lent es s own
+      → KeepsPromise kind n es × Leaves swaps n lent es s own × WorstReadingsStand kind n es

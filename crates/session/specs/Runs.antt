@@ -34,6 +34,7 @@ use Rattle.session.specs.Exchange.{call_of}
 use Rattle.session.specs.Lists.{TableLists, lengths, right_lengths}
 use Rattle.session.specs.Program.{SheetAt, state_at, Makes, Program, Leaves}
 use Rattle.session.specs.Promise.{KeepsPromise}
+use Rattle.session.specs.Readings.{WorstReadingsStand}
 
 -- ---- States and tables as a program sees them
 
@@ -173,7 +174,7 @@ module _ {K : Type 0} (kind : Ghosts K) where
 
   -- A sheet was opened over the tables as they were lent, the calls were made and have these
   -- answers, and the tables hold what the last call left: the calls are a program, so they keep the
-  -- promise, and the tables hold what a program leaves.
+  -- promise, the tables hold what a program leaves, and the worst reading of each pair stands.
   pub record WereMade (n : ℕ) (lent : TableLists K) (calls : List (Call K))
       (answers : List (Answer K)) (new : TableLists K) : Type 0 where
     pub sheet : IsSheet n (lengths lent)
@@ -183,6 +184,7 @@ module _ {K : Type 0} (kind : Ghosts K) where
     pub program : Program kind false n lent exchanges state new
     pub keeps : KeepsPromise kind n exchanges
     pub leaves : Leaves kind false n lent exchanges state new
+    pub readings : WorstReadingsStand kind n exchanges
 
   -- a sheet of n blocks a plane is open over the tables: a program begins
   pub record Begins (n : ℕ) (lent : TableLists K) (state : State)

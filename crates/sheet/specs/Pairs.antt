@@ -34,17 +34,19 @@ place_needs n costs bytes l r more =
     need (HavePlaces n costs bytes) TableLength (need (AreBlocks n l r) Block more)
 
 module _ {K : Type 0} (kind : Ghosts K) (n : ℕ) (costs : List K) (standing : List ℕ) (l r : ℕ) where
-  -- and a cost within 10^9 in each column
+  -- and a reading within 10^9 in each column, and a standing byte of 0 or 1
   abbrev pub enter_needs : K → Needs
-  enter_needs cost = place_needs n (length costs) (length standing) l r
-      (need (AreWithin COST_LIMIT (kind.meaning cost)) CostRange nothing)
+  enter_needs reading = place_needs n (length costs) (length standing) l r
+      (need (AreWithin COST_LIMIT (kind.meaning reading)) CostRange
+      (need (says_disturbed (byte_of n standing l r) ≡ false) Inconsistent nothing))
 
-  -- the pair stands at this cost, and the rest of the tables stays
-  abbrev pub Enters : (cost : K) → Result (Unit {0}) Fault → (costs' : List K)
+  -- the pair stands, at the worse of this reading and of what stood there, and the rest of the
+  -- tables stays
+  abbrev pub Enters : (reading : K) → Result (Unit {0}) Fault → (costs' : List K)
       (standing' : List ℕ) → Type 0
-  Enters cost answer costs' standing' = Responds (enter_needs cost) answer
-      (λ _. PairTablesAre (costs_entered n l r cost costs) (standing_entered n l r standing) costs'
-      standing')
+  Enters reading answer costs' standing' = Responds (enter_needs reading) answer
+      (λ _. PairTablesAre (costs_entered kind n l r reading costs standing)
+      (standing_entered n l r standing) costs' standing')
       (PairTablesAre costs standing costs' standing')
 
   -- and a standing byte of 0 or 1, that says that the pair stands: so for `strike` and for `read`

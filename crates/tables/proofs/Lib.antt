@@ -8,3 +8,4 @@ pub mod Sounding
 pub mod Orders
 pub mod Cells
 pub mod Writing
+pub mod Entering

@@ -4,8 +4,10 @@ use Rattle.std.specs.Prelude.{◌≡◌, ℕ, ◌<◌, Bool, not, ◌&&◌, ◌|
 use Rattle.std.specs.Prelude.{Option, ◌==◌, ◌*◌, nat_lt, if◌then◌else◌, slice_index_or}
 use Rattle.std.specs.Prelude.{slice_set, zip, take, drop}
 use Rattle.std.specs.List.{list_all}
+use Rattle.cost.specs.declared.Cost.{Ghosts}
 use Rattle.cost.specs.declared.TheConstants.{COST_LIMIT}
 use Rattle.cost.specs.Columns.{within}
+use Rattle.cost.specs.Readings.{worse}
 use Rattle.pairing.specs.Places.{place_of, places_of, rights_of}
 pub use Rattle.pairing.specs.Stated.{says_stands, byte_of}
 
@@ -51,9 +53,10 @@ costs_opened nought n = replicate (places_of n) nought
 abbrev pub standing_opened : ℕ → List ℕ
 standing_opened n = replicate (places_of n) 0
 
--- the tables after a pair was entered at a cost
-abbrev pub costs_entered : {K : Type 0} → ℕ → ℕ → ℕ → K → List K → List K
-costs_entered n l r cost costs = slice_set costs (place_of n l r) cost
+-- the tables after a reading of a pair was entered
+abbrev pub costs_entered : {K : Type 0} → Ghosts K → ℕ → ℕ → ℕ → K → List K → List ℕ → List K
+costs_entered kind n l r reading costs standing = slice_set costs (place_of n l r)
+    (worse kind (cell kind.zero n costs standing l r) reading)
 
 abbrev pub standing_entered : ℕ → ℕ → ℕ → List ℕ → List ℕ
 standing_entered n l r standing = slice_set standing (place_of n l r) 1

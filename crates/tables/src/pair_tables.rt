@@ -81,27 +81,35 @@ pub fn in_order<K: Cost>(costs: &[K], standing: &[u8]) -> bool
     (seen <= 1) & (faults == 0)
 }
 
-/// Makes a pair stand with a cost, for a caller that knows that it has its place in the tables and
-/// that the cost is within 10^9: nothing is tested. Tables that were in order stay so.
+/// Enters a reading of a pair's cost, for a caller that knows that the pair has its place in the
+/// tables and that the reading is within 10^9: nothing is tested.
+///
+/// A pair whose byte is not 1 then stands at the reading. Of a pair that stands the worse of the
+/// two costs stays, which is the greater; of two that compare as equal the earlier. Tables that
+/// were in order stay so.
 pub fn enter_pair<K: Cost>(
     n: u16,
     costs: &mut [K],
     standing: &mut [u8],
     left: u16,
     right: u16,
-    cost: K,
+    reading: K,
 )
     requires places { HavePlaces n (length costs.old) (length standing.old) }
     requires left_inside { left < n }
     requires right_inside { right < n }
-    requires within { AreWithin COST_LIMIT (K.meaning cost) }
-    ensures costs { costs.new ≡ costs_entered n left right cost costs.old }
+    requires within { AreWithin COST_LIMIT (K.meaning reading) }
+    ensures costs { costs.new ≡ costs_entered K.Cost n left right reading costs.old standing.old }
     ensures standing { standing.new ≡ standing_entered n left right standing.old }
     ensures in_order { IsInOrder K.Cost (places_of n) costs.old standing.old
         → IsInOrder K.Cost (places_of n) costs.new standing.new }
 {
     let at = place(n, left, right);
-    costs[at] = cost;
+    // The reading is near, so the kind need not stop what lies beyond the rail.
+    if stands(standing[at]) && !costs[at].is_less_near(reading) {
+        return;
+    }
+    costs[at] = reading;
     standing[at] = 1;
 }
 

@@ -1,6 +1,7 @@
 //! The calls on an open sheet: open one, then enter, strike and read pairs, and settle.
 
 ghost use Rattle.std.specs.Prelude.{◌≡◌, ◌<◌, ⊤, length, IfOk, OnOk, OnErr, Some, None};
+ghost use Rattle.cost.specs.Readings.{worse};
 ghost use Rattle.tables.specs.PairTables.{cell, ChangesCell, AreAllAbsent, HavePlaces};
 ghost use Rattle.pairing.specs.Places.{place_of, rights_of};
 ghost use Rattle.sheet.specs.Needs.{nothing, Responds};
@@ -44,30 +45,36 @@ impl OpenSheet {
         self.n
     }
 
-    /// Makes a pair stand with a cost; a later cost replaces an earlier one, and any byte becomes
-    /// 1.
+    /// Enters a reading of a pair's cost: an absent pair then stands at it, and of a pair that
+    /// stands the worse of the two costs stands, which is the greater as a whole value. Of two that
+    /// compare as equal the earlier stays.
     ///
-    /// Refused, in this order: a table of the wrong length, a block number of n or more, a cost
-    /// that is not within 10^9.
+    /// Refused, in this order: a table of the wrong length, a block number of n or more, a reading
+    /// that is not within 10^9, a standing byte above 1. Only this pair's byte is looked at, and
+    /// not whether the cost that stands is within 10^9.
     pub fn enter<K: Cost>(
         &self,
         costs: &mut [K],
         standing: &mut [u8],
         left: u16,
         right: u16,
-        cost: K,
+        reading: K,
     ) -> Result<(), Fault>
-        ensures call { Enters K.Cost (size_of self.now) costs.old standing.old left right cost
+        ensures call { Enters K.Cost (size_of self.now) costs.old standing.old left right reading
             result costs.new standing.new }
         ensures cells { let n = size_of self.now in
-            OnOk result (ChangesCell n left right (Some cost)
+            OnOk result (ChangesCell n left right
+            (Some (worse K.Cost (cell K.zero n costs.old standing.old left right) reading))
             (cell K.zero n costs.old standing.old) (cell K.zero n costs.new standing.new)) }
     {
-        self.locate(costs.len(), standing.len(), left, right)?;
-        if !cost.within(COST_LIMIT) {
+        let at = self.locate(costs.len(), standing.len(), left, right)?;
+        if !reading.within(COST_LIMIT) {
             return Err(Cause::CostRange.at(0));
         }
-        enter_pair(self.n, costs, standing, left, right, cost);
+        if disturbed(standing[at]) {
+            return Err(Cause::Inconsistent.at(0));
+        }
+        enter_pair(self.n, costs, standing, left, right, reading);
         Ok(())
     }
 

@@ -43,7 +43,7 @@ loop-line-preserved-in-Arc c =
           (was.ahead order s size) read in
           let costs = c.enter_arc.ensures.costs
           ∙ ap (λ z. costs_after c.args.n (pair_of c.args.n arc.left.value arc.right.value z ∷ [])
-          c.loop-line.costs) handed.same in
+          c.loop-line.costs c.loop-line.standing) handed.same in
           rw (costs, c.enter_arc.ensures.standing) handed.enters;
     }
 

@@ -1,10 +1,9 @@
 -- The reader hands out what the file still has, so a pair fits the tables, and once it was entered
 -- one pair less is to come.
-use Rattle.std.proofs.Common.{◌≡◌, Some, Ok, slice_index, slice_set, sym, ap, ◌∙◌, w64, to_z, of_z}
+use Rattle.std.proofs.Common.{◌≡◌, Some, Ok, slice_index, sym, ap, ◌∙◌, w64, to_z, of_z}
 use Rattle.std.proofs.lemmas.Int.{to_z-of_z}
-use Rattle.pairing.specs.Places.{place_of}
-use Rattle.tables.specs.PairTables.{costs_entered, standing_entered}
-use Rattle.orderfile.specs.Loading.{plain}
+use Rattle.tables.specs.PairTables.{costs_entered}
+use Rattle.orderfile.specs.Loading.{plain, plain_kind}
 use Rattle.orderfile.proofs.Fields.{cost_fits}
 use Rattle.orderfile.proofs.Reading.{passed, next_shorter}
 use Rattle.orderfile.proofs.Entering.{never_refused, handed_next, passed_next}
@@ -21,27 +20,24 @@ loop-record-preserved-in-Pair c order s =
     let size : c.args.n ≡ order.size = sym (c.requires.stated.2)
     ∙ sym (ap (λ t. slice_index t 3) c.requires.stated.1.is_file)
     ∙ ap (λ t. slice_index t 3) s.is_file in
-    let at : place_of c.args.n c.from-left.result c.from-right.result
-    ≡ place_of order.size pair.left pair.right =
-    ap (λ k. place_of k c.from-left.result c.from-right.result) size
-    ∙ ap (λ k. place_of order.size k c.from-right.result) c.from-left.ensures
-    ∙ ap (λ k. place_of order.size pair.left k) c.from-right.ensures in
     let handed = handed_next order c.args.costs.now c.args.standing.now s.fits was.stage
     was.fields.rest.now c.loop-record.costs c.loop-record.standing
     (c.loop-record.invariant order s) (passed c.next.ensures (Some c.in-Ok-Some.record)
     (c.in-Ok-Some.is ∙ ap Ok c.in-Ok-Some.field-0-is)) pair c.in-Pair.is in
     let cost : to_z w64 (of_z w64 pair.cost) ≡ pair.cost =
     to_z-of_z w64 pair.cost (cost_fits pair.cost handed.0.cost_within) in
-    let costs : c.enter_pair.new.costs
-    ≡ costs_entered order.size pair.left pair.right (plain pair.cost) c.loop-record.costs =
+    let costs : c.enter_pair.new.costs ≡ costs_entered plain_kind c.args.n c.from-left.result
+    c.from-right.result (plain pair.cost) c.loop-record.costs c.loop-record.standing =
     c.enter_pair.ensures.costs
-    ∙ ap (λ z. slice_set c.loop-record.costs
-    (place_of c.args.n c.from-left.result c.from-right.result) (plain z)) cost
-    ∙ ap (λ k. slice_set c.loop-record.costs k (plain pair.cost)) at in
-    let standing : c.enter_pair.new.standing
-    ≡ standing_entered order.size pair.left pair.right c.loop-record.standing =
-    c.enter_pair.ensures.standing ∙ ap (λ k. slice_set c.loop-record.standing k 1) at in
-    rw (costs, standing) handed.1
+    ∙ ap (λ z. costs_entered plain_kind c.args.n c.from-left.result c.from-right.result (plain z)
+    c.loop-record.costs c.loop-record.standing) cost in
+    rw (
+      costs,
+      c.enter_pair.ensures.standing,
+      size,
+      c.from-left.ensures,
+      c.from-right.ensures,
+    ) handed.1
 
 pub loop-record-preserved : goal.loop-record-preserved
 loop-record-preserved c order s =

@@ -5,7 +5,8 @@ use Rattle.sheet.specs.Numbers.{cause_number}
 use Rattle.sheet.specs.Refusals.{fault}
 use Rattle.session.specs.Book.{Verdict, not_allowed, refused, accepted}
 use Rattle.session.specs.Example.{first, second}
-use Rattle.session.proofs.Shown.{keeps, crowded_keeps, bare_keeps, not_greatest, not_one, not_two}
+use Rattle.session.proofs.Shown.{keeps, readings_keep, crowded_keeps, bare_keeps, not_greatest}
+use Rattle.session.proofs.Shown.{not_one, not_two}
 use Rattle.session.proofs.example.shown.Goals as goal
 
 -- the number of the cause that a verdict refuses for, and 0 where it does not
@@ -19,6 +20,7 @@ returns c = record {
   keeps = keeps;
   crowded_keeps = crowded_keeps;
   bare_keeps = bare_keeps;
+  readings_keep = readings_keep;
   tables = λ lent. refl;
   repeats = λ h.
       let e : ◌≡◌ {A = List (Option (List ℕ))} (Some first ∷ Some first ∷ [])
@@ -45,6 +47,15 @@ returns c = record {
   wrong_read = λ h.
       let e : ◌≡◌ {A = Option ℤ} (Some (pos 4)) (Some (pos 5)) = h.1.0.reply_is in
       let z : ◌≡◌ {A = ℕ} 4 5 = cc in omega (arith, z);
+  later_replaces = λ h.
+      let e : ◌≡◌ {A = Option ℤ} (Some (pos 7)) (Some (pos 4)) = h.1.1.0.reply_is in
+      let z : ◌≡◌ {A = ℕ} 7 4 = cc in omega (arith, z);
+  lesser_kept = λ h.
+      let e : ◌≡◌ {A = Option ℤ} (Some (pos 7)) (Some (pos 4)) = h.1.1.0.reply_is in
+      let z : ◌≡◌ {A = ℕ} 7 4 = cc in omega (arith, z);
+  struck_in_force = λ h.
+      let e : ◌≡◌ {A = Option ℤ} (Some (pos 4)) (Some (pos 7)) = h.1.1.1.0.reply_is in
+      let z : ◌≡◌ {A = ℕ} 4 7 = cc in omega (arith, z);
   strikes_nothing = λ h.
       let e : ◌≡◌ {A = Verdict} accepted (refused (fault Absent 0)) = h.0.verdict_is in
       cc;

@@ -21,7 +21,7 @@ room_for_one (Err x) Room e h = absurd (let z : ⊥ = cc in z)
 
 -- what the law says of the kind
 law : (g : Over) → EveryProgramKeeps g.K.Cost
-law g = every_program_keeps g.K.Cost
+law g = every_program_keeps g.K.Cost g.met.K.Cost.laws
 
 pub loop-call-init : goal.loop-call-init
 loop-call-init g c =
