@@ -99,6 +99,12 @@ struct Reader {
     }
 };
 
+// Enters a reading of the pair at a place: of a pair that stands the greater cost stays.
+static inline void enter(const Tables &tables, size_t at, int64_t reading) {
+    if (tables.standing[at] != 1 || tables.costs[at] < reading) tables.costs[at] = reading;
+    tables.standing[at] = 1;
+}
+
 // Reads the arcs up to the end of the text, and enters them where there are tables.
 static inline Fault read_arcs(Reader &reader, const uint8_t *text, uint64_t n, uint64_t &count,
                               const Tables *tables) {
@@ -113,10 +119,7 @@ static inline Fault read_arcs(Reader &reader, const uint8_t *text, uint64_t n, u
         uint64_t l = i - 1, r = j - n - 1;
         if (l >= n || r >= n) return {BLOCK, line};
         if (uint64_t(w) + COST_LIMIT > 2 * COST_LIMIT) return {COST_RANGE, line};
-        if (tables) {
-            tables->costs[l * n + r] = w;
-            tables->standing[l * n + r] = 1;
-        }
+        if (tables) enter(*tables, l * n + r, w);
     }
 }
 

@@ -24,6 +24,12 @@ struct Tables {
     uint8_t *standing;
 };
 
+// Enters a reading of the pair at a place: of a pair that stands the greater cost stays.
+static inline void enter(const Tables &tables, int at, int64_t reading) {
+    if (tables.standing[at] != 1 || tables.costs[at] < reading) tables.costs[at] = reading;
+    tables.standing[at] = 1;
+}
+
 // Reads the value of a pair field, and enters the pair where there are tables.
 static inline Refusal read_pair(const uint8_t *value, size_t length, int n, const Tables *tables) {
     if (length != PAIR_FIELD - HEAD) return FIELD_LENGTH;
@@ -33,10 +39,7 @@ static inline Refusal read_pair(const uint8_t *value, size_t length, int n, cons
     std::memcpy(&big_endian, value + 2, sizeof big_endian);
     int64_t cost = static_cast<int64_t>(__builtin_bswap64(big_endian));
     if (is_far(cost)) return COST_RANGE;
-    if (tables) {
-        tables->costs[l * n + r] = cost;
-        tables->standing[l * n + r] = 1;
-    }
+    if (tables) enter(*tables, l * n + r, cost);
     return NONE;
 }
 

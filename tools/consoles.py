@@ -138,7 +138,8 @@ class Session:
         return str(cost[0]) if self.columns == 1 else "(%s)" % ", ".join(map(str, cost))
 
     def enter(self, pair, cost):
-        self.cells[pair] = cost
+        # the greater of two costs stands, and not the greater of each column
+        self.cells[pair] = max(cost, self.cells.get(pair, cost))
         return ["entered %d %d at %s" % (*pair, self.shown(cost))]
 
     def strike(self, pair, _):
@@ -285,8 +286,12 @@ def random_session(rng):
         for r in range(n):
             if rng.random() < 0.7:
                 lines.append("enter %d %d %s" % (l, r, cost()))
+    # most of these are second readings, and some of the third time
+    for _ in range(rng.randint(0, n * n)):
+        lines.append("enter %d %d %s" % (rng.randrange(n), rng.randrange(n), cost()))
     for _ in range(60):
-        call = rng.choice([*CALLS, "settle", "next", "start", "marks", "reopen", "close"])
+        call = rng.choice([*CALLS, "settle", "next", "start", "marks", "reopen", "close", "enter",
+                           "enter", "read"])
         line = call
         if CALLS[call][0]:
             line += " %d %d" % (rng.randint(0, n), rng.randint(0, n - 1))

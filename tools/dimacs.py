@@ -13,7 +13,7 @@ comparison in the gate is one of two independent readers.
 import random
 import sys
 
-from order_files import sheet_lines
+from order_files import readings, sheet_lines
 
 LIMIT = 10 ** 9
 DIGITS = b"0123456789"
@@ -109,7 +109,7 @@ def told(text):
 
 # ---- Texts by hand
 
-# every kind of line, a pair that comes twice, a comment
+# every kind of line, a pair that comes twice with the greater cost last, a comment
 SAMPLE = b"c x\np asn 4 3\nn 1\nn 2\na 1 3 -7\na 2 4 10\na 1 3 5\n"
 PAGE = (b"c the sheet of the README\np asn 6 7\nn 1\nn 2\nn 3\na 1 4 4\na 1 5 2\na 2 4 3\n"
         b"a 2 5 1\na 2 6 5\na 3 5 6\na 3 6 2\n")
@@ -262,6 +262,12 @@ def rules():
                 for behind in (b"x\n", b"x", b"c\n", b"c", b"a 3 3 1\n", b"a 1 3 1000000001\n",
                                b"a 2 3 4\n", b"n 3\n", b"p asn 4 0\n", b"\n"):
                     yield text + behind
+    # repeated arcs: the greatest cost counts, wherever it stands; other arcs come between them
+    for costs in readings():
+        named = [(2, 4, cost) for cost in costs]
+        between = [arc for cost in reversed(costs) for arc in ((1, 3, cost), (2, 4, cost))]
+        for arcs in (named, [(1, 4, 2)] + named + [(1, 4, 3)], between):
+            yield text_of(4, len(arcs), (1, 2), arcs)
     # several faults in one line: the first in the order of the checks counts
     for arc in (b"a 0 0 1000000001\n", b"a 1 3 1000000001\n", b"a 0 3 x\n", b"a 1 3 1000000001",
                 b"a 0 0 1000000001 \n", b"a 3 5 -\n", b"a 1 2 -1000000001\n", b"a  0 0 0\n",

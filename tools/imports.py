@@ -5,7 +5,7 @@ comparison in the gate is one of two independent readers. texts.py takes its run
 here.
 """
 import dimacs
-from order_files import LIMIT
+from order_files import LIMIT, readings, stated_cells
 from reports import explained, order
 
 # how a run ends that was to write the order file of a text that is refused
@@ -18,15 +18,16 @@ def exported(text):
     if verdict[0] != "states":
         return REFUSED + explained(verdict[0], verdict[1])
     _, n, arcs = verdict
-    return order(n, {(l, r): c for l, r, c in arcs}).hex() + "\n"
+    return order(n, stated_cells(arcs)).hex() + "\n"
 
 
 def sound():
     yield dimacs.PAGE
-    # a later arc replaces an earlier one for the same pair
+    # of the arcs for the same pair the greatest cost counts, in whatever order they come
     yield dimacs.SAMPLE
+    for costs in readings():
+        yield dimacs.text_of(2, len(costs), [1], [(1, 2, cost) for cost in costs])
     yield dimacs.text_of(2, 0, [1], [])
-    yield dimacs.text_of(2, 2, [1], [(1, 2, 7), (1, 2, -LIMIT)])
     yield dimacs.text_of(4, 2, [1, 2], [(2, 3, LIMIT), (1, 4, 0)])
     yield dimacs.text_of(128, 64, range(1, 65), [(i, 129 - i, i - 33) for i in range(1, 65)])
     yield open("samples/sixty-four-blocks.asn", "rb").read()

@@ -27,7 +27,7 @@ import subprocess
 import sys
 
 import assignments
-from order_files import CUT, END, LIMIT, field, first_fault, pair, size
+from order_files import CUT, END, LIMIT, field, first_fault, pair, size, stated_cells
 
 # So many pairings are listed at most.
 MOST = 1000
@@ -81,6 +81,20 @@ def drawn_pairs(source, n):
     ))
 
 
+def named_again(source, pairs):
+    """The pairs with some of them named again, once or several times, each in any place: before,
+    between and behind the others. The costs are at most as great as before, so that the sheet stays
+    the one of its rules; or any costs at all."""
+    any_costs = source.random() < 0.3
+    named = list(pairs)
+    for _ in range(source.randrange(1, 2 * len(pairs) + 1)):
+        l, r, cost = source.choice(pairs)
+        most = LIMIT if any_costs else cost
+        reading = source.choice((cost, max(cost - 1, -LIMIT), source.randrange(-LIMIT, most + 1)))
+        named.insert(source.randrange(len(named) + 1), (l, r, reading))
+    return named
+
+
 def drawn_fields(source):
     """The fields of a sound file, whose pairs come in any order and at times more than once."""
     n = source.randrange(1, FEW + 1) if source.random() < 0.6 else source.randrange(FEW + 1, 65)
@@ -89,10 +103,7 @@ def drawn_fields(source):
     if source.random() < 0.5:
         source.shuffle(pairs)
     if pairs and source.random() < 0.4:
-        for _ in range(source.randrange(1, 2 * len(pairs) + 1)):
-            at = source.randrange(len(pairs))
-            earlier = pairs[at][:2] + (source.randrange(-LIMIT, LIMIT + 1),)
-            pairs.insert(source.randrange(at + 1), earlier)
+        pairs = named_again(source, pairs)
     return [size(n)] + [pair(*p) for p in pairs] + [END]
 
 
@@ -306,7 +317,7 @@ class Case:
             self.refused(verdict[0])
             return
         n, pairs = verdict
-        cells = {(l, r): cost for l, r, cost in pairs}
+        cells = stated_cells(pairs)
         found = by_trying(cells, n) if n <= FEW else by_prices(cells, n)
         if found is None:
             self.refused(6, source.sample(range(n), n))

@@ -5,6 +5,7 @@ It is written from docs/order-files.md and docs/refusals.md alone and shares not
 crates, so the comparison in the gate is one of two independent readers. texts.py takes its runs of
 `inspect` from here.
 """
+import itertools
 import random
 import struct
 
@@ -60,9 +61,17 @@ def first_fault(data):
         at += 3 + length
 
 
+def stated_cells(pairs):
+    """What each pair that is named costs: the greatest of its costs, wherever it stands."""
+    costs = {}
+    for l, r, c in pairs:
+        costs.setdefault((l, r), []).append(c)
+    return {named: max(readings) for named, readings in costs.items()}
+
+
 def sheet_lines(n, pairs):
-    """What is printed of a sheet: of the same pair the last cost counts."""
-    cells = {(l, r): c for l, r, c in pairs}
+    """What is printed of a sheet."""
+    cells = stated_cells(pairs)
     lines = ["pair %d %d %d\n" % (l, r, cells[l, r]) for l, r in sorted(cells)]
     return "size %d\n" % n + "".join(lines) + "end\n"
 
@@ -108,18 +117,39 @@ def damaged():
     yield size(3) + pair(3, 3, LIMIT + 1) + END
     yield size(0)
     yield size(3) + pair(0, 3, 1) + field(7, b"")
-    # a later pair replaces an earlier one
-    yield size(2) + pair(1, 1, 5) + pair(0, 1, 2) + pair(1, 1, -7) + END
+
+
+def readings():
+    """The costs of a pair that is named twice or three times: each order of some costs, so that the
+    greatest comes first, in the middle and last. They are on both sides of zero, which is what the
+    table holds of an absent pair, and at both ends of the limit; and some are equal."""
+    for costs in ((5, -7), (-7, -9), (3, 3), (LIMIT, -LIMIT), (4, 9, 1), (-2, -5, -3), (6, 6, -8),
+                  (-8, -8, -6), (0, 0, 0), (LIMIT, LIMIT - 1, -LIMIT)):
+        yield from sorted(set(itertools.permutations(costs)))
+
+
+def repeated():
+    """Files that name a pair several times: one time after the other, with another pair between
+    them, and with one between them that is named as often, at the same costs turned round."""
+    for costs in readings():
+        named = [pair(1, 1, cost) for cost in costs]
+        others = [pair(0, 1, cost) for cost in reversed(costs)]
+        yield size(2) + b"".join(named) + END
+        yield size(2) + pair(1, 0, 2).join(named) + END
+        yield size(2) + b"".join(a + b for a, b in zip(named, others)) + END
 
 
 def random_files(count):
     source = random.Random(20261117)
     for _ in range(count):
         n = source.choice((1, 2, 3, 5, 8, 64))
-        data = size(n)
+        data, named = size(n), []
         for _ in range(source.randrange(12)):
             wide = source.random() < 0.1
             left, right = source.randrange(n + wide), source.randrange(n)
+            if named and source.random() < 0.3:
+                left, right = source.choice(named)
+            named.append((left, right))
             costs = (0, 7, -LIMIT, LIMIT, source.randrange(-LIMIT, LIMIT + 1 + wide))
             data += pair(left, right, source.choice(costs))
         data += END
@@ -144,7 +174,7 @@ def long_file():
 
 def runs():
     """Runs of `inspect`: its words, its input, and what it has to print."""
-    for data in [*damaged(), *random_files(500)]:
+    for data in [*damaged(), *repeated(), *random_files(500)]:
         yield "inspect", data, text(data)
     long = long_file()
     assert len(long) > CUT and len(first_fault(long)) == 2

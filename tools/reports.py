@@ -7,7 +7,7 @@ with plain enumeration. texts.py takes its runs of `listing` and `inspect map` f
 import itertools
 import random
 
-from order_files import END, LIMIT, first_fault, pair, size
+from order_files import END, LIMIT, first_fault, pair, readings, size, stated_cells
 
 # a listing has at most so many pairings
 MOST = 1000
@@ -116,7 +116,7 @@ def told(data):
     if len(verdict) == 3:
         return "refused %d\n" % verdict[0], explained(verdict[0], verdict[1])
     n, pairs = verdict
-    cells = {(l, r): c for l, r, c in pairs}
+    cells = stated_cells(pairs)
     optima, total = optimum_pairings(n, cells)
     if not optima:
         return "refused 6\n", explained(6, None, crowd_lines(n, cells))
@@ -161,8 +161,16 @@ def sheets():
     # many blocks: one pairing, and none
     yield order(64, {(l, 63 - l): l - 40 for l in range(64)})
     yield order(64, {(l, min(l, 62)): 0 for l in range(64)})
-    # a later pair replaces an earlier one
-    yield size(2) + pair(0, 0, 9) + pair(1, 1, 1) + pair(0, 0, 1) + END
+
+
+def repeated():
+    """Files that name a pair several times. Where it is one, the two pairings cost the same just if
+    its greatest cost counts; where two are named by turns, the total tells which costs count."""
+    for costs in readings():
+        others = pair(0, 1, max(costs)) + pair(1, 0, 0)
+        yield size(2) + others.join(pair(0, 0, cost) for cost in costs) + pair(1, 1, 0) + END
+        twice = (pair(0, 0, cost) + pair(1, 1, -cost) for cost in costs)
+        yield size(2) + others + b"".join(twice) + END
 
 
 def refused():
@@ -192,7 +200,7 @@ def runs():
     to be printed."""
     yield "refusals", b"", refusals()
     crowded = open("samples/crowded.order", "rb").read()
-    for data in [crowded, *sheets(), *refused(), *random_sheets(300)]:
+    for data in [crowded, *sheets(), *repeated(), *refused(), *random_sheets(300)]:
         lines, table = told(data)
         yield "listing", data, lines
         yield "inspect map", data, table

@@ -18,8 +18,12 @@ void read_sheet(struct sheet *sheet, const uint8_t *file)
     memset(sheet, 0, sizeof *sheet);
     sheet->n = file[SIZE_AT];
     for (file += SIZE_FIELD; file[0] == PAIR_TAG; file += PAIR_FIELD) {
-        sheet->stands[file[LEFT_AT]][file[RIGHT_AT]] = true;
-        sheet->cost[file[LEFT_AT]][file[RIGHT_AT]] = read_cost(file + COST_AT);
+        const size_t l = file[LEFT_AT], r = file[RIGHT_AT];
+        const int64_t cost = read_cost(file + COST_AT);
+        /* of several costs of a pair the greatest counts */
+        if (!sheet->stands[l][r] || sheet->cost[l][r] < cost)
+            sheet->cost[l][r] = cost;
+        sheet->stands[l][r] = true;
     }
 }
 

@@ -18,7 +18,7 @@ import sys
 
 sys.path.insert(0, os.path.join(os.path.dirname(os.path.abspath(__file__)), ".."))
 import order_files  # noqa: E402
-from listings import damaged, drawn_costs, drawn_pairs  # noqa: E402
+from listings import damaged, drawn_costs, drawn_pairs, named_again  # noqa: E402
 from order_files import END, LIMIT, first_fault, pair, size  # noqa: E402
 
 MOST_BLOCKS = 64
@@ -31,10 +31,13 @@ LENGTHS = (0, 1, 2, 3, 9, 10, 11, 13, 255, 256, 257, 266, 2570, 0x7fff, 0x8000, 
 
 
 def sheet(source, n):
-    """The fields of a sound file of n blocks a plane, with few or many pairs."""
+    """The fields of a sound file of n blocks a plane, with few or many pairs, which come at times
+    more than once."""
     cost, stands = drawn_costs(source, n), drawn_pairs(source, n)
     pairs = [(l, r, cost(l, r)) for l in range(n) for r in range(n) if stands(l, r)]
     source.shuffle(pairs)
+    if pairs and source.random() < 0.3:
+        pairs = named_again(source, pairs)
     return [size(n)] + [pair(*p) for p in pairs] + [END]
 
 

@@ -6,7 +6,7 @@ use std::test::Fail;
 
 /// The number of a refusal at place 0 in layer 3, which all calls on a sheet give; 0 where the call
 /// was accepted.
-fn number<T: Drop>(answer: Result<T, Fault>) -> u8 {
+pub fn number<T: Drop>(answer: Result<T, Fault>) -> u8 {
     match answer {
         Ok(_) => 0,
         Err(fault) => {
@@ -38,7 +38,7 @@ fn opening_refuses_sizes_and_lengths(rt: HostRuntime) -> Result<(), Fail> {
 }
 
 #[test]
-fn entering_stores_and_replaces(rt: HostRuntime) -> Result<(), Fail> {
+fn entering_stores_at_the_pair(rt: HostRuntime) -> Result<(), Fail> {
     let mut costs = [Plain(0); 4];
     let mut standing = [0u8; 4];
     let Ok(sheet) = open(2, &mut costs, &mut standing) else {
@@ -62,13 +62,19 @@ fn entering_stores_and_replaces(rt: HostRuntime) -> Result<(), Fail> {
         ]
     );
     assert_eq!(rt; standing, [0, 1, 1, 0]);
-    standing[2] = 200;
     assert_eq!(rt;
         number(sheet.enter(&mut costs, &mut standing, 1, 0, Plain(-3))),
         0
     );
-    assert_eq!(rt; costs[2], Plain(-3));
-    assert_eq!(rt; standing[2], 1);
+    assert_eq!(rt;
+        number(sheet.enter(&mut costs, &mut standing, 0, 1, Plain(-3))),
+        0
+    );
+    assert_eq!(rt;
+        costs,
+        [Plain(0), Plain(-3), Plain(1_000_000_000), Plain(0)]
+    );
+    assert_eq!(rt; standing, [0, 1, 1, 0]);
     Ok(())
 }
 
@@ -104,8 +110,17 @@ fn entering_refuses_in_order(rt: HostRuntime) -> Result<(), Fail> {
         number(sheet.enter(&mut costs, &mut standing, 1, 1, Plain(i64::MIN))),
         4
     );
+    standing[3] = 2;
+    assert_eq!(rt;
+        number(sheet.enter(&mut costs, &mut standing, 1, 1, huge)),
+        4
+    );
+    assert_eq!(rt;
+        number(sheet.enter(&mut costs, &mut standing, 1, 1, Plain(1))),
+        7
+    );
     assert_eq!(rt; costs, [Plain(0); 4]);
-    assert_eq!(rt; standing, [0; 4]);
+    assert_eq!(rt; standing, [0, 0, 0, 2]);
     Ok(())
 }
 

@@ -24,6 +24,35 @@ fn loading_enters_the_pairs_in_turn(rt: HostRuntime) -> Result<(), Fail> {
     Ok(())
 }
 
+// A file of one block that names its pair three times, each time at 0: the last bytes of the costs
+// are at 16, 29 and 42.
+const THRICE: [u8; 46] = [
+    1, 0, 1, 1, 2, 0, 10, 0, 0, 0, 0, 0, 0, 0, 0, 0, 0, 2, 0, 10, 0, 0, 0, 0, 0, 0, 0, 0, 0, 0, 2,
+    0, 10, 0, 0, 0, 0, 0, 0, 0, 0, 0, 0, 3, 0, 0,
+];
+
+#[test]
+fn the_greatest_of_three_costs_is_loaded(rt: HostRuntime) {
+    let cases = [
+        (7, 5, 3),
+        (7, 3, 5),
+        (5, 7, 3),
+        (3, 7, 5),
+        (5, 3, 7),
+        (3, 5, 7),
+    ];
+    for (first, second, third) in cases {
+        let mut file = THRICE;
+        file[16] = first;
+        file[29] = second;
+        file[42] = third;
+        let (mut costs, mut standing) = ([Plain(9)], [9u8]);
+        assert!(rt; load(&file, &mut costs, &mut standing).is_ok());
+        assert_eq!(rt; costs, [Plain(7)]);
+        assert_eq!(rt; standing, [1]);
+    }
+}
+
 #[test]
 fn wrong_lengths_come_last_and_change_nothing(rt: HostRuntime) -> Result<(), Fail> {
     let mut costs = [Plain(9); 9];

@@ -1,6 +1,6 @@
 //! Examples of the answers of the cost kinds, of the calls on a sheet in each of its states, of
-//! the walk below them, of runs of calls, of loading and of saving, with every refusal; a crate of
-//! their own, since a crate with tests is proved twice.
+//! several readings of a pair, of the walk below the calls, of runs of calls, of loading and of
+//! saving, with every refusal; a crate of their own, since a crate with tests is proved twice.
 #![tactic(auto)]
 
 #[cfg(test)]
@@ -11,6 +11,8 @@ mod files;
 mod kinds;
 #[cfg(test)]
 mod raising;
+#[cfg(test)]
+mod readings;
 #[cfg(test)]
 mod runs;
 #[cfg(test)]

@@ -19,12 +19,22 @@ enum State {
     Walking(usize),
 }
 
-/// A sheet with its state, and what the last settling that was not refused came to.
+/// A sheet with its state, what the last settling that was not refused came to, and how many
+/// readings were of a pair that stood.
 #[derive(Drop)]
 pub struct Book<K: Trial> {
     sheet: Sheet<K>,
     state: State,
     optimum: Option<Optimum<K>>,
+    pub readings: Readings,
+}
+
+/// The readings of pairs that stood already.
+#[derive(Clone, Copy)]
+pub struct Readings {
+    pub again: u64,
+    /// Those of them that compare as equal to what stood.
+    pub equal: u64,
 }
 
 /// The refusal of a call on a sheet.
@@ -54,6 +64,25 @@ pub fn right_lengths(n: u16) -> Lengths {
     }
 }
 
+/// What stands at a pair after a reading: the greater of it and of what stood there, and of two
+/// that compare as equal the earlier.
+pub fn worse<K: Trial>(earlier: Option<K>, reading: K) -> K {
+    match earlier {
+        Some(earlier) if !earlier.compare(reading).is_lt() => earlier,
+        _ => reading,
+    }
+}
+
+impl Readings {
+    fn count<K: Trial>(&mut self, earlier: Option<K>, reading: K) {
+        if let Some(earlier) = earlier {
+            self.again = self.again.saturating_add(1);
+            let equal = earlier.compare(reading).is_eq();
+            self.equal = self.equal.saturating_add(u64::from(equal));
+        }
+    }
+}
+
 impl<K: Trial> Book<K> {
     /// The book of a sheet that was just opened.
     pub fn open(heap: Global, n: u16) -> Result<Self, AllocError> {
@@ -61,6 +90,7 @@ impl<K: Trial> Book<K> {
             sheet: Sheet::absent(heap, n)?,
             state: State::Open,
             optimum: None,
+            readings: Readings { again: 0, equal: 0 },
         })
     }
 
@@ -110,7 +140,9 @@ impl<K: Trial> Book<K> {
         if !cost.within(COST_LIMIT) {
             return refused(Cause::CostRange);
         }
-        self.sheet.put(left, right, Some(cost));
+        let earlier = self.sheet.cell(left, right);
+        self.readings.count(earlier, cost);
+        self.sheet.put(left, right, Some(worse(earlier, cost)));
         Answer::Done
     }
 

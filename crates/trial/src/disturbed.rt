@@ -292,7 +292,7 @@ fn unmoved<S: Drop>(refusal: Refusal<S>) -> anyhow::Result<(S, Result<(), Fault>
 
 /// What was answered, if the call was not refused, and counts it; an error where it should have
 /// been refused and was not, or the other way round.
-fn judged<T: Drop>(
+pub fn judged<T: Drop>(
     outcome: Result<T, Fault>,
     refusal: Option<Cause>,
     tally: &mut Tally,

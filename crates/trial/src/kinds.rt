@@ -1,6 +1,10 @@
 //! The cost kinds, as far as a trial needs them: made from columns, and told apart by a name.
 
+ghost use Rattle.std.specs.Prelude.{[], pos};
+ghost use Rattle.std.proofs.Common.{rules};
+
 use cost::{Cost, Free, Plain, TwoStep};
+use std::cmp::Ordering;
 use std::fmt::Debug;
 
 /// The most columns that a cost of a trial has.
@@ -28,6 +32,44 @@ pub type TwoFree = TwoStep<TwoStep<Plain, Free>, Plain>;
 
 /// A two-step cost of a plain one and a two-step one.
 pub type ThreeRight = TwoStep<Plain, Two>;
+
+/// A tag that is no part of what a cost means, so that values of the same columns can be told
+/// apart.
+#[derive(Clone, Copy, PartialEq, Eq, Debug)]
+pub struct Tag(pub i64);
+
+impl Cost for Tag {
+    ghost columns = { 0 };
+
+    ghost meaning = { λ _. [] };
+
+    ghost zero = { record { 0 = pos 0 } };
+
+    ghost laws = { Prim.search rules };
+
+    fn zero() -> Tag {
+        Tag(0)
+    }
+
+    fn add(self, _other: Tag) -> Tag {
+        self
+    }
+
+    fn take_away(self, _other: Tag) -> Tag {
+        self
+    }
+
+    fn compare(self, _other: Tag) -> Ordering {
+        Ordering::Equal
+    }
+
+    fn within(self, _limit: u64) -> bool {
+        true
+    }
+}
+
+/// A plain cost with a tag.
+pub type Tagged = TwoStep<Plain, Tag>;
 
 impl Trial for Plain {
     const NAME: &'static str = "plain";
@@ -86,5 +128,15 @@ impl Trial for TwoStep<Plain, TwoStep<Plain, Plain>> {
 
     fn made([first, second, third]: Columns) -> ThreeRight {
         TwoStep(Plain(first), TwoStep(Plain(second), Plain(third)))
+    }
+}
+
+impl Trial for TwoStep<Plain, Tag> {
+    const NAME: &'static str = "tagged";
+
+    const COSTS: u8 = 4;
+
+    fn made([first, second, _]: Columns) -> Tagged {
+        TwoStep(Plain(first), Tag(second))
     }
 }

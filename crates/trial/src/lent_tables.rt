@@ -47,11 +47,15 @@ impl<K: Trial> Lent<K> {
         }
     }
 
+    /// Whether the tables of an open sheet have their lengths.
+    pub fn pairs_fit(&self) -> bool {
+        self.costs.len() == pairs(self.n) && self.standing.len() == pairs(self.n)
+    }
+
     /// Whether the tables of a settled sheet have their lengths.
     pub fn fit(&self) -> bool {
         let blocks = usize::from(self.n);
-        self.costs.len() == pairs(self.n)
-            && self.standing.len() == pairs(self.n)
+        self.pairs_fit()
             && self.partners.len() == blocks
             && self.left.len() == blocks
             && self.right.len() == blocks

@@ -59,15 +59,16 @@ fn opened<K: Trial>(heap: Global, n: u16) -> Result<Option<Fault>, AllocError> {
     }
 }
 
-/// Adds random calls. The first of them only enter pairs, so that most sheets can be settled.
+/// Adds random calls. The first of them only enter pairs, each about twice, so that most sheets can
+/// be settled, and many costs are of a pair that stands.
 fn add_calls<K: Trial>(script: &mut Script<K>, bench: &mut Bench<'_>) -> anyhow::Result<()> {
     let n = script.n;
-    let filling = u64::from(n) * u64::from(n);
+    let filling = 2 * u64::from(n) * u64::from(n);
     for number in 0..filling + CALLS {
         let act = if number < filling {
-            entry(&mut bench.draw, n)
+            entry(script, &mut bench.draw)
         } else {
-            act(&mut bench.draw, n)
+            act(script, &mut bench.draw)
         };
         let handed = handed(&mut bench.draw, n);
         script.add_handed(bench.orders, act, handed)?;
@@ -96,18 +97,17 @@ fn cost<K: Trial>(draw: &mut Draw) -> K {
     K::made(columns)
 }
 
-fn entry<K: Trial>(draw: &mut Draw, n: u16) -> Act<K> {
-    Act::Enter {
-        left: block(draw, n),
-        right: block(draw, n),
-        cost: cost(draw),
-    }
+fn entry<K: Trial>(script: &Script<K>, draw: &mut Draw) -> Act<K> {
+    let (left, right) = (block(draw, script.n), block(draw, script.n));
+    let drawn = cost(draw);
+    let cost = script.again(draw, left, right, drawn);
+    Act::Enter { left, right, cost }
 }
 
-fn act<K: Trial>(draw: &mut Draw, n: u16) -> Act<K> {
-    let (left, right) = (block(draw, n), block(draw, n));
+fn act<K: Trial>(script: &Script<K>, draw: &mut Draw) -> Act<K> {
+    let (left, right) = (block(draw, script.n), block(draw, script.n));
     match draw.below(24) {
-        0..3 => entry(draw, n),
+        0..3 => entry(script, draw),
         3 => Act::Strike { left, right },
         4 | 5 => Act::Read { left, right },
         6..9 => Act::Settle,

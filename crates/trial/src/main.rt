@@ -12,6 +12,7 @@ mod book;
 mod disturbance;
 mod disturbed;
 mod draw;
+mod entering;
 mod kinds;
 mod lent_tables;
 mod lists;
@@ -19,6 +20,7 @@ mod matched;
 mod orders;
 mod plain_sheet;
 mod prices;
+mod readings;
 mod script;
 mod sheets;
 mod solution;
@@ -27,7 +29,7 @@ mod tally;
 use anyhow::Context;
 use bench::Bench;
 use cost::{Free, Plain};
-use kinds::{Nested, ThreeRight, Trial, Two, TwoFree};
+use kinds::{Nested, Tagged, ThreeRight, Trial, Two, TwoFree};
 use orders::Orders;
 use std::io;
 
@@ -39,12 +41,14 @@ fn try_kind<K: Trial>(rt: &HostRuntime, orders: &Orders, seed: u64) -> anyhow::R
     sheets::try_random::<K>(rt, &mut bench)?;
     lists::try_lists::<K>(rt, &mut bench)?;
     lists::try_sizes::<K>(&mut bench)?;
+    readings::try_readings::<K>(rt, &mut bench)?;
+    entering::try_entering::<K>(rt, &mut bench)?;
     let tally = bench.tally;
     println!(rt; "{kind}\n{tally}")?;
     Ok(())
 }
 
-/// Tries a kind by random sheets alone, and prints what was compared.
+/// Tries a kind by random sheets and by readings, and prints what was compared.
 fn try_kind_at_random<K: Trial>(
     rt: &HostRuntime,
     orders: &Orders,
@@ -53,6 +57,23 @@ fn try_kind_at_random<K: Trial>(
     let kind = K::NAME;
     let mut bench = Bench::new(rt.alloc(), orders, seed);
     sheets::try_random::<K>(rt, &mut bench)?;
+    readings::try_readings::<K>(rt, &mut bench)?;
+    entering::try_entering::<K>(rt, &mut bench)?;
+    let tally = bench.tally;
+    println!(rt; "{kind}\n{tally}")?;
+    Ok(())
+}
+
+/// Tries a kind by readings alone, and prints what was compared.
+fn try_kind_by_readings<K: Trial>(
+    rt: &HostRuntime,
+    orders: &Orders,
+    seed: u64,
+) -> anyhow::Result<()> {
+    let kind = K::NAME;
+    let mut bench = Bench::new(rt.alloc(), orders, seed);
+    readings::try_readings::<K>(rt, &mut bench)?;
+    entering::try_entering::<K>(rt, &mut bench)?;
     let tally = bench.tally;
     println!(rt; "{kind}\n{tally}")?;
     Ok(())
@@ -81,6 +102,7 @@ fn run(rt: &HostRuntime) -> anyhow::Result<()> {
     try_kind::<Nested>(rt, &orders, seed)?;
     try_kind_at_random::<TwoFree>(rt, &orders, seed)?;
     try_kind_at_random::<ThreeRight>(rt, &orders, seed)?;
+    try_kind_by_readings::<Tagged>(rt, &orders, seed)?;
     try_without_costs(rt, &orders, seed)
 }
 

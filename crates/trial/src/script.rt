@@ -1,6 +1,7 @@
 //! A list of calls with the answers that the plain book tells, and their comparison with a run.
 
 use crate::book::{Book, right_lengths};
+use crate::draw::Draw;
 use crate::kinds::Trial;
 use crate::orders::Orders;
 use crate::tally::Tally;
@@ -33,6 +34,16 @@ impl<K: Trial> Script<K> {
         self.add_handed(orders, act, right_lengths(self.n))
     }
 
+    /// The cost of an entry at a pair: now and then just the one that stands there, else the drawn
+    /// one.
+    pub fn again(&self, draw: &mut Draw, left: u16, right: u16, drawn: K) -> K {
+        let standing = self.book.sheet().cell(left, right);
+        match draw.below(8) {
+            0 => standing.unwrap_or(drawn),
+            _ => drawn,
+        }
+    }
+
     pub fn add_handed(
         &mut self,
         orders: &Orders,
@@ -61,6 +72,7 @@ impl<K: Trial> Script<K> {
             }
             tally.count_answer(given);
         }
+        tally.count_readings(self.book.readings);
         ensure!(
             self.book.is_shown_by(&tables),
             "the tables do not show the book's cells"

@@ -1,5 +1,6 @@
 //! What was compared, counted.
 
+use crate::book::Readings;
 use crate::orders::MOST_BLOCKS;
 use cost::Cost;
 use session::Answer;
@@ -17,6 +18,10 @@ pub struct Tally {
     pub calls: u64,
     pub lists: u64,
     pub disturbed: u64,
+    /// Readings of pairs that stood already, and entries over tables that something else wrote
+    /// into.
+    pub readings: Readings,
+    pub entered: u64,
     /// Sheets that were tried without a sheet's calls, and the pairings of their walks.
     pub below: u64,
     pub walked: u64,
@@ -42,6 +47,8 @@ impl Tally {
             calls: 0,
             lists: 0,
             disturbed: 0,
+            readings: Readings { again: 0, equal: 0 },
+            entered: 0,
             below: 0,
             walked: 0,
             refusals: [0; CAUSES],
@@ -58,6 +65,16 @@ impl Tally {
 
     pub fn count_disturbed(&mut self) {
         self.disturbed = self.disturbed.saturating_add(1);
+    }
+
+    pub fn count_readings(&mut self, more: Readings) {
+        let counted = &mut self.readings;
+        counted.again = counted.again.saturating_add(more.again);
+        counted.equal = counted.equal.saturating_add(more.equal);
+    }
+
+    pub fn count_entered(&mut self) {
+        self.entered = self.entered.saturating_add(1);
     }
 
     pub fn count_below(&mut self) {
@@ -96,6 +113,7 @@ impl fmt::Display for Tally {
     fn fmt<W: fmt::Write>(&self, f: &mut fmt::Formatter<W>) -> fmt::Result {
         let (sheets, lists, disturbed) = (self.sheets, self.lists, self.disturbed);
         let (calls, settled, pairings) = (self.calls, self.settled, self.pairings);
+        let (Readings { again, equal }, entered) = (self.readings, self.entered);
         let (below, walked, refusals) = (self.below, self.walked, self.refusals);
         writeln!(
             f,
@@ -104,6 +122,10 @@ impl fmt::Display for Tally {
         writeln!(
             f,
             "  lists of calls {lists}, disturbed tables {disturbed}, calls {calls}"
+        )?;
+        writeln!(
+            f,
+            "  readings of standing pairs {again}, equal {equal}; over written tables {entered}"
         )?;
         writeln!(
             f,
