@@ -16,6 +16,8 @@
  * memmove and memset. So calls in several threads, each with an `out` of its own, do not disturb
  * one another.
  *
+ * A file may name a pair several times: the greatest of its costs counts, wherever it stands.
+ *
  * docs/order-files.md has the format of an order file, docs/refusals.md all refusals.
  */
 #ifndef TULVASNE_H
