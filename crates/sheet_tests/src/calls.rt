@@ -6,7 +6,7 @@ use std::test::Fail;
 
 /// The number of a refusal at place 0 in layer 3, which all calls on a sheet give; 0 where the call
 /// was accepted.
-pub fn number<T: Drop>(answer: Result<T, Fault>) -> u8 {
+pub(crate) fn number<T: Drop>(answer: Result<T, Fault>) -> u8 {
     match answer {
         Ok(_) => 0,
         Err(fault) => {

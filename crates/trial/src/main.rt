@@ -35,17 +35,12 @@ use std::io;
 
 /// Tries a kind, and prints what was compared.
 fn try_kind<K: Trial>(rt: &HostRuntime, orders: &Orders, seed: u64) -> anyhow::Result<()> {
-    let kind = K::NAME;
     let mut bench = Bench::new(rt.alloc(), orders, seed);
     sheets::try_small::<K>(rt, &mut bench)?;
     sheets::try_random::<K>(rt, &mut bench)?;
     lists::try_lists::<K>(rt, &mut bench)?;
     lists::try_sizes::<K>(&mut bench)?;
-    readings::try_readings::<K>(rt, &mut bench)?;
-    entering::try_entering::<K>(rt, &mut bench)?;
-    let tally = bench.tally;
-    println!(rt; "{kind}\n{tally}")?;
-    Ok(())
+    try_readings::<K>(rt, &mut bench)
 }
 
 /// Tries a kind by random sheets and by readings, and prints what was compared.
@@ -54,27 +49,16 @@ fn try_kind_at_random<K: Trial>(
     orders: &Orders,
     seed: u64,
 ) -> anyhow::Result<()> {
-    let kind = K::NAME;
     let mut bench = Bench::new(rt.alloc(), orders, seed);
     sheets::try_random::<K>(rt, &mut bench)?;
-    readings::try_readings::<K>(rt, &mut bench)?;
-    entering::try_entering::<K>(rt, &mut bench)?;
-    let tally = bench.tally;
-    println!(rt; "{kind}\n{tally}")?;
-    Ok(())
+    try_readings::<K>(rt, &mut bench)
 }
 
-/// Tries a kind by readings alone, and prints what was compared.
-fn try_kind_by_readings<K: Trial>(
-    rt: &HostRuntime,
-    orders: &Orders,
-    seed: u64,
-) -> anyhow::Result<()> {
-    let kind = K::NAME;
-    let mut bench = Bench::new(rt.alloc(), orders, seed);
-    readings::try_readings::<K>(rt, &mut bench)?;
-    entering::try_entering::<K>(rt, &mut bench)?;
-    let tally = bench.tally;
+/// Tries readings of a kind, and prints what was compared so far.
+fn try_readings<K: Trial>(rt: &HostRuntime, bench: &mut Bench<'_>) -> anyhow::Result<()> {
+    readings::try_readings::<K>(rt, bench)?;
+    entering::try_entering::<K>(rt, bench)?;
+    let (kind, tally) = (K::NAME, &bench.tally);
     println!(rt; "{kind}\n{tally}")?;
     Ok(())
 }
@@ -102,7 +86,7 @@ fn run(rt: &HostRuntime) -> anyhow::Result<()> {
     try_kind::<Nested>(rt, &orders, seed)?;
     try_kind_at_random::<TwoFree>(rt, &orders, seed)?;
     try_kind_at_random::<ThreeRight>(rt, &orders, seed)?;
-    try_kind_by_readings::<Tagged>(rt, &orders, seed)?;
+    try_readings::<Tagged>(rt, &mut Bench::new(rt.alloc(), &orders, seed))?;
     try_without_costs(rt, &orders, seed)
 }
 
